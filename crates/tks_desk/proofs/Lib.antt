@@ -1,0 +1,4 @@
+pub mod Lines
+pub mod Writes
+pub mod Asked
+pub mod Talks

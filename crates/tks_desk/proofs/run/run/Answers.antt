@@ -1,0 +1,20 @@
+use Rattle.std.proofs.Common.{◌≡◌, ℕ, List, Option, Some, None, IfSome, Result, Ok, Err, refl, sym, ap, subst, ◌∙◌}
+use Rattle.std.proofs.lemmas.Result.{err_from_is_err_and}
+use Rattle.tks_desk.specs.Answers.{SoFar, CutOff, TurnsSo}
+use Rattle.tks_desk.proofs.Talks.{so_far_known, turned}
+use Rattle.tks_desk.proofs.run.run.Goals as goal
+
+pub lines-init : goal.lines-init
+lines-init g c = so_far_known (g.R.Read.remaining c.args.reader.now) c.args.session.now (g.W.Write.contents c.args.writer.now)
+
+pub lines-preserved : goal.lines-preserved
+lines-preserved g c =
+    turned (g.R.Read.remaining c.args.reader.now) (g.R.Read.remaining c.lines.reader) (g.R.Read.remaining c.answer_line.new.reader) c.args.session.now c.lines.session c.answer_line.new.session
+    (g.W.Write.contents c.args.writer.now) (g.W.Write.contents c.lines.writer) (g.W.Write.contents c.answer_line.new.writer) (Ok None) c.lines.invariant (rw c.in_default.is at c.in_ok-end.ensures.turn)
+
+pub returns-in_err-end-clause-cut_off : goal.returns-in_err-end-clause-cut_off
+returns-in_err-end-clause-cut_off g c =
+    let p = err_from_is_err_and c.from_residual.result c.from_residual.ensures.1 in
+    rw (p.1, p.2)
+    (turned (g.R.Read.remaining c.args.reader.now) (g.R.Read.remaining c.lines.reader) (g.R.Read.remaining c.answer_line.new.reader) c.args.session.now c.lines.session c.answer_line.new.session
+    (g.W.Write.contents c.args.writer.now) (g.W.Write.contents c.lines.writer) (g.W.Write.contents c.answer_line.new.writer) (Err c.in_err-end.field-0.0) c.lines.invariant c.in_err-end.ensures.turn)

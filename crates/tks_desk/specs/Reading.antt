@@ -1,0 +1,38 @@
+-- What reading a line does.
+use Rattle.std.specs.Prelude.{◌≡◌, ◌≢◌, ℕ, ◌<◌, ◌≤◌, List, [], ◌∷◌, ◌++◌, length, Option, Some, None}
+use Rattle.std.specs.Io.KnownBytes.{Keeps, Consumes, IsAtEnd}
+use Rattle.tks_desk.specs.Lines.{first_line, after_line}
+use Rattle.tks_desk.specs.declared.input.Line.{Line}
+use Rattle.tks_desk.specs.declared.input.Line.TheVariants.{Held, Overlong}
+use Rattle.tks_desk.specs.declared.input.Piece.{Piece}
+use Rattle.tks_desk.specs.declared.input.Piece.TheVariants.{GoesOn, EndsAtNewline, EndsWithInput}
+
+-- the longest line that is held, in bytes, without its newline
+abbrev pub max_line : ℕ
+max_line = 65_600
+
+-- what is kept of a line
+abbrev pub IsLine : Line → List ℕ → Type 0
+IsLine (Held bytes) line = (length line ≤ max_line) × (bytes.items ≡ line)
+IsLine Overlong line = max_line < length line
+
+-- the first line of the bytes is read and they lose it, or there are none
+abbrev pub ReadsLine : List ℕ → Option Line → Option (List ℕ) → Type 0
+ReadsLine bytes None rest = bytes ≡ []
+ReadsLine bytes (Some line) rest = (bytes ≢ []) × IsLine line (first_line bytes) × (rest ≡ Some (after_line bytes))
+
+-- whatever line it was, it is now that line and these bytes
+abbrev pub LineGrows : Line → Line → List ℕ → Type 0
+LineGrows old new bytes = (line : List ℕ) → IsLine old line → IsLine new (line ++ bytes)
+
+-- what a reader loses with a part of a line
+abbrev pub TakesPiece : Piece → Option (List ℕ) → Option (List ℕ) → List ℕ → Type 0
+TakesPiece GoesOn old new part = Consumes old new part
+TakesPiece EndsAtNewline old new part = Consumes old new (part ++ 10 ∷ [])
+TakesPiece EndsWithInput old new part = (part ≡ []) × IsAtEnd old × Keeps old new
+
+-- how many bytes it loses beside the part
+abbrev pub piece_cost : Piece → ℕ
+piece_cost GoesOn = 0
+piece_cost EndsAtNewline = 1
+piece_cost EndsWithInput = 0

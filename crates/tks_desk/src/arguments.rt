@@ -1,0 +1,76 @@
+//! The words that the program is started with.
+
+use clap::error::ErrorKind;
+use clap::{Arg, Command, Error, value_parser};
+use std::alloc::{AllocError, Global};
+use std::env::args;
+use std::io;
+use std::process::ExitCode;
+use std::rt::Env;
+use tks_text::Size;
+
+/// The status for a command line that is refused.
+const BAD_USE: u8 = 2;
+
+/// The status for want of memory.
+const NO_MEMORY: u8 = 5;
+
+/// The grid's size that the command line asks for. Where it asks for help, or for what there is not,
+/// that is told, and the answer is the status to end with.
+pub fn grid_size<R: Env + AllocGlobal + Print + Eprint>(
+    rt: &R,
+    alloc: Global,
+) -> Result<Size, ExitCode> {
+    let words = match args(rt) {
+        Ok(words) => words,
+        Err(error) if error.kind() == io::ErrorKind::OutOfMemory => {
+            return Err(ExitCode::from(NO_MEMORY));
+        }
+        Err(_) => return Err(ExitCode::from(BAD_USE)),
+    };
+    let Ok(words) = words.collect::<Vec<String>>(alloc) else {
+        return Err(ExitCode::from(NO_MEMORY));
+    };
+    let Ok(command) = desk_command(alloc) else {
+        return Err(ExitCode::from(NO_MEMORY));
+    };
+    match command.try_get_matches_from(words.as_slice()) {
+        Ok(matches) => {
+            let width = matches.get_one::<u16>("width").unwrap_or(0);
+            let height = matches.get_one::<u16>("height").unwrap_or(0);
+            Size::new(width, height).ok_or(ExitCode::from(BAD_USE))
+        }
+        Err(error) => Err(told(rt, error)),
+    }
+}
+
+// The command line of the program.
+fn desk_command<'a>(alloc: Global) -> Result<Command<'a>, AllocError> {
+    let width = Arg::new(alloc, "width")
+        .long("width")
+        .value_name("W")
+        .help("How many cells a row of the grid has: 1 to 200")
+        .value_parser(value_parser!(u16).range(1..=200))
+        .default_value("40");
+    let height = Arg::new(alloc, "height")
+        .long("height")
+        .value_name("H")
+        .help("How many rows the grid has: 1 to 100")
+        .value_parser(value_parser!(u16).range(1..=100))
+        .default_value("12");
+    Command::new(alloc, "tks_desk")
+        .about("A headless Tk session: reads lines and answers them")
+        .arg(width)?
+        .arg(height)
+}
+
+// Tells why there is no size, and gives the status for it.
+fn told<R: Print + Eprint>(rt: &R, error: Error) -> ExitCode {
+    let status = match error.kind() {
+        ErrorKind::OutOfMemory => NO_MEMORY,
+        _ if error.use_stderr() => BAD_USE,
+        _ => 0,
+    };
+    let _ = error.print(rt);
+    ExitCode::from(status)
+}

@@ -1,0 +1,24 @@
+use thiserror::Error;
+
+/// How a run ended that met no fault.
+#[derive(Clone, Copy, Debug)]
+pub enum RunEnd {
+    /// The line `quit` was read.
+    Quit,
+    /// Nothing more was to be read.
+    EndOfInput,
+}
+
+/// Why a run was cut off.
+#[derive(Clone, Copy, Debug, Error)]
+pub enum RunFault {
+    /// The reader failed, or gave 2^40 bytes.
+    #[error("reading failed")]
+    Read,
+    /// The writer failed.
+    #[error("writing failed")]
+    Write,
+    /// A line could not be held.
+    #[error("out of memory")]
+    Memory,
+}

@@ -1,0 +1,80 @@
+ghost use Rattle.std.specs.Prelude.{◌≡◌, ◌<◌, IfOk, IfErr, IfSome};
+ghost use Rattle.tks_desk.specs.Answers.{Answers, CutOff, AnswersInput, TurnsSo};
+
+use crate::answer::{put_refusal, put_reply};
+use crate::ending::{RunEnd, RunFault};
+use crate::output::put_last;
+use crate::plain::Plain;
+use crate::request::{Request, next_request};
+use std::alloc::Global;
+use std::io::{BufRead, Write};
+use tks_world::Input;
+
+/// The most bytes that a run reads.
+const MAX_READ: u64 = 1 << 40;
+
+/// Answers the lines of the reader, one by one, up to `quit` or the end of the input. It reads no
+/// more than 2^40 bytes, and each answer is flushed.
+pub fn run<R: BufRead, W: Write>(
+    alloc: Global,
+    reader: &mut R,
+    writer: &mut W,
+    session: &mut Plain,
+) -> Result<RunEnd, RunFault>
+    ensures ended { IfOk result (λ by. IfSome (R.remaining reader.old) (λ input. Answers input session.old session.new (W.contents writer.old) (W.contents writer.new) by)) }
+    ensures cut_off { IfErr result (λ why. IfSome (R.remaining reader.old) (λ input. CutOff input session.old session.new (W.contents writer.old) (W.contents writer.new) why)) }
+{
+    let mut left = MAX_READ;
+    'lines: loop {
+        if let Some(end) = answer_line(alloc, reader, writer, session, &mut left)? {
+            return Ok(end);
+        }
+    }
+}
+
+// Reads a line and answers it, or says how the run ends.
+fn answer_line<R: BufRead, W: Write>(
+    alloc: Global,
+    reader: &mut R,
+    writer: &mut W,
+    session: &mut Plain,
+    left: &mut u64,
+) -> Result<Option<RunEnd>, RunFault>
+    ensures turn { IfSome (R.remaining reader.old) (λ input. TurnsSo result input (R.remaining reader.new) session.old session.new (W.contents writer.old) (W.contents writer.new)) }
+    ensures spends { result ≡ Ok None → left.new < left.old }
+{
+    let Some(request) = next_request(alloc, reader, left)? else {
+        return Ok(Some(RunEnd::EndOfInput));
+    };
+    match request {
+        Request::Quit => {
+            put_last(writer, b"bye\n")?;
+            Ok(Some(RunEnd::Quit))
+        }
+        Request::Bad => {
+            put_last(writer, b"bad line\n")?;
+            Ok(None)
+        }
+        Request::Post(input) => {
+            answer_input(writer, session, &input)?;
+            Ok(None)
+        }
+    }
+}
+
+// Gives an input to the session and writes its answer.
+fn answer_input<W: Write>(
+    writer: &mut W,
+    session: &mut Plain,
+    input: &Input,
+) -> Result<(), RunFault>
+    ensures { AnswersInput result input.now session.old session.new (W.contents writer.old) (W.contents writer.new) }
+{
+    match session.post(input) {
+        Ok(reply) => put_reply(writer, &reply),
+        Err(why) => put_refusal(writer, why),
+    }
+}
+
+#[cfg(test)]
+mod tests;

@@ -1,0 +1,5 @@
+pub mod Text
+pub mod Limits
+pub mod Size
+pub mod Fault
+pub mod Run

@@ -1,0 +1,18 @@
+-- Texts (this project's own rule): which bytes stand in one.
+use Rattle.std.specs.Prelude.{◌≡◌, ℕ, List, Bool, true, ◌||◌, ◌&&◌, ◌==◌, nat_le, nat_eq}
+use Rattle.std.specs.List.{AllByRecursion}
+use Rattle.std.specs.Cmp.Lexicographic.{pointwise}
+
+-- tab, newline, or a printing character of ASCII
+abbrev pub is_text_byte : ℕ → Bool
+is_text_byte b = (b == 9) || (b == 10) || (nat_le 32 b && nat_le b 126)
+
+abbrev pub IsTextByte : ℕ → Type 0
+IsTextByte b = is_text_byte b ≡ true
+
+abbrev pub IsText : List ℕ → Type 0
+IsText bytes = AllByRecursion IsTextByte bytes
+
+-- whether two texts are the same
+abbrev pub same_text : List ℕ → List ℕ → Bool
+same_text = pointwise nat_eq

@@ -1,0 +1,49 @@
+ghost use Rattle.std.specs.Prelude.{◌≡◌};
+
+/// What one input, and the world that it leaves, may come to. An input that would pass a limit is
+/// refused as a whole.
+#[derive(Clone, Copy, Debug)]
+pub struct Limits {
+    /// Steps of one input: commands called, conditions tested, turns of `foreach`, bound scripts begun.
+    pub fuel: u64,
+    /// Scripts open at once, the input's own counted.
+    pub depth: u32,
+    /// Bytes of one text.
+    pub text: u32,
+    /// Members of any one list of the world.
+    pub items: u32,
+    /// Inputs accepted and not yet committed.
+    pub pending: u32,
+}
+
+impl Limits {
+    ghost use Rattle.tks_text.specs.Limits.{format1};
+
+    /// The limits that go with files of format 1.
+    pub fn format1() -> Limits
+        ensures { result ≡ format1 }
+    {
+        Limits {
+            fuel: 10_000,
+            depth: 32,
+            text: 65_536,
+            items: 4_096,
+            pending: 64,
+        }
+    }
+}
+
+#[cfg(test)]
+mod tests {
+    use super::*;
+
+    #[test]
+    fn format1_has_its_limits(rt: HostRuntime) {
+        let limits = Limits::format1();
+        assert_eq!(rt; limits.fuel, 10_000);
+        assert_eq!(rt; limits.depth, 32);
+        assert_eq!(rt; limits.text, 65_536);
+        assert_eq!(rt; limits.items, 4_096);
+        assert_eq!(rt; limits.pending, 64);
+    }
+}

@@ -1,0 +1,83 @@
+ghost use Rattle.std.specs.Prelude.{◌≡◌, ◌↔◌, IsSome, IfSome};
+ghost use Rattle.tks_text.specs.Size.{IsGridSize};
+
+use std::marker::Model;
+
+/// The size of the character grid, in cells: 1 to 200 wide and 1 to 100 high.
+#[derive(Clone, Copy, Debug)]
+pub struct Size {
+    width: u16,
+    height: u16,
+}
+
+impl Model for Size {
+    ghost use Rattle.tks_text.specs.Size.{Extent, IsGridSize};
+
+    ghost Value = { Extent };
+
+    ghost view = { λ s. record { width = s.width; height = s.height } };
+
+    ghost invariant = { λ s. IsGridSize s.width s.height };
+
+    ghost inverse = { λ e. record { width = e.width; height = e.height } };
+}
+
+impl Size {
+    /// The grid's greatest width.
+    pub const MAX_WIDTH: u16 = 200;
+
+    /// The grid's greatest height.
+    pub const MAX_HEIGHT: u16 = 100;
+
+    /// This width and height, where a grid may have them.
+    pub fn new(width: u16, height: u16) -> Option<Size>
+        ensures range { IsSome result ↔ IsGridSize width height }
+        ensures value { IfSome result (λ s. s ≡ record { width = width; height = height }) }
+    {
+        if 1 <= width && width <= Size::MAX_WIDTH && 1 <= height && height <= Size::MAX_HEIGHT {
+            Some(Size { width, height })
+        } else {
+            None
+        }
+    }
+
+    /// How many cells a row has.
+    pub fn width(self) -> u16
+        ensures { result ≡ self.width }
+    {
+        self.width
+    }
+
+    /// How many rows there are.
+    pub fn height(self) -> u16
+        ensures { result ≡ self.height }
+    {
+        self.height
+    }
+}
+
+#[cfg(test)]
+mod tests {
+    use super::*;
+
+    #[test]
+    fn grids_have_one_to_200_by_100_cells(rt: HostRuntime) {
+        let table = [
+            (20, 3, true),
+            (1, 1, true),
+            (200, 100, true),
+            (0, 1, false),
+            (1, 0, false),
+            (201, 100, false),
+            (200, 101, false),
+        ];
+        for (width, height, fits) in table {
+            let size = Size::new(width, height);
+            assert_eq!(rt; size.is_some(), fits, "{width} by {height}");
+            if let Some(size) = size {
+                assert_eq!(rt; size.width(), width);
+                assert_eq!(rt; size.height(), height);
+            }
+        }
+    }
+}

@@ -1,0 +1,189 @@
+ghost use Rattle.std.specs.Prelude.{◌≡◌, ℕ, ◌↔◌, ◌++◌, [], ◌∷◌, ◌==◌, take, Some, position, length, IfOk, OnOk, OnErr, not, true, false};
+ghost use Rattle.tks_text.specs.Text.{is_text_byte, IsText};
+
+use std::alloc::{AllocError, Global};
+use std::marker::Model;
+use thiserror::Error;
+
+/// A text: bytes each of which is a tab, a newline or a printing character of ASCII (32 to 126).
+/// Contracts see it as the list of its bytes.
+#[derive(Debug, Drop)]
+pub struct Txt {
+    bytes: Vec<u8>,
+}
+
+impl Model for Txt {
+    ghost use Rattle.std.specs.Prelude.{List, ℕ};
+    ghost use Rattle.tks_text.specs.Text.{IsText};
+
+    ghost Value = { List ℕ };
+
+    ghost view = { λ t. t.bytes.items };
+
+    ghost invariant = { λ t. IsText t.bytes.items };
+}
+
+/// Why bytes make no text.
+#[derive(Debug, Drop, Error)]
+pub enum TxtFault {
+    /// An allocation was refused.
+    #[error("out of memory")]
+    NoMemory,
+    /// The byte at this position, counted from 0, stands in no text.
+    #[error("the byte at position {0} stands in no text")]
+    Byte(usize),
+}
+
+/// Whether a byte may stand in a text.
+pub fn is_text_byte(byte: u8) -> bool
+    ensures { result ≡ is_text_byte byte }
+{
+    byte == b'\t' || byte == b'\n' || (32 <= byte && byte <= 126)
+}
+
+// The position of the first byte that stands in no text.
+fn first_bad(bytes: &[u8]) -> Option<usize>
+    ensures { result ≡ position (λ b. not (is_text_byte b)) bytes.now }
+{
+    bytes.iter().position(|byte| !is_text_byte(*byte))
+}
+
+impl Txt {
+    /// The empty text.
+    pub fn new(alloc: Global) -> Txt
+        ensures { result ≡ [] }
+    {
+        Txt {
+            bytes: Vec::new(alloc),
+        }
+    }
+
+    /// The text of these bytes. `Byte` names the first that stands in no text.
+    #[tactic(auto, using(crate::proofs::Texts::text_from_none))]
+    pub fn from_bytes(alloc: Global, bytes: &[u8]) -> Result<Txt, TxtFault>
+        ensures ok { IfOk result (λ t. t ≡ bytes.now) }
+        ensures text { OnOk result (IsText bytes.now) }
+        ensures byte { (p : ℕ) → (result ≡ Err (TxtFault.Byte p)) ↔ (position (λ b. not (is_text_byte b)) bytes.now ≡ Some p) }
+    {
+        if let Some(place) = first_bad(bytes) {
+            return Err(TxtFault::Byte(place));
+        }
+        match Vec::from_slice(alloc, bytes) {
+            Ok(bytes) => Ok(Txt { bytes }),
+            Err(_) => Err(TxtFault::NoMemory),
+        }
+    }
+
+    /// The text of bytes that the caller knows to be one.
+    pub fn from_text(alloc: Global, bytes: &[u8]) -> Result<Txt, AllocError>
+        requires { IsText bytes.now }
+        ensures { IfOk result (λ t. t ≡ bytes.now) }
+    {
+        Ok(Txt {
+            bytes: Vec::from_slice(alloc, bytes)?,
+        })
+    }
+
+    /// Adds a byte at the end. `Byte` has the position that it would have had.
+    #[tactic(auto, using(crate::proofs::Texts::text_push))]
+    pub fn push(&mut self, byte: u8) -> Result<(), TxtFault>
+        ensures ok { OnOk result (self.new ≡ self.old ++ byte ∷ []) }
+        ensures err { OnErr result (self.new ≡ self.old) }
+        ensures byte { (p : ℕ) → (result ≡ Err (TxtFault.Byte p)) ↔ ((p ≡ length self.old) × (is_text_byte byte ≡ false)) }
+    {
+        if !is_text_byte(byte) {
+            return Err(TxtFault::Byte(self.bytes.len()));
+        }
+        match self.bytes.push(byte) {
+            Ok(()) => Ok(()),
+            Err(_) => Err(TxtFault::NoMemory),
+        }
+    }
+
+    /// Adds a byte that the caller knows to stand in texts.
+    #[tactic(auto, using(crate::proofs::Texts::text_push))]
+    pub fn push_byte(&mut self, byte: u8) -> Result<(), AllocError>
+        requires { is_text_byte byte ≡ true }
+        ensures ok { OnOk result (self.new ≡ self.old ++ byte ∷ []) }
+        ensures err { OnErr result (self.new ≡ self.old) }
+    {
+        self.bytes.push(byte)?;
+        Ok(())
+    }
+
+    /// Adds a text at the end.
+    #[tactic(auto, using(crate::proofs::Texts::text_append))]
+    pub fn append(&mut self, more: &Txt) -> Result<(), AllocError>
+        ensures ok { OnOk result (self.new ≡ self.old ++ more.now) }
+        ensures err { OnErr result (self.new ≡ self.old) }
+    {
+        self.bytes.extend_from_slice(more.as_bytes())?;
+        Ok(())
+    }
+
+    /// Adds the first `count` bytes of a text at the end, or all where there are fewer.
+    #[tactic(auto, using(crate::proofs::Texts::text_append_take))]
+    pub fn append_front(&mut self, more: &Txt, count: usize) -> Result<(), AllocError>
+        ensures ok { OnOk result (self.new ≡ self.old ++ take count more.now) }
+        ensures err { OnErr result (self.new ≡ self.old) }
+    {
+        let bytes = more.as_bytes();
+        let count = count.min(bytes.len());
+        self.bytes.extend_from_slice(&bytes[..count])?;
+        Ok(())
+    }
+
+    /// The bytes.
+    pub fn as_bytes(&self) -> &[u8]
+        ensures value { result.now ≡ self.now }
+        ensures text { IsText self.now }
+    {
+        &self.bytes
+    }
+
+    /// How many bytes there are.
+    pub fn len(&self) -> usize
+        ensures { result ≡ length self.now }
+    {
+        self.bytes.len()
+    }
+
+    /// Whether there is no byte.
+    pub fn is_empty(&self) -> bool
+        ensures { result ≡ (length self.now == 0) }
+    {
+        self.bytes.is_empty()
+    }
+
+    /// An equal text.
+    pub fn try_clone(&self) -> Result<Txt, AllocError>
+        ensures { IfOk result (λ t. t ≡ self.now) }
+    {
+        Ok(Txt {
+            bytes: self.bytes.clone()?,
+        })
+    }
+}
+
+impl PartialEq for Txt {
+    ghost use Rattle.tks_text.specs.Text.{same_text};
+    ghost use Rattle.std.specs.Cmp.{partial_equiv_from_equiv};
+    ghost use Rattle.std.specs.Cmp.Lexicographic.{nat_list_eq_equiv};
+
+    ghost eq = { same_text };
+
+    ghost laws = { partial_equiv_from_equiv nat_list_eq_equiv };
+
+    fn eq(&self, other: &Txt) -> bool {
+        self.as_bytes() == other.as_bytes()
+    }
+}
+
+impl Eq for Txt {
+    ghost use Rattle.std.specs.Cmp.Lexicographic.{nat_list_eq_equiv};
+
+    ghost laws = { nat_list_eq_equiv };
+}
+
+#[cfg(test)]
+mod tests;

@@ -1,0 +1,6 @@
+//! The variables of scripts.
+#![tactic(auto)]
+
+mod vars;
+
+pub use vars::Vars;

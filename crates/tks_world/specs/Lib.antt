@@ -1,0 +1,4 @@
+pub mod Evaluation
+pub mod World
+pub mod Step
+pub mod Meets

@@ -1,0 +1,10 @@
+//! The world, and what an input does to it.
+#![tactic(auto)]
+
+mod ended;
+mod evaluation;
+mod input;
+mod world;
+
+pub use input::{Input, Refused, Reply};
+pub use world::{World, step};
