@@ -1,9 +1,8 @@
 -- What lines ask for.
 use Rattle.std.proofs.Common.{◌≡◌, ◌≢◌, ℕ, ◌<◌, ◌≤◌, Bool, true, false, cond, ltb, List, [], ◌∷◌, length, Option, Some, None, refl, sym, ap, ◌∙◌, arith, IfSome}
-use Rattle.std.specs.Prelude.{◌&&◌, map}
-use Rattle.std.specs.List.{list_all}
+use Rattle.std.specs.Prelude.{map}
 use Rattle.std.proofs.lemmas.Bool.{ltb-true, ltb-false}
-use Rattle.tks_text.specs.Text.{is_text_byte, IsText}
+use Rattle.tks_text.specs.Text.{is_text}
 use Rattle.tks_desk.specs.Lines.{first_line, after_line, lines_of}
 use Rattle.tks_desk.specs.Reading.{max_line, IsLine, ReadsLine}
 use Rattle.tks_desk.specs.Requests.{request_of_text, request_of, requests_of, ReadsRequest}
@@ -11,15 +10,6 @@ use Rattle.tks_desk.specs.declared.input.Line.{Line}
 use Rattle.tks_desk.specs.declared.request.Request.{Request}
 use Rattle.tks_desk.specs.declared.request.Request.TheVariants.{Bad}
 use Rattle.tks_desk.proofs.Lines.{lines_next}
-
-both : (a b : Bool) → a && b ≡ true → (a ≡ true) × (b ≡ true)
-both true b e = (refl, e)
-both false b e = absurd cc
-
--- bytes that all stand in texts are a text
-pub text_from_all : (bytes : List ℕ) → list_all is_text_byte bytes ≡ true → IsText bytes
-text_from_all [] e = tt
-text_from_all (b ∷ bytes) e = let h = both (is_text_byte b) (list_all is_text_byte bytes) e in (h.0, text_from_all bytes h.1)
 
 over_limit : (n : ℕ) → max_line < n → ltb max_line n ≡ true
 over_limit n h = elim (ltb max_line n) as (λ b. ltb max_line n ≡ b → b ≡ true) [ true ↦ λ e. refl | false ↦ λ e. let le = ltb-false max_line n e in absurd (omega arith) ] refl
@@ -32,14 +22,14 @@ pub overlong_is_bad : (line : List ℕ) → max_line < length line → request_o
 overlong_is_bad line h = rw (over_limit (length line) h) refl
 
 -- nor does one with a byte that stands in no text
-pub no_text_is_bad : (line : List ℕ) → length line ≤ max_line → list_all is_text_byte line ≡ false → request_of line ≡ Bad
+pub no_text_is_bad : (line : List ℕ) → length line ≤ max_line → is_text line ≡ false → request_of line ≡ Bad
 no_text_is_bad line h e = rw (in_limit (length line) h, e) refl
 
 -- another asks what its text asks
-pub text_asks : (line : List ℕ) → length line ≤ max_line → list_all is_text_byte line ≡ true → request_of line ≡ request_of_text line
+pub text_asks : (line : List ℕ) → length line ≤ max_line → is_text line ≡ true → request_of line ≡ request_of_text line
 text_asks line h e = rw (in_limit (length line) h, e) refl
 
-pub ruleset asks = (text_from_all, overlong_is_bad, no_text_is_bad, text_asks)
+pub ruleset asks = (overlong_is_bad, no_text_is_bad, text_asks)
 
 -- the first line is the first request
 pub request_next : (bytes : Option (List ℕ)) (rest : Option (List ℕ)) (line : Line) (request : Request) → IfSome bytes (λ xs. ReadsLine xs (Some line) rest) → ((xs : List ℕ) → IsLine line xs → request ≡ request_of xs)

@@ -1,7 +1,6 @@
 -- What the lines of the input ask for (this project's own rule).
 use Rattle.std.specs.Prelude.{◌≡◌, ℕ, nat_lt, if◌then◌else◌, List, [], ◌∷◌, take, drop, map, length, codes, Option, Some, None}
-use Rattle.std.specs.List.{list_all}
-use Rattle.tks_text.specs.Text.{is_text_byte, same_text}
+use Rattle.tks_text.specs.Text.{is_text, same_text}
 use Rattle.tks_world.specs.declared.input.Input.TheVariants.{Script}
 use Rattle.tks_desk.specs.Lines.{lines_of}
 use Rattle.tks_desk.specs.Reading.{max_line}
@@ -20,7 +19,7 @@ request_of_text line =
 abbrev pub request_of : List ℕ → Request
 request_of line =
     if nat_lt max_line (length line) then Bad
-    else (if list_all is_text_byte line then request_of_text line else Bad)
+    else (if is_text line then request_of_text line else Bad)
 
 abbrev pub requests_of : List ℕ → List Request
 requests_of input = map request_of (lines_of input)

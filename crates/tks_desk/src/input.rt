@@ -51,8 +51,8 @@ enum Piece {
 }
 
 /// Reads the next line, or `None` at the end of the input. `left` is how many bytes may still be
-/// read; it falls by one for each byte, and for each try that a signal interrupts. The fault is `Read` where the reader fails or `left` is used up, and `Memory` where a line
-/// can't be held.
+/// read; it falls by one for each byte, and for each try that a signal interrupts. The fault is
+/// `Read` where the reader fails or `left` is used up, and `Memory` where a line can't be held.
 pub fn next_line<R: BufRead>(
     alloc: Global,
     reader: &mut R,

@@ -1,6 +1,5 @@
 ghost use Rattle.std.specs.Prelude.{ℕ, List, ◌≡◌, ◌≢◌, ◌<◌, ◌≤◌, IfOk, IfSome, IfErr, OnSome, length};
-ghost use Rattle.std.specs.List.{list_all};
-ghost use Rattle.tks_text.specs.Text.{is_text_byte, IsText};
+ghost use Rattle.tks_text.specs.Text.{IsText};
 ghost use Rattle.tks_desk.specs.Reading.{max_line, IsLine};
 ghost use Rattle.tks_desk.specs.Requests.{request_of, request_of_text, ReadsRequest};
 
@@ -8,7 +7,7 @@ use crate::ending::RunFault;
 use crate::input::{Line, next_line};
 use std::alloc::{AllocError, Global};
 use std::io::BufRead;
-use tks_text::{Txt, is_text_byte};
+use tks_text::{Txt, is_text};
 use tks_world::Input;
 
 /// What a line asks for.
@@ -65,13 +64,6 @@ fn held_request(alloc: Global, line: &[u8]) -> Result<Request, AllocError>
     }
     let request = request_of_text(alloc, line)?;
     Ok(request)
-}
-
-// Whether each byte may stand in a text.
-fn is_text(bytes: &[u8]) -> bool
-    ensures { result ≡ list_all is_text_byte bytes.now }
-{
-    bytes.iter().all(|byte| is_text_byte(*byte))
 }
 
 // What a text asks for.

@@ -1,9 +1,9 @@
 -- Texts by the place of the first byte that stands in none, and texts one after the other.
 use Rattle.std.proofs.Common.{zero, suc, take, drop, ◌≡◌, ℕ, ◌+◌, ◌≤◌, Bool, true, false, cond, ltb, List, [], ◌∷◌, ◌++◌, length, Option, Some, None, refl, arith}
 use Rattle.std.specs.List.{position, position_or_len, prefix_len}
-use Rattle.std.specs.Prelude.{not}
+use Rattle.std.specs.Prelude.{not, ◌&&◌}
 use Rattle.std.proofs.lemmas.Bool.{ltb-false}
-use Rattle.tks_text.specs.Text.{is_text_byte, IsText}
+use Rattle.tks_text.specs.Text.{is_text_byte, is_text, IsText}
 
 abbrev pub is_bad : ℕ → Bool
 is_bad b = not (is_text_byte b)
@@ -34,6 +34,15 @@ none_len n m false l e = ltb-false n m l
 pub text_from_none : (bytes : List ℕ) → position is_bad bytes ≡ None → IsText bytes
 unfolding nothing
 text_from_none bytes e = text_from_len bytes (none_len (position_or_len is_bad bytes) (length bytes) _ refl e)
+
+both : (a b : Bool) → a && b ≡ true → (a ≡ true) × (b ≡ true)
+both true b e = (refl, e)
+both false b e = absurd cc
+
+-- bytes that pass the test are a text
+pub text_from_all : (bytes : List ℕ) → is_text bytes ≡ true → IsText bytes
+text_from_all [] e = tt
+text_from_all (b ∷ bytes) e = let h = both (is_text_byte b) (is_text bytes) e in (h.0, text_from_all bytes h.1)
 
 pub text_push : (bytes : List ℕ) (b : ℕ) → IsText bytes → is_text_byte b ≡ true → IsText (bytes ++ b ∷ [])
 text_push [] b h e = (e, tt)

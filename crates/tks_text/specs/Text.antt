@@ -1,6 +1,6 @@
 -- Texts (this project's own rule): which bytes stand in one.
 use Rattle.std.specs.Prelude.{◌≡◌, ℕ, List, Bool, true, ◌||◌, ◌&&◌, ◌==◌, nat_le, nat_eq}
-use Rattle.std.specs.List.{AllByRecursion}
+use Rattle.std.specs.List.{AllByRecursion, list_all}
 use Rattle.std.specs.Cmp.Lexicographic.{pointwise}
 
 -- tab, newline, or a printing character of ASCII
@@ -12,6 +12,10 @@ IsTextByte b = is_text_byte b ≡ true
 
 abbrev pub IsText : List ℕ → Type 0
 IsText bytes = AllByRecursion IsTextByte bytes
+
+-- whether bytes are a text, as a test
+abbrev pub is_text : List ℕ → Bool
+is_text bytes = list_all is_text_byte bytes
 
 -- whether two texts are the same
 abbrev pub same_text : List ℕ → List ℕ → Bool

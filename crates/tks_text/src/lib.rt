@@ -12,4 +12,4 @@ pub use fault::{ErrorNumber, Failure, ScriptFault};
 pub use limits::Limits;
 pub use list::Seq;
 pub use size::Size;
-pub use text::{Txt, TxtFault, is_text_byte};
+pub use text::{Txt, TxtFault, is_text, is_text_byte};

@@ -1,5 +1,5 @@
 ghost use Rattle.std.specs.Prelude.{◌≡◌, ℕ, ◌↔◌, ◌++◌, [], ◌∷◌, ◌==◌, take, Some, position, length, IfOk, OnOk, OnErr, not, true, false};
-ghost use Rattle.tks_text.specs.Text.{is_text_byte, IsText};
+ghost use Rattle.tks_text.specs.Text.{is_text_byte, is_text, IsText};
 
 use std::alloc::{AllocError, Global};
 use std::marker::Model;
@@ -39,6 +39,15 @@ pub fn is_text_byte(byte: u8) -> bool
     ensures { result ≡ is_text_byte byte }
 {
     byte == b'\t' || byte == b'\n' || (32 <= byte && byte <= 126)
+}
+
+/// Whether each of the bytes may stand in a text, so that they are one.
+#[tactic(auto, using(crate::proofs::Texts::text_from_all))]
+pub fn is_text(bytes: &[u8]) -> bool
+    ensures value { result ≡ is_text bytes.now }
+    ensures text { result ≡ true → IsText bytes.now }
+{
+    bytes.iter().all(|byte| is_text_byte(*byte))
 }
 
 // The position of the first byte that stands in no text.

@@ -52,3 +52,19 @@ impl From<AllocError> for Refused {
         Refused::NoMemory
     }
 }
+
+impl From<Stop> for Refused {
+    ghost use Rattle.tks_world.specs.Meets.{refused_by};
+
+    ghost from_gives = { λ stop e. e ≡ refused_by stop };
+
+    fn from(stop: Stop) -> Refused {
+        match stop {
+            Stop::Budget => Refused::Budget,
+            Stop::Depth => Refused::Depth,
+            Stop::TooLarge => Refused::TooLarge,
+            Stop::NotYet => Refused::BadInput,
+            Stop::NoMemory => Refused::NoMemory,
+        }
+    }
+}

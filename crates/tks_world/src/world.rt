@@ -1,9 +1,8 @@
 ghost use Rattle.std.specs.Prelude.{◌≡◌, IfOk, IfErr, OnErr};
 ghost use Rattle.tks_world.specs.World.{first_world};
 ghost use Rattle.tks_world.specs.Step.{step, Accepts};
-ghost use Rattle.tks_world.specs.Meets.{RefusedSo, refused_by};
+ghost use Rattle.tks_world.specs.Meets.{RefusedSo};
 
-use crate::ended::Stop;
 use crate::evaluation::evaluate;
 use crate::input::{Input, Refused, Reply};
 use std::alloc::{AllocError, Global};
@@ -93,10 +92,7 @@ pub fn step(
     let script = parse(alloc, text)?;
     let mut variables = world.variables.try_clone()?;
     let mut fuel = limits.fuel;
-    let ended = match evaluate(alloc, &script, &mut variables, &mut fuel, limits) {
-        Ok(ended) => ended,
-        Err(stop) => return Err(refusal(stop)),
-    };
+    let ended = evaluate(alloc, &script, &mut variables, &mut fuel, limits)?;
     if world.accepted == MAX_COUNT {
         return Err(Refused::TooLarge);
     }
@@ -107,19 +103,6 @@ pub fn step(
         code: ended.code,
         text: ended.text,
     })
-}
-
-// The refusal that a stop comes to.
-fn refusal(stop: Stop) -> Refused
-    ensures { result ≡ refused_by stop }
-{
-    match stop {
-        Stop::Budget => Refused::Budget,
-        Stop::Depth => Refused::Depth,
-        Stop::TooLarge => Refused::TooLarge,
-        Stop::NotYet => Refused::BadInput,
-        Stop::NoMemory => Refused::NoMemory,
-    }
 }
 
 #[cfg(test)]

@@ -43,6 +43,7 @@ fn knows_the_bytes_of_texts(rt: HostRuntime) {
     ];
     for (byte, stands) in table {
         assert_eq!(rt; is_text_byte(byte), stands, "byte {byte}");
+        assert_eq!(rt; is_text(&[b'a', byte]), stands, "byte {byte}");
         let text = Txt::from_bytes(rt.alloc(), &[b'a', byte]);
         assert_eq!(rt; text.is_ok(), stands, "byte {byte}");
         let named = matches!(&text, Err(TxtFault::Byte(1)));
