@@ -1,9 +1,9 @@
 -- What lines ask for.
-use Rattle.std.proofs.Common.{◌≡◌, ◌≢◌, ℕ, ◌<◌, ◌≤◌, Bool, true, false, cond, ltb, List, [], ◌∷◌, length, Option, Some, None, refl, sym, ap, ◌∙◌, arith, IfSome}
+use Rattle.std.proofs.Common.{◌≡◌, ℕ, ◌<◌, ◌≤◌, true, false, ltb, List, ◌∷◌, length, Option, Some, None, refl, sym, ap, ◌∙◌, arith, IfSome}
 use Rattle.std.specs.Prelude.{map}
 use Rattle.std.proofs.lemmas.Bool.{ltb-true, ltb-false}
 use Rattle.tks_text.specs.Text.{is_text}
-use Rattle.tks_desk.specs.Lines.{first_line, after_line, lines_of}
+use Rattle.tks_desk.specs.Lines.{first_line, after_line}
 use Rattle.tks_desk.specs.Reading.{max_line, IsLine, ReadsLine}
 use Rattle.tks_desk.specs.Requests.{request_of_text, request_of, requests_of, ReadsRequest}
 use Rattle.tks_desk.specs.declared.input.Line.{Line}

@@ -5,10 +5,10 @@ use Rattle.std.proofs.lemmas.Bool.Decides.{nat_tests}
 use Rattle.std.specs.Io.KnownBytes.{Keeps, Consumes, IsAtEnd}
 use Rattle.std.proofs.KnownBytes.{Consumes-trans}
 use Rattle.tks_desk.specs.Lines.{first_line, after_line, lines_of, onto}
-use Rattle.tks_desk.specs.Reading.{ReadsLine, IsLine, LineGrows, TakesPiece}
+use Rattle.tks_desk.specs.Reading.{ReadsLine, IsLine, LineGrows, TakesPiece, piece_cost, ReadsAtMost, Pays}
 use Rattle.tks_desk.specs.declared.input.Line.{Line}
 use Rattle.tks_desk.specs.declared.input.Piece.{Piece}
-use Rattle.tks_desk.specs.declared.input.Piece.TheVariants.{EndsAtNewline, EndsWithInput}
+use Rattle.tks_desk.specs.declared.input.Piece.TheVariants.{GoesOn, EndsAtNewline, EndsWithInput}
 
 by_test : (t : Bool) (b : ℕ) (bytes first after : List ℕ) → onto b (lines_of bytes) ≡ (b ∷ first) ∷ lines_of after
     → cond t ([] ∷ lines_of bytes) (onto b (lines_of bytes)) ≡ cond t [] (b ∷ first) ∷ lines_of (cond t bytes after)
@@ -54,6 +54,41 @@ pub record LineBegun (a b : Option (List ℕ)) (line : Line) (before left : ℕ)
   pub none : NoNewline bytes
   pub is : IsLine line bytes
   pub paid : length bytes + left ≤ before
+
+-- what was paid for a line that was begun
+pub begun_pays : (a b : Option (List ℕ)) (line : Line) (before left : ℕ) → LineBegun a b line before left → Pays a b before left
+begun_pays a b line before left begun = (begun.bytes, begun.taken, begun.paid)
+
+-- what was paid before and what is paid now, together
+pub pays_on : (a b c : Option (List ℕ)) (before left after : ℕ) → Pays a b before left → Pays b c left after → Pays a c before after
+pays_on a b c before left after first then = (
+  first.0 ++ then.0,
+  Consumes-trans a b c first.0 then.0 first.1 then.1,
+  omega (arith, length-append first.0 then.0, first.2, then.2),
+)
+
+-- nothing was read
+pub pays_nothing : (a b : Option (List ℕ)) (before left : ℕ) → Keeps a b → left ≤ before → Pays a b before left
+pays_nothing None b before left keeps le = ([], tt, omega (arith, le))
+pays_nothing (Some all) None before left keeps le = absurd keeps
+pays_nothing (Some all) (Some rest) before left keeps le = ([], sym keeps, omega (arith, le))
+
+-- what was paid for a piece
+pub piece_pays : (a b : Option (List ℕ)) (before left : ℕ) (piece : Piece) (part : List ℕ) → TakesPiece piece a b part → length part + piece_cost piece + left ≤ before → Pays a b before left
+piece_pays a b before left GoesOn part takes le = (part, takes, omega (arith, le))
+piece_pays a b before left EndsAtNewline part takes le = (part ++ 10 ∷ [], takes, omega (arith, length-append part (10 ∷ []), le))
+piece_pays a b before left EndsWithInput part takes le = pays_nothing a b before left takes.2 (omega (arith, le))
+
+-- so no more was read than could be paid
+pub reads_at_most : (a b : Option (List ℕ)) (most left : ℕ) → Pays a b most left → ReadsAtMost most a b
+reads_at_most a b most left pays = (pays.0, pays.1, omega (arith, pays.2))
+
+-- before a run has read
+pub pays_none : (a : Option (List ℕ)) (most : ℕ) → Pays a a most most
+pays_none None most = ([], tt, omega arith)
+pays_none (Some all) most = ([], refl, omega arith)
+
+pub ruleset paying = (begun_pays, pays_on, pays_nothing, piece_pays)
 
 -- a line that was taken to its newline
 read_to_newline : (a c : Option (List ℕ)) (line : Line) (bytes : List ℕ) → Consumes a c (bytes ++ 10 ∷ []) → NoNewline bytes → IsLine line bytes

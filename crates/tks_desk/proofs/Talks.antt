@@ -11,8 +11,7 @@ use Rattle.tks_world.specs.declared.input.Refused.{Refused}
 use Rattle.tks_world.specs.declared.input.Refused.TheVariants.{BadInput, Budget, Depth, TooLarge, NoMemory}
 use Rattle.tks_desk.specs.Writing.{WritesSo, AppendsFront}
 use Rattle.tks_desk.specs.Requests.{requests_of, ReadsRequest}
-use Rattle.tks_desk.specs.Answers.{Memory, Granted, Withheld, Talk, said, over, answered, talk, bad_line, bye, reply_line, refusal_line, quits, answers_of, SoFar, Answers, CutOff, WrittenUpTo, resumed, AnswersInput, TurnsSo}
-use Rattle.tks_desk.specs.declared.request.Request.{Request}
+use Rattle.tks_desk.specs.Answers.{Granted, Withheld, Talk, said, answered, talk, bad_line, bye, reply_line, refusal_line, quits, answers_of, SoFar, Answers, CutOff, WrittenUpTo, resumed, AnswersInput, TurnsSo}
 use Rattle.tks_desk.specs.declared.request.Request.TheVariants.{Post, Quit, Bad}
 use Rattle.tks_desk.specs.declared.ending.RunEnd.{RunEnd}
 use Rattle.tks_desk.specs.declared.ending.RunEnd.TheVariants as end

@@ -1,5 +1,5 @@
 -- What reading a line does.
-use Rattle.std.specs.Prelude.{◌≡◌, ◌≢◌, ℕ, ◌<◌, ◌≤◌, List, [], ◌∷◌, ◌++◌, length, Option, Some, None}
+use Rattle.std.specs.Prelude.{◌≡◌, ◌≢◌, ℕ, ◌+◌, ◌<◌, ◌≤◌, List, [], ◌∷◌, ◌++◌, length, Option, Some, None}
 use Rattle.std.specs.Io.KnownBytes.{Keeps, Consumes, IsAtEnd}
 use Rattle.tks_desk.specs.Lines.{first_line, after_line}
 use Rattle.tks_desk.specs.declared.input.Line.{Line}
@@ -36,3 +36,11 @@ abbrev pub piece_cost : Piece → ℕ
 piece_cost GoesOn = 0
 piece_cost EndsAtNewline = 1
 piece_cost EndsWithInput = 0
+
+-- a reader loses no more bytes than this
+abbrev pub ReadsAtMost : ℕ → Option (List ℕ) → Option (List ℕ) → Type 0
+ReadsAtMost most old new = (bytes : List ℕ) × Consumes old new bytes × (length bytes ≤ most)
+
+-- a reader loses bytes, and what may still be read falls by one for each, or by more
+abbrev pub Pays : Option (List ℕ) → Option (List ℕ) → ℕ → ℕ → Type 0
+Pays old new before left = (bytes : List ℕ) × Consumes old new bytes × (length bytes + left ≤ before)

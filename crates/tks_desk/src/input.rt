@@ -1,5 +1,5 @@
 ghost use Rattle.std.specs.Prelude.{◌≡◌, ◌≢◌, ◌==◌, ◌+◌, ◌<◌, ◌≤◌, ℕ, List, true, All, IfOk, IfSome, IfErr, OnOk, OnSome, length, slice_index, take};
-ghost use Rattle.tks_desk.specs.Reading.{ReadsLine, IsLine, LineGrows, TakesPiece, piece_cost};
+ghost use Rattle.tks_desk.specs.Reading.{ReadsLine, IsLine, LineGrows, TakesPiece, piece_cost, Pays};
 
 use crate::ending::RunFault;
 use std::alloc::Global;
@@ -53,6 +53,7 @@ enum Piece {
 /// Reads the next line, or `None` at the end of the input. `left` is how many bytes may still be
 /// read; it falls by one for each byte, and for each try that a signal interrupts. The fault is
 /// `Read` where the reader fails or `left` is used up, and `Memory` where a line can't be held.
+#[tactic(auto, using(crate::proofs::Lines::paying))]
 pub fn next_line<R: BufRead>(
     alloc: Global,
     reader: &mut R,
@@ -60,7 +61,7 @@ pub fn next_line<R: BufRead>(
 ) -> Result<Option<Line>, RunFault>
     ensures line { IfOk result (λ line. IfSome (R.remaining reader.old) (λ bytes. ReadsLine bytes line (R.remaining reader.new))) }
     ensures spends { IfOk result (λ line. OnSome line (left.new < left.old)) }
-    ensures bound { left.new ≤ left.old }
+    ensures pays { Pays (R.remaining reader.old) (R.remaining reader.new) left.old left.new }
     ensures fault { IfErr result (λ e. e ≢ RunFault.Write) }
 {
     let mut line = Line::Held(Vec::new(alloc));
@@ -77,6 +78,7 @@ pub fn next_line<R: BufRead>(
 
 // Takes of the bytes that the reader has at hand those of the line, and its newline. A try that a
 // signal interrupts takes none, and costs one of `left`.
+#[tactic(auto, using(crate::proofs::Lines::paying))]
 fn take_piece<R: BufRead>(
     reader: &mut R,
     line: &mut Line,
@@ -86,7 +88,7 @@ fn take_piece<R: BufRead>(
     ensures taken { IfOk result (λ piece. (part : List ℕ) × LineGrows line.old line.new part × All (λ b. b ≢ 10) part
         × TakesPiece piece (R.remaining reader.old) (R.remaining reader.new) part
         × (length part + piece_cost piece + left.new ≤ left.old)) }
-    ensures bound { left.new ≤ left.old }
+    ensures pays { IfErr result (λ _. Pays (R.remaining reader.old) (R.remaining reader.new) left.old left.new) }
     ensures falls { result ≡ Ok Piece.GoesOn → left.new < left.old }
     ensures fault { IfErr result (λ e. e ≢ RunFault.Write) }
 {

@@ -1,6 +1,6 @@
 ghost use Rattle.std.specs.Prelude.{ℕ, List, ◌≡◌, ◌≢◌, ◌<◌, ◌≤◌, IfOk, IfSome, IfErr, OnSome, length};
 ghost use Rattle.tks_text.specs.Text.{IsText};
-ghost use Rattle.tks_desk.specs.Reading.{max_line, IsLine};
+ghost use Rattle.tks_desk.specs.Reading.{max_line, IsLine, Pays};
 ghost use Rattle.tks_desk.specs.Requests.{request_of, request_of_text, ReadsRequest};
 
 use crate::ending::RunFault;
@@ -30,6 +30,7 @@ pub fn next_request<R: BufRead>(
 ) -> Result<Option<Request>, RunFault>
     ensures request { IfOk result (λ request. IfSome (R.remaining reader.old) (λ bytes. ReadsRequest bytes request (R.remaining reader.new))) }
     ensures spends { IfOk result (λ request. OnSome request (left.new < left.old)) }
+    ensures pays { Pays (R.remaining reader.old) (R.remaining reader.new) left.old left.new }
     ensures fault { IfErr result (λ e. e ≢ RunFault.Write) }
 {
     let Some(line) = next_line(alloc, reader, left)? else {

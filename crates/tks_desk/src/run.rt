@@ -1,4 +1,5 @@
-ghost use Rattle.std.specs.Prelude.{◌≡◌, ◌<◌, IfOk, IfErr, IfSome};
+ghost use Rattle.std.specs.Prelude.{◌≡◌, ◌<◌, ◌^◌, IfOk, IfErr, IfSome};
+ghost use Rattle.tks_desk.specs.Reading.{ReadsAtMost, Pays};
 ghost use Rattle.tks_desk.specs.Answers.{Answers, CutOff, AnswersInput, TurnsSo};
 
 use crate::answer::{put_refusal, put_reply};
@@ -23,6 +24,7 @@ pub fn run<R: BufRead, W: Write>(
 ) -> Result<RunEnd, RunFault>
     ensures ended { IfOk result (λ by. IfSome (R.remaining reader.old) (λ input. Answers input session.old session.new (W.contents writer.old) (W.contents writer.new) by)) }
     ensures cut_off { IfErr result (λ why. IfSome (R.remaining reader.old) (λ input. CutOff input session.old session.new (W.contents writer.old) (W.contents writer.new) why)) }
+    ensures bound { ReadsAtMost (2 ^ 40) (R.remaining reader.old) (R.remaining reader.new) }
 {
     let mut left = MAX_READ;
     'lines: loop {
@@ -42,6 +44,7 @@ fn answer_line<R: BufRead, W: Write>(
 ) -> Result<Option<RunEnd>, RunFault>
     ensures turn { IfSome (R.remaining reader.old) (λ input. TurnsSo result input (R.remaining reader.new) session.old session.new (W.contents writer.old) (W.contents writer.new)) }
     ensures spends { result ≡ Ok None → left.new < left.old }
+    ensures pays { Pays (R.remaining reader.old) (R.remaining reader.new) left.old left.new }
 {
     let Some(request) = next_request(alloc, reader, left)? else {
         return Ok(Some(RunEnd::EndOfInput));

@@ -1,8 +1,7 @@
-use Rattle.std.proofs.Common.{◌≡◌, ℕ, List, Option, Some, IfSome, Result, Ok, Err, refl, sym, ap, subst, ◌∙◌}
+use Rattle.std.proofs.Common.{Some, refl}
 use Rattle.std.proofs.lemmas.Result.{err_from_is_err_and}
 use Rattle.tks_desk.specs.Requests.{ReadsRequest}
-use Rattle.tks_desk.specs.Answers.{CutOff, TurnsSo}
-use Rattle.tks_desk.specs.declared.ending.RunFault.TheVariants.{Write}
+use Rattle.tks_desk.specs.Answers.{CutOff}
 use Rattle.tks_desk.specs.declared.request.Request.TheVariants.{Bad, Quit, Post}
 use Rattle.tks_desk.proofs.Talks.{always, where_known, not_read, bad_answered, bad_cut_off, quit_cut_off, post_cut_off}
 use Rattle.tks_desk.proofs.run.answer_line.Goals as goal
