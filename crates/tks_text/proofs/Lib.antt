@@ -1,2 +1,7 @@
+pub mod Tests
 pub mod Texts
 pub mod Runs
+pub mod Integers
+pub mod Prefixes
+pub mod Spelled
+pub mod Backslashes

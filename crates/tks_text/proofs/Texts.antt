@@ -35,7 +35,7 @@ pub text_from_none : (bytes : List ℕ) → position is_bad bytes ≡ None → I
 unfolding nothing
 text_from_none bytes e = text_from_len bytes (none_len (position_or_len is_bad bytes) (length bytes) _ refl e)
 
-both : (a b : Bool) → a && b ≡ true → (a ≡ true) × (b ≡ true)
+pub both : (a b : Bool) → a && b ≡ true → (a ≡ true) × (b ≡ true)
 both true b e = (refl, e)
 both false b e = absurd cc
 

@@ -50,6 +50,10 @@ fault_text fault =
     let number = number_of fault.number in
     69 ∷ (48 + number / 10) ∷ (48 + number % 10) ∷ subject_text fault.subject
 
+-- an error, and the text that it is about
+abbrev pub fault_about : ErrorNumber → List ℕ → ScriptFault
+fault_about number subject = record { number = number; subject = Some subject }
+
 -- what a call returned, seen by view, is what its definition gives, unless memory was refused
 abbrev pub Gives : {X Y : Type 0} → (X → Y) → Result X Failure → Result Y ScriptFault → Type 0
 Gives view (Ok x) given = given ≡ Ok (view x)

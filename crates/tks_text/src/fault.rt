@@ -68,7 +68,17 @@ pub struct ScriptFault {
 }
 
 impl ScriptFault {
-    ghost use Rattle.tks_text.specs.Fault.{fault_text};
+    ghost use Rattle.tks_text.specs.Fault.{fault_about, fault_text};
+
+    /// An error that is about a text.
+    pub fn about(number: ErrorNumber, subject: &Txt) -> Result<ScriptFault, AllocError>
+        ensures { IfOk result (λ f. f ≡ fault_about number subject.now) }
+    {
+        Ok(ScriptFault {
+            number,
+            subject: Some(subject.try_clone()?),
+        })
+    }
 
     /// The text that a script sees: `E`, two digits, and, where there is a subject, a space and its
     /// first 64 bytes.

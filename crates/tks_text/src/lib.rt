@@ -2,13 +2,21 @@
 //! the faults of scripts.
 #![tactic(auto)]
 
+mod backslash;
+mod class;
 mod fault;
+mod integer;
+mod laws;
 mod limits;
 mod list;
 mod size;
 mod text;
 
+pub use backslash::escape;
+pub use class::Class;
 pub use fault::{ErrorNumber, Failure, ScriptFault};
+pub use integer::{Range, decimal_of, integer_of, is_space};
+pub use laws::{decimal_reads_back, one_integer};
 pub use limits::Limits;
 pub use list::Seq;
 pub use size::Size;

@@ -2,6 +2,7 @@ ghost use Rattle.std.specs.Prelude.{◌≡◌, ℕ, ◌↔◌, ◌++◌, [], ◌
 ghost use Rattle.tks_text.specs.Text.{is_text_byte, is_text, IsText};
 
 use std::alloc::{AllocError, Global};
+use std::hash::{Hash, Hasher};
 use std::marker::Model;
 use thiserror::Error;
 
@@ -174,6 +175,17 @@ impl Txt {
     }
 }
 
+impl Clone for Txt {
+    ghost use Rattle.std.specs.Prelude.{◌≡◌};
+
+    ghost is_clone = { λ t copy. copy ≡ t };
+
+    fn clone(&self) -> Result<Txt, AllocError> {
+        let copy = self.try_clone()?;
+        Ok(copy)
+    }
+}
+
 impl PartialEq for Txt {
     ghost use Rattle.tks_text.specs.Text.{same_text};
     ghost use Rattle.std.specs.Cmp.{partial_equiv_from_equiv};
@@ -192,6 +204,20 @@ impl Eq for Txt {
     ghost use Rattle.std.specs.Cmp.Lexicographic.{nat_list_eq_equiv};
 
     ghost laws = { nat_list_eq_equiv };
+}
+
+impl Hash for Txt {
+    ghost use Rattle.std.proofs.Common.{rules};
+    ghost use Rattle.std.specs.Cmp.Rules.{hashing};
+    ghost use Rattle.std.specs.Hash.{slice, u8};
+
+    ghost hash_input = { slice u8 };
+
+    ghost respects_eq = { Prim.search (hashing, rules) };
+
+    fn hash<H: Hasher>(&self, state: &mut H) {
+        self.as_bytes().hash(state);
+    }
 }
 
 #[cfg(test)]

@@ -1,0 +1,13 @@
+ghost use Rattle.std.specs.Prelude.{◌≡◌, ◌↔◌, List, ℕ, ℤ, Some, Ok, true};
+ghost use Rattle.std.specs.Fmt.{signed_decimal};
+ghost use Rattle.tks_text.specs.Integer.{SpellsInteger, integer_value, fits_i64, integer_of};
+
+/// Each text spells one integer, the one that is read, or none.
+pub fn one_integer()
+    ensures { (t : List ℕ) (z : ℤ) → SpellsInteger t z ↔ (integer_value t ≡ Some z) }
+{}
+
+/// The decimal spelling of an integer of 64 bits is read as that integer.
+pub fn decimal_reads_back()
+    ensures { (z : ℤ) → fits_i64 z ≡ true → integer_of (signed_decimal z) ≡ Ok (Some z) }
+{}
