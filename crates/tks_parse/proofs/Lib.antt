@@ -1,6 +1,10 @@
 pub mod Joins
 pub mod Building
+pub mod Scans
 pub mod Loops
+pub mod Closings
+pub mod Tests
+pub mod Braced
 pub mod Spelled
 pub mod Told
 pub mod Faults

@@ -1,14 +1,17 @@
 -- What the code returned, against what reading gives, unless memory ran out.
-use Rattle.std.specs.Prelude.{◌≡◌, ℕ, Option, Some, None, Result, Ok, Err, true}
+use Rattle.std.specs.Prelude.{◌≡◌, ℕ, Option, Some, None, Result, Ok, Err, true, List, [], ◌∷◌, ◌++◌}
 use Rattle.tks_text.specs.Run.{Step, stop, fails, takes, Run}
 use Rattle.tks_text.specs.Text.{is_text_byte}
 use Rattle.tks_text.specs.declared.fault.ScriptFault.{ScriptFault}
-use Rattle.tks_parse.specs.Tree.{Script, no_command, command, join_scripts, Words, no_word, word, join_words, Parts, no_part, char, variable, join_parts}
-use Rattle.tks_parse.specs.View.{words_of}
+use Rattle.tks_parse.specs.Tree.{Script, no_command, command, join_scripts, Words, no_word, word, join_words, Parts, no_part, char, join_parts}
+use Rattle.tks_parse.specs.View.{parts_of, words_of, script_of_commands}
 use Rattle.tks_text.specs.declared.fault.Failure.{Failure}
 use Rattle.tks_text.specs.declared.fault.Failure.TheVariants as failure
-use Rattle.tks_parse.specs.declared.reading.parts.Piece.{Piece}
-use Rattle.tks_parse.specs.declared.reading.parts.Piece.TheVariants.{Char, Variable}
+use Rattle.tks_parse.specs.declared.braces.Verbatim.{Verbatim}
+use Rattle.tks_parse.specs.declared.braces.Verbatim.TheVariants.{One, Pair}
+use Rattle.tks_parse.specs.declared.builder.Piece.{Piece}
+use Rattle.tks_parse.specs.declared.builder.Piece.TheVariants.{Char, Whole}
+use Rattle.tks_parse.specs.declared.commands.Found.{Found}
 use Rattle.tks_parse.specs.declared.tree.Command.{Command}
 use Rattle.tks_parse.specs.declared.tree.Word.{Word}
 
@@ -34,7 +37,7 @@ GivesRun view (Err e) r = FailsRun e r
 -- the parts that a piece is
 abbrev pub parts_of_piece : Piece → Parts
 parts_of_piece (Char c) = char c no_part
-parts_of_piece (Variable name) = variable name no_part
+parts_of_piece (Whole part) = parts_of (part ∷ [])
 
 abbrev pub taken_piece : Piece × ℕ → Step ScriptFault Parts
 taken_piece x = takes (join_parts (parts_of_piece x.0)) x.1
@@ -61,7 +64,23 @@ script_of_option (Some c) = command (words_of c.words.items) no_command
 abbrev pub taken_command : Option Command × ℕ → Step ScriptFault Script
 taken_command x = takes (join_scripts (script_of_option x.0)) x.1
 
+abbrev pub run_of_script : Found → Run ScriptFault Script
+run_of_script found = record { items = script_of_commands found.commands.items None; fault = found.fault; taken = found.taken }
+
 -- a character of a piece stands in texts
 abbrev pub IsTextPiece : Piece → Type 0
 IsTextPiece (Char c) = is_text_byte c ≡ true
-IsTextPiece (Variable name) = Unit {0}
+IsTextPiece (Whole part) = Unit {0}
+
+-- what stands next in braces
+abbrev pub text_of_verbatim : Verbatim → List ℕ
+text_of_verbatim (One c) = c ∷ []
+text_of_verbatim (Pair c) = 92 ∷ c ∷ []
+
+abbrev pub GivesVerbatim : Option (Verbatim × ℕ) → Step ScriptFault (List ℕ) → Type 0
+GivesVerbatim None s = s ≡ stop
+GivesVerbatim (Some x) s = s ≡ takes (λ y. text_of_verbatim x.0 ++ y) x.1
+
+abbrev pub IsTextVerbatim : Verbatim → Type 0
+IsTextVerbatim (One c) = is_text_byte c ≡ true
+IsTextVerbatim (Pair c) = is_text_byte c ≡ true

@@ -3,6 +3,7 @@ pub mod View
 pub mod Falls
 pub mod Class
 pub mod Fault
-pub mod Script
+pub mod Braces
 pub mod Reading
+pub mod Script
 pub mod Gives

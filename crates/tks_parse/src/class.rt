@@ -1,7 +1,6 @@
-ghost use Rattle.std.specs.Prelude.{◌≡◌};
+ghost use Rattle.std.specs.Prelude.{◌≡◌, ◌≤◌, length};
 ghost use Rattle.std.specs.List.{prefix_len};
-ghost use Rattle.tks_parse.specs.Class.{is_blank, is_separator, is_gap, is_name_char, is_reserved};
-ghost use Rattle.tks_parse.specs.Script.{ends_word};
+ghost use Rattle.tks_parse.specs.Class.{is_blank, is_separator, is_name_char, is_no_close_brace, begins_newline, is_fold};
 
 /// White space that separates words.
 pub fn is_blank(c: u8) -> bool
@@ -17,20 +16,6 @@ pub fn is_separator(c: u8) -> bool
     c == b'\n' || c == b';'
 }
 
-/// What may stand between commands.
-pub fn is_gap(c: u8) -> bool
-    ensures { result ≡ is_gap c }
-{
-    is_blank(c) || is_separator(c)
-}
-
-/// What ends a word without quotes.
-pub fn ends_word(c: u8) -> bool
-    ensures { result ≡ ends_word c }
-{
-    is_blank(c) || is_separator(c)
-}
-
 /// A letter, a digit or an underscore.
 fn is_name_char(c: u8) -> bool
     ensures { result ≡ is_name_char c }
@@ -38,16 +23,42 @@ fn is_name_char(c: u8) -> bool
     (b'0' <= c && c <= b'9') || (b'A' <= c && c <= b'Z') || (b'a' <= c && c <= b'z') || c == b'_'
 }
 
+/// How many blanks a text begins with.
+pub fn blank_len(text: &[u8]) -> usize
+    ensures value { result ≡ prefix_len is_blank text.now }
+    ensures bound { result ≤ length text.now }
+{
+    text.iter().take_while(|c| is_blank(**c)).count()
+}
+
 /// How many characters of a name a text begins with.
 pub fn name_len(text: &[u8]) -> usize
-    ensures { result ≡ prefix_len is_name_char text.now }
+    ensures value { result ≡ prefix_len is_name_char text.now }
+    ensures bound { result ≤ length text.now }
 {
     text.iter().take_while(|c| is_name_char(**c)).count()
 }
 
-/// Whether a byte is one of `( # [ \ ] { }`, whose rules are yet to come.
-pub fn is_reserved(c: u8) -> bool
-    ensures { result ≡ is_reserved c }
+/// How many characters stand before the first `}`.
+pub fn braced_name_len(text: &[u8]) -> usize
+    ensures value { result ≡ prefix_len is_no_close_brace text.now }
+    ensures bound { result ≤ length text.now }
 {
-    matches!(c, b'(' | b'#' | b'[' | b'\\' | b']' | b'{' | b'}')
+    text.iter().take_while(|c| **c != b'}').count()
+}
+
+fn begins_newline(text: &[u8]) -> bool
+    ensures { result ≡ begins_newline text.now }
+{
+    match text {
+        [] => false,
+        [c, ..] => *c == b'\n',
+    }
+}
+
+/// Whether a character and the text behind it are a backslash and a newline.
+pub fn is_fold(c: u8, rest: &[u8]) -> bool
+    ensures { result ≡ is_fold c rest.now }
+{
+    c == b'\\' && begins_newline(rest)
 }

@@ -1,12 +1,19 @@
 //! Scripts: their tree, and the tree that a text spells.
 #![tactic(auto)]
 
+mod braces;
+mod builder;
 mod class;
+mod commands;
+mod fault;
 mod laws;
 mod mode;
 mod reading;
 mod tree;
+mod words;
 
+pub use braces::read_braced;
+pub use builder::Piece;
 pub use laws::one_script;
-pub use reading::{is_simple, parse};
+pub use reading::{MAX_DEPTH, parse, read_nested, read_quoted, read_variable};
 pub use tree::{Command, Part, Parts, Script, Word};

@@ -1,1 +1,3 @@
-pub mod Slots
+pub mod Tables
+pub mod Changes
+pub mod Frames

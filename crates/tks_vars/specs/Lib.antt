@@ -1,2 +1,7 @@
+pub mod Table
+pub mod Lending
+pub mod Names
 pub mod Variables
+pub mod Parts
 pub mod View
+pub mod Meets

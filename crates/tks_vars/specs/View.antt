@@ -1,15 +1,11 @@
--- The plain list of variables that the code keeps, as a map.
-use Rattle.std.specs.Prelude.{◌≡◌, ℕ, List, map, length}
-use Rattle.std.specs.FinMap as fin
-use Rattle.tks_vars.specs.Variables.{Frame}
-use Rattle.tks_vars.specs.declared.vars.Variable.{Variable}
+-- What contracts see of the code's borrowed names and its frames.
+use Rattle.std.specs.Prelude.{ℕ, List, option_map}
+use Rattle.std.specs.Borrow.{Bor}
+use Rattle.tks_vars.specs.Names as names
+use Rattle.tks_vars.specs.declared.name.Name.{Name}
 
-abbrev pub pair_of : Variable → List ℕ × List ℕ
-pair_of v = (v.name, v.value)
+abbrev pub pair_seen : Bor (List ℕ) × Bor (List ℕ) → List ℕ × List ℕ
+pair_seen p = (p.0.now, p.1.now)
 
-abbrev pub frame_of : List Variable → Frame
-frame_of variables = fin.from_entries (map pair_of variables)
-
--- no name stands twice
-abbrev pub HasEachOnce : List Variable → Type 0
-HasEachOnce variables = fin.len (frame_of variables) ≡ length variables
+abbrev pub name_seen : Name → names.Name
+name_seen n = record { variable = n.variable.now; index = option_map (λ i. i.now) n.index }

@@ -1,6 +1,13 @@
-//! The variables of scripts.
+//! The variables and procedures of scripts.
 #![tactic(auto)]
 
+mod clones;
+mod content;
+mod name;
+mod procedure;
+mod table;
 mod vars;
+mod writing;
 
+pub use procedure::{Parameter, Procedure};
 pub use vars::Vars;

@@ -1,129 +1,287 @@
-ghost use Rattle.std.specs.Prelude.{◌≡◌, IfOk, OnErr, IsOk, position};
+ghost use Rattle.std.specs.Prelude.{◌≡◌, ◌<◌, length, reverse, false, IfOk, OnOk, OnErr, IsOk, option_copied};
 ghost use Rattle.std.specs.FinMap as map;
 ghost use Rattle.tks_text.specs.Fault.{Gives};
-ghost use Rattle.tks_text.specs.Text.{same_text};
-ghost use Rattle.tks_vars.specs.Variables.{value_of, with_value};
+ghost use Rattle.tks_vars.specs.Meets.{AnswersSo};
+ghost use Rattle.tks_vars.specs.Variables.{no_variables, innermost, content_of, is_global, value_at, value_of, with_value, without_at, without, exists, linked, pushed, popped, with_procedure, size_in, grown_by_value, grown_by_link};
 
+use crate::clones::CloneIn;
+use crate::content::{Content, Local, fault};
+use crate::name::named;
+use crate::procedure::Procedure;
+use crate::table::Table;
+use crate::writing::{link, take_global, take_local, write_global, write_local};
 use std::alloc::{AllocError, Global};
 use std::marker::Model;
-use tks_text::{ErrorNumber, Failure, ScriptFault, Seq, Txt};
+use tks_text::{ErrorNumber, Failure, Txt};
 
-/// The variables of scripts. Until procedures come there is one frame, that of the globals, and each
-/// text is the name of a scalar.
+/// The variables of scripts, and the procedures. Calls speak of the present frame: that of the innermost
+/// procedure, or the globals where there is none.
 #[derive(Drop)]
 pub struct Vars {
     alloc: Global,
-    globals: Seq<Variable>,
-}
-
-#[derive(Drop)]
-struct Variable {
-    name: Txt,
-    value: Txt,
+    globals: Table<Content>,
+    locals: Vec<Table<Local>>,
+    procedures: Table<Procedure>,
 }
 
 impl Model for Vars {
+    ghost use Rattle.std.specs.Prelude.{reverse};
     ghost use Rattle.tks_vars.specs.Variables.{Variables, variables_code};
 
     ghost Value = { Variables };
 
     ghost coded = { variables_code };
 
-    ghost use Rattle.tks_vars.specs.View.{frame_of, HasEachOnce};
-
-    ghost view = { λ v. record { globals = frame_of v.globals } };
-
-    ghost invariant = { λ v. HasEachOnce v.globals };
+    ghost view = { λ v. record { globals = v.globals; locals = reverse v.locals.items; procedures = v.procedures } };
 }
 
-// The place of the variable of this name.
-fn slot(variables: &[Variable], name: &Txt) -> Option<usize>
-    ensures { result ≡ position (λ v. same_text name.now v.name) variables.now }
+// The frame of the innermost procedure.
+fn innermost(locals: &[Table<Local>]) -> Option<&Table<Local>>
+    ensures { option_copied result ≡ innermost (reverse locals.now) }
 {
-    variables.iter().position(|variable| *name == variable.name)
+    locals.last()
 }
 
 impl Vars {
-    /// No variables.
+    /// No variables and no procedures, at global level.
     pub fn new(alloc: Global) -> Vars
-        ensures { result ≡ record { globals = map.empty } }
+        ensures { result ≡ no_variables }
     {
         Vars {
             alloc,
-            globals: Seq::new(alloc),
+            globals: Table::new(alloc),
+            locals: Vec::new(alloc),
+            procedures: Table::new(alloc),
         }
     }
 
-    /// How many variables the frame has.
-    pub fn len(&self) -> usize
-        ensures { result ≡ map.len self.now.globals }
+    /// How many frames of procedures there are.
+    pub fn depth(&self) -> usize
+        ensures { result ≡ length self.now.locals }
     {
-        self.globals.len()
+        self.locals.len()
     }
 
-    /// Whether there is a variable of this name.
-    pub fn contains(&self, name: &Txt) -> bool
-        ensures { result ≡ map.contains_key self.now.globals name.now }
+    // What stands under the name of a variable.
+    fn content(&self, variable: &[u8]) -> Option<&Content>
+        ensures { option_copied result ≡ content_of self.now variable.now }
     {
-        slot(self.globals.as_slice(), name).is_some()
+        match innermost(&self.locals) {
+            None => self.globals.get(variable),
+            Some(frame) => match frame.get(variable) {
+                None => None,
+                Some(Local::Own(content)) => Some(content),
+                Some(Local::Link) => self.globals.get(variable),
+            },
+        }
     }
 
-    /// The value of a variable. Where there is none of this name, the error is E11 with the name, for
-    /// which alone memory is taken.
+    // Whether the name of a variable is that of a global.
+    fn is_global(&self, variable: &[u8]) -> bool
+        ensures { result ≡ is_global (innermost self.now.locals) variable.now }
+    {
+        match innermost(&self.locals) {
+            None => true,
+            Some(frame) => matches!(frame.get(variable), Some(Local::Link)),
+        }
+    }
+
+    // The value of a variable or an element.
+    fn value(&self, name: &[u8]) -> Result<&Txt, ErrorNumber>
+        ensures { AnswersSo (λ v. v.now) result (value_at self.now name.now) }
+    {
+        let Some(name) = named(name) else {
+            return Err(ErrorNumber::BadName);
+        };
+        match self.content(name.variable) {
+            Some(content) => content.value(name.index),
+            None => Err(ErrorNumber::NoSuchVariable),
+        }
+    }
+
+    /// The value of a variable or an element. Memory is taken for the error's subject alone.
     pub fn get(&self, name: &Txt) -> Result<&Txt, Failure>
         ensures value { Gives (λ v. v.now) result (value_of self.now name.now) }
         ensures present { IsOk (value_of self.now name.now) → IsOk result }
     {
-        let variables = self.globals.as_slice();
-        match slot(variables, name) {
-            Some(index) => Ok(&variables[index].value),
-            None => {
-                let subject = Some(name.try_clone()?);
-                Err(Failure::Script(ScriptFault {
-                    number: ErrorNumber::NoSuchVariable,
-                    subject,
-                }))
-            }
+        match self.value(name.as_bytes()) {
+            Ok(value) => Ok(value),
+            Err(number) => Err(fault(number, name)),
         }
     }
 
-    /// Gives a variable a value, and makes it where it is missing.
+    /// Whether a variable or an element is there.
+    pub fn exists(&self, name: &Txt) -> Result<bool, Failure>
+        ensures { Gives (λ b. b) result (exists self.now name.now) }
+    {
+        let Some(part) = named(name.as_bytes()) else {
+            return Err(fault(ErrorNumber::BadName, name));
+        };
+        match self.content(part.variable) {
+            Some(content) => Ok(content.is_there(part.index)),
+            None => Ok(false),
+        }
+    }
+
+    /// Gives a variable or an element a value, and makes what is missing of it.
     pub fn set(&mut self, name: &Txt, value: &Txt) -> Result<(), Failure>
         ensures value { Gives (λ _. self.new) result (with_value self.old name.now value.now) }
         ensures err { OnErr result (self.new ≡ self.old) }
     {
-        let variable = Variable {
-            name: name.try_clone()?,
-            value: value.try_clone()?,
+        let Some(part) = named(name.as_bytes()) else {
+            return Err(fault(ErrorNumber::BadName, name));
         };
-        match slot(self.globals.as_slice(), name) {
-            Some(index) => {
-                self.globals.set(index, variable);
-                Ok(())
-            }
-            None => {
-                self.globals.push(variable)?;
-                Ok(())
-            }
+        let value = value.try_clone()?;
+        if self.is_global(part.variable) {
+            write_global(self.alloc, &mut self.globals, name, part, value)?;
+            return Ok(());
+        }
+        let top = self.locals.len() - 1;
+        write_local(self.alloc, &mut self.locals[top], name, part, value)?;
+        Ok(())
+    }
+
+    // Takes a variable or an element out.
+    fn take(&mut self, name: &[u8]) -> Result<(), ErrorNumber>
+        ensures value { AnswersSo (λ _. self.new) result (without_at self.old name.now) }
+        ensures err { OnErr result (self.new ≡ self.old) }
+    {
+        let Some(part) = named(name) else {
+            return Err(ErrorNumber::BadName);
+        };
+        if self.is_global(part.variable) {
+            take_global(&mut self.globals, part)?;
+            return Ok(());
+        }
+        let top = self.locals.len() - 1;
+        take_local(&mut self.locals[top], part)?;
+        Ok(())
+    }
+
+    /// Takes a variable or an element out. A link stays, and so does an array without its last element.
+    pub fn unset(&mut self, name: &Txt) -> Result<(), Failure>
+        ensures value { Gives (λ _. self.new) result (without self.old name.now) }
+        ensures err { OnErr result (self.new ≡ self.old) }
+    {
+        match self.take(name.as_bytes()) {
+            Ok(()) => Ok(()),
+            Err(number) => Err(fault(number, name)),
         }
     }
 
-    /// Equal variables.
+    /// Begins a frame without variables.
+    pub fn push_frame(&mut self) -> Result<(), AllocError>
+        ensures ok { OnOk result (self.new ≡ pushed self.old) }
+        ensures err { OnErr result (self.new ≡ self.old) }
+    {
+        self.locals.push(Table::new(self.alloc))?;
+        Ok(())
+    }
+
+    /// Ends the present frame, and its variables with it.
+    pub fn pop_frame(&mut self)
+        requires { 0 < length self.old.locals }
+        ensures { self.new ≡ popped self.old }
+    {
+        let _ended = self.locals.pop();
+    }
+
+    /// Makes a name of the present frame a link to the global of that name, whether there is one or not. At
+    /// global level nothing is done.
+    pub fn link_global(&mut self, name: &Txt) -> Result<(), Failure>
+        ensures value { Gives (λ _. self.new) result (linked self.old name.now) }
+        ensures err { OnErr result (self.new ≡ self.old) }
+    {
+        if self.locals.is_empty() {
+            return Ok(());
+        }
+        let top = self.locals.len() - 1;
+        link(&mut self.locals[top], name)?;
+        Ok(())
+    }
+
+    /// The procedure of a name.
+    pub fn procedure(&self, name: &Txt) -> Option<&Procedure>
+        ensures { option_copied result ≡ map.get self.now.procedures name.now }
+    {
+        self.procedures.get(name.as_bytes())
+    }
+
+    /// How many procedures there are.
+    pub fn procedures(&self) -> usize
+        ensures { result ≡ map.len self.now.procedures }
+    {
+        self.procedures.len()
+    }
+
+    /// Puts a procedure under a name, in the place of the one that is there.
+    pub fn set_procedure(&mut self, name: &Txt, procedure: Procedure) -> Result<(), AllocError>
+        ensures ok { OnOk result (self.new ≡ with_procedure self.old name.now procedure) }
+        ensures err { OnErr result (self.new ≡ self.old) }
+    {
+        self.procedures.insert(name.as_bytes(), procedure)?;
+        Ok(())
+    }
+
+    // How many variables there are where a name of the present frame would join them.
+    fn size(&self, variable: &[u8]) -> usize
+        ensures { result ≡ size_in self.now.globals (innermost self.now.locals) variable.now }
+    {
+        match innermost(&self.locals) {
+            None => self.globals.len(),
+            Some(frame) => match frame.get(variable) {
+                Some(Local::Link) => self.globals.len(),
+                _ => frame.len(),
+            },
+        }
+    }
+
+    /// How many members the list has that would grow by giving a name a value: the variables, where the
+    /// name is new, or else the elements of its array. None where no list would.
+    pub fn grown_by_value(&self, name: &Txt) -> Option<usize>
+        ensures { result ≡ grown_by_value self.now name.now }
+    {
+        let name = named(name.as_bytes())?;
+        match self.content(name.variable) {
+            Some(content) => content.grown(name.index),
+            None => Some(self.size(name.variable)),
+        }
+    }
+
+    /// How many variables the present frame has, where a link by this name would join them.
+    pub fn grown_by_link(&self, name: &Txt) -> Option<usize>
+        ensures { result ≡ grown_by_link self.now name.now }
+    {
+        let frame = innermost(&self.locals)?;
+        let name = named(name.as_bytes())?;
+        match name.index {
+            None if !frame.contains(name.variable) => Some(frame.len()),
+            _ => None,
+        }
+    }
+
+    /// Equal variables and procedures.
     pub fn try_clone(&self) -> Result<Vars, AllocError>
         ensures { IfOk result (λ v. v ≡ self.now) }
     {
-        let mut globals = Seq::new(self.alloc);
-        for variable in self.globals.as_slice() {
-            globals.push(Variable {
-                name: variable.name.try_clone()?,
-                value: variable.value.try_clone()?,
-            })?;
-        }
         Ok(Vars {
             alloc: self.alloc,
-            globals,
+            globals: self.globals.clone_in(self.alloc)?,
+            locals: clone_frames(self.alloc, &self.locals)?,
+            procedures: self.procedures.clone_in(self.alloc)?,
         })
     }
+}
+
+// Equal frames.
+fn clone_frames(alloc: Global, frames: &[Table<Local>]) -> Result<Vec<Table<Local>>, AllocError>
+    ensures { IfOk result (λ copy. copy.items ≡ frames.now) }
+{
+    let mut copy = Vec::new(alloc);
+    for frame in frames {
+        copy.push(frame.clone_in(alloc)?)?;
+    }
+    Ok(copy)
 }
 
 #[cfg(test)]

@@ -1,14 +1,13 @@
 -- What a script does (Tcl(n), rules 2 and 7; set(n)), by cases on its tree. What the limits say of it is
 -- this project's own rule.
-use Rattle.std.specs.Prelude.{ℕ, zero, suc, Bool, ◌||◌, ◌==◌, nat_le, nat_lt, if◌then◌else◌, List, [], ◌∷◌, ◌++◌, length, Option, Some, None, Result, Ok, Err, codes}
-use Rattle.std.specs.FinMap as map
+use Rattle.std.specs.Prelude.{ℕ, zero, suc, Bool, true, ◌||◌, ◌==◌, nat_le, nat_lt, if◌then◌else◌, List, [], ◌∷◌, ◌++◌, length, Option, Some, None, Result, Ok, Err, codes}
 use Rattle.tks_text.specs.Text.{same_text}
 use Rattle.tks_text.specs.Fault.{fault_text}
 use Rattle.tks_text.specs.declared.fault.ErrorNumber.TheVariants.{NoSuchCommand, WrongWords}
 use Rattle.tks_text.specs.declared.fault.ScriptFault.{ScriptFault}
 use Rattle.tks_text.specs.declared.limits.Limits.{Limits}
 use Rattle.tks_parse.specs.Tree.{Script, no_command, faulty, command, Words, no_word, word, Parts, no_part, char, variable, element, nested}
-use Rattle.tks_vars.specs.Variables.{Variables, value_of, with_value}
+use Rattle.tks_vars.specs.Variables.{Variables, value_of, with_value, grown_by_value}
 
 -- why a run stops
 pub data Cause : Type 0 where
@@ -82,9 +81,14 @@ module _ (limits : Limits) where
   gives (Ok value) variables = Answers 0 value variables
   gives (Err fault) variables = fails fault variables
 
-  -- whether a variable of this name may be set: one that is there, or one more
+  -- whether a list that would grow may have one member more
+  abbrev pub may_grow : Option ℕ → Bool
+  may_grow None = true
+  may_grow (Some members) = nat_lt members limits.items
+
+  -- whether a name may be given a value
   abbrev pub has_room : Variables → List ℕ → Bool
-  has_room variables name = map.contains_key variables.globals name || nat_lt (map.len variables.globals) limits.items
+  has_room variables name = may_grow (grown_by_value variables name)
 
   -- the variables after a set, with the value, or an error
   abbrev pub gives_set : Result Variables ScriptFault → List ℕ → Variables → Answer

@@ -1,7 +1,6 @@
 -- One step: what an input does to the world (this project's own rule).
-use Rattle.std.specs.Prelude.{ℕ, ◌+◌, ◌^◌, ◌||◌, ◌==◌, nat_lt, not, if◌then◌else◌, List, length}
+use Rattle.std.specs.Prelude.{ℕ, ◌+◌, ◌^◌, ◌==◌, nat_lt, if◌then◌else◌, List, length}
 use Rattle.tks_text.specs.declared.limits.Limits.{Limits}
-use Rattle.tks_parse.specs.Class.{is_simple}
 use Rattle.tks_parse.specs.Reading.{script_of}
 use Rattle.tks_vars.specs.Variables.{Variables}
 use Rattle.tks_world.specs.Evaluation.{Cause, OutOfSteps, TooDeep, OverLimit, NotYet, Outcome, End, Stopped, evaluate}
@@ -37,8 +36,8 @@ abbrev pub concluded : World → Outcome → Stepped
 concluded world (Stopped why) = Refuses (refusal_of why)
 concluded world (End code text variables fuel) = counted world code text variables
 
--- a script over the limit is bad, and so, until their rules come, is one with a reserved byte
+-- a script over the limit is bad
 abbrev pub step : World → Input → Limits → Stepped
 step world (input.Script text) limits =
-    if nat_lt limits.text (length text) || not (is_simple text) then Refuses BadInput
+    if nat_lt limits.text (length text) then Refuses BadInput
     else concluded world (evaluate limits limits.depth (script_of text) world.variables limits.fuel)

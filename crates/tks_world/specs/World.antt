@@ -1,9 +1,8 @@
 -- The world: what is kept between inputs (this project's own rule).
 use Rattle.std.specs.Prelude.{ℕ, refl}
 use Rattle.std.specs.Coded.{Coded, code_by, coded×, coded_ℕ}
-use Rattle.std.specs.FinMap as map
 use Rattle.tks_text.specs.Size.{Extent}
-use Rattle.tks_vars.specs.Variables.{Variables, variables_code}
+use Rattle.tks_vars.specs.Variables.{Variables, variables_code, no_variables}
 
 pub record World : Type 0 where
   -- how many inputs were accepted
@@ -20,4 +19,4 @@ world_code =
 
 -- the world before any input
 abbrev pub first_world : Extent → World
-first_world grid = record { accepted = 0; grid = grid; variables = record { globals = map.empty } }
+first_world grid = record { accepted = 0; grid = grid; variables = no_variables }

@@ -1,7 +1,7 @@
-ghost use Rattle.std.specs.Prelude.{◌≤◌, ◌∷◌, [], length, codes};
+ghost use Rattle.std.specs.Prelude.{◌≡◌, ◌≤◌, ◌∷◌, [], length, codes};
 ghost use Rattle.tks_vars.specs.Variables.{value_of};
 ghost use Rattle.tks_parse.specs.View.{words_of, parts_of};
-ghost use Rattle.tks_world.specs.Evaluation.{wrong_words, told, gives, parts_do, set_does, command_does, call, called, words_do, evaluate};
+ghost use Rattle.tks_world.specs.Evaluation.{wrong_words, told, gives, has_room, parts_do, set_does, command_does, call, called, words_do, evaluate};
 ghost use Rattle.tks_world.specs.Meets.{EndsSo, AnswersSo, MakesSo, FailsSo, FailureSo, GrowsSo, TakesStep};
 
 use crate::ended::{Ended, Made, Stop};
@@ -246,6 +246,16 @@ fn read_variable(
     }
 }
 
+// Whether a name may be given a value.
+fn has_room(variables: &Vars, name: &Txt, limits: &Limits) -> bool
+    ensures { result ≡ has_room limits.now variables.now name.now }
+{
+    match variables.grown_by_value(name) {
+        Some(members) => members < limits.items as usize,
+        None => true,
+    }
+}
+
 // Sets a variable.
 fn set_variable(
     alloc: Global,
@@ -256,7 +266,7 @@ fn set_variable(
 ) -> Result<Ended, Stop>
     ensures { AnswersSo (set_does limits.now (name.now ∷ value.now ∷ []) variables.old) result variables.new }
 {
-    if !variables.contains(name) && variables.len() >= limits.items as usize {
+    if !has_room(variables, name, limits) {
         return Err(Stop::TooLarge);
     }
     let text = value.try_clone()?;

@@ -26,7 +26,8 @@ pub struct Reply {
 /// Why an input was refused. The world is as it was.
 #[derive(Clone, Copy, Debug, Error)]
 pub enum Refused {
-    /// A script over the limit of a text, or, until their rules come, with a byte of `( # [ \ ] { }`.
+    /// A script over the limit of a text, or, until their rules come, one that runs into an array's
+    /// element, a script in brackets or a word behind `{*}`.
     #[error("bad input")]
     BadInput,
     /// The script would have taken one step too many.

@@ -7,7 +7,7 @@ use crate::evaluation::evaluate;
 use crate::input::{Input, Refused, Reply};
 use std::alloc::{AllocError, Global};
 use std::marker::Model;
-use tks_parse::{is_simple, parse};
+use tks_parse::parse;
 use tks_text::{Limits, Size};
 use tks_vars::Vars;
 
@@ -86,7 +86,7 @@ pub fn step(
     ensures unchanged { OnErr result (world.new ≡ world.old) }
 {
     let Input::Script(text) = input;
-    if text.len() > limits.text as usize || !is_simple(text) {
+    if text.len() > limits.text as usize {
         return Err(Refused::BadInput);
     }
     let script = parse(alloc, text)?;

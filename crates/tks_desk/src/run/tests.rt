@@ -43,7 +43,7 @@ fn answers(rt: HostRuntime) -> Result<(), Fail> {
         (b"cmd set x 5\n", "ok 1 5\nend"),
         (
             b"cmd set x 5; set y \"$x $x\"\ncmd set z\ncmd foo\ncmd set\ncmd set a [\ncmd set y\n",
-            "ok 1 5 5\nerror 2 E11 z\nerror 3 E09 foo\nerror 4 E10 set\nrefused bad\nok 5 5 5\nend",
+            "ok 1 5 5\nerror 2 E11 z\nerror 3 E09 foo\nerror 4 E10 set\nerror 5 E03\nok 6 5 5\nend",
         ),
         (b"", "end"),
         (b"cmd", "ok 1\nend"),

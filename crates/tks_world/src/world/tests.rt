@@ -49,14 +49,21 @@ fn scripts_are_answered(rt: HostRuntime) -> Result<(), Fail> {
         ("set z", "3 1 E11 z"),
         ("foo", "4 1 E09 foo"),
         ("set", "5 1 E10 set"),
-        ("set a [", "bad input"),
-        ("set a", "6 1 E11 a"),
-        ("", "7 0 "),
-        ("set a 1; set b \"c\"d", "8 1 E04"),
-        ("set a", "9 0 1"),
+        ("set a [", "6 1 E03"),
+        ("set a", "7 1 E11 a"),
+        ("", "8 0 "),
+        ("set a 1; set b \"c\"d", "9 1 E04"),
+        ("set a", "10 0 1"),
+        ("set c {d $a}\\x41; # e", "11 1 E05"),
+        ("set {c d} \"e\\\n f\"; # g", "12 0 e f"),
+        ("set c \\x41${c d}", "13 0 Ae f"),
+        ("set a 2; set c [set a]", "bad input"),
+        ("set c $a(1)", "bad input"),
+        ("set {*}{a b}", "bad input"),
+        ("set a", "14 0 1"),
     ];
     compare(&rt, rt.alloc(), &mut world, &limits, &table)?;
-    assert_eq!(rt; world.accepted(), 9);
+    assert_eq!(rt; world.accepted(), 14);
     Ok(())
 }
 

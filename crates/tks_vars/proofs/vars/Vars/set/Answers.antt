@@ -1,31 +1,45 @@
-use Rattle.std.proofs.Common.{ap, sym, ◌∙◌, subst, Ok}
-use Rattle.std.specs.Prelude.{position}
-use Rattle.std.specs.FinMap as map
-use Rattle.tks_vars.specs.Variables.{Variables, Frame, with_value}
-use Rattle.tks_vars.specs.View.{frame_of, HasEachOnce}
-use Rattle.tks_vars.proofs.Slots.{is_of, replaced, added, replaced_once, added_once}
+use Rattle.std.proofs.Common.{◌≡◌, ◌+◌, ◌-◌, ◌<◌, ◌∷◌, length, drop, Ok, sym, ap, ◌∙◌, arith}
+use Rattle.std.specs.Prelude.{reverse}
+use Rattle.std.proofs.lemmas.Result.{err_from_is_err_and}
+use Rattle.tks_vars.specs.Names.{named}
+use Rattle.tks_vars.specs.View.{name_seen}
+use Rattle.tks_vars.specs.Variables.{Variables, is_global, innermost, with_value}
+use Rattle.tks_vars.specs.Parts.{put_local}
+use Rattle.tks_vars.proofs.Frames.{some_frame, innermost_first, innermost_set, holding, sets}
+use Rattle.tks_vars.proofs.Changes.{about_after, about_failed, failed}
 use Rattle.tks_vars.proofs.vars.Vars.set.Goals as goal
 
-pub invariant_of-self : goal.invariant_of-self
-invariant_of-self c =
-    let at = ap (λ vs. position (is_of c.args.name.now) vs) (sym c.as_slice.ensures) ∙ sym c.slot.ensures ∙ c.in-Some.is in
-    subst HasEachOnce (sym c.set.ensures) (replaced_once c.args.name.now c.self.inside.globals c.in-Some.index _ c.in_ok-try_clone.ensures at c.self.invariant)
+pub returns-clause-value : goal.returns-clause-value
+returns-clause-value c =
+    let items = c.self.inside.locals.items in
+    let below = drop 1 (reverse items) in
+    let frame = c.index_mut.result.now in
+    let some : 0 < length items = some_frame items c.in-Some.part.variable.now (ap (λ (v : Variables). is_global (innermost v.locals) c.in-Some.part.variable.now) c.self.view_is ∙ sym c.is_global.ensures ∙ c.if-is_global.false) in
+    let last : (c.len-top.result - 1) + 1 ≡ length items = omega arith in
+    let all = holding c.self.inside.globals c.self.inside.procedures below in
+    let held : c.args.self.now ≡ all frame = sym c.self.view_is
+    ∙ ap (λ ls. record { globals = c.self.inside.globals; locals = ls; procedures = c.self.inside.procedures }) (innermost_first items (c.len-top.result - 1) frame last ∙ ap (λ f. f ∷ below) (sym c.index_mut.ensures.value)) in
+    let name = name_seen c.in-Some.part in
+    let is = ap named (sym c.as_bytes.ensures.value) ∙ sym c.in-Some.ensures in
+    ap (λ value. with_value c.args.self.now c.args.name.now value) (sym c.in_ok-value.ensures)
+    ∙ sets c.self.inside.globals c.self.inside.procedures below c.args.self.now frame held c.args.name.now name c.in_ok-value.value is (sym c.is_global.ensures ∙ c.if-is_global.false)
+    ∙ about_after c.args.name.now (put_local frame name c.in_ok-value.value) all c.write_local.new.frame c.in_ok-write_local.ensures.value
+    ∙ ap (λ ls. Ok (record { globals = c.self.inside.globals; locals = ls; procedures = c.self.inside.procedures })) (sym (innermost_set items (c.len-top.result - 1) c.write_local.new.frame last))
 
-pub invariant_of-self-in-None : goal.invariant_of-self-in-None
-invariant_of-self-in-None c =
-    let none = ap (λ vs. position (is_of c.args.name.now) vs) (sym c.as_slice.ensures) ∙ sym c.slot.ensures ∙ c.in-None.is in
-    subst HasEachOnce (sym c.in_ok-push-in-None.ensures.ok) (added_once c.args.name.now c.self.inside.globals _ c.in_ok-try_clone.ensures none c.self.invariant)
-
-pub returns-in-Some-clause-value : goal.returns-in-Some-clause-value
-returns-in-Some-clause-value c =
-    let at = ap (λ vs. position (is_of c.args.name.now) vs) (sym c.as_slice.ensures) ∙ sym c.slot.ensures ∙ c.in-Some.is in
-    ap (λ (v : Variables). with_value v c.args.name.now c.args.value.now) (sym c.self.view_is)
-    ∙ ap (λ value. Ok (record { globals = map.insert (frame_of c.self.inside.globals) c.args.name.now value })) (sym c.in_ok-try_clone-2.ensures)
-    ∙ ap (λ (f : Frame). Ok (record { globals = f })) (sym (ap frame_of c.set.ensures ∙ replaced c.args.name.now c.self.inside.globals c.in-Some.index _ c.in_ok-try_clone.ensures at))
-
-pub returns-in_ok-push-in-None-clause-value : goal.returns-in_ok-push-in-None-clause-value
-returns-in_ok-push-in-None-clause-value c =
-    let none = ap (λ vs. position (is_of c.args.name.now) vs) (sym c.as_slice.ensures) ∙ sym c.slot.ensures ∙ c.in-None.is in
-    ap (λ (v : Variables). with_value v c.args.name.now c.args.value.now) (sym c.self.view_is)
-    ∙ ap (λ value. Ok (record { globals = map.insert (frame_of c.self.inside.globals) c.args.name.now value })) (sym c.in_ok-try_clone-2.ensures)
-    ∙ ap (λ (f : Frame). Ok (record { globals = f })) (sym (ap frame_of c.in_ok-push-in-None.ensures.ok ∙ added c.args.name.now c.self.inside.globals _ c.in_ok-try_clone.ensures none))
+pub returns-in_err-write_local-clause-value : goal.returns-in_err-write_local-clause-value
+returns-in_err-write_local-clause-value c =
+    let p = err_from_is_err_and c.from_residual-in_err-write_local.result c.from_residual-in_err-write_local.ensures.1 in
+    let items = c.self.inside.locals.items in
+    let below = drop 1 (reverse items) in
+    let frame = c.index_mut.result.now in
+    let some : 0 < length items = some_frame items c.in-Some.part.variable.now (ap (λ (v : Variables). is_global (innermost v.locals) c.in-Some.part.variable.now) c.self.view_is ∙ sym c.is_global.ensures ∙ c.if-is_global.false) in
+    let last : (c.len-top.result - 1) + 1 ≡ length items = omega arith in
+    let all = holding c.self.inside.globals c.self.inside.procedures below in
+    let held : c.args.self.now ≡ all frame = sym c.self.view_is
+    ∙ ap (λ ls. record { globals = c.self.inside.globals; locals = ls; procedures = c.self.inside.procedures }) (innermost_first items (c.len-top.result - 1) frame last ∙ ap (λ f. f ∷ below) (sym c.index_mut.ensures.value)) in
+    let name = name_seen c.in-Some.part in
+    let is = ap named (sym c.as_bytes.ensures.value) ∙ sym c.in-Some.ensures in
+    rw (p.1, p.2) (failed {X = Unit {0}} {X' = Unit {0}} (λ _. frame) (λ _. c.args.self.now) c.in_err-write_local.field-0.0 _ _ (λ fault e.
+    ap (λ value. with_value c.args.self.now c.args.name.now value) (sym c.in_ok-value.ensures)
+    ∙ sets c.self.inside.globals c.self.inside.procedures below c.args.self.now frame held c.args.name.now name c.in_ok-value.value is (sym c.is_global.ensures ∙ c.if-is_global.false)
+    ∙ about_failed c.args.name.now (put_local frame name c.in_ok-value.value) all fault e) c.in_err-write_local.ensures.value)

@@ -1,0 +1,103 @@
+-- Changes of the innermost frame, which the code keeps last.
+use Rattle.std.proofs.Common.{◌≡◌, ℕ, ◌+◌, ◌<◌, false, if◌then◌else◌, List, [], ◌∷◌, ◌++◌, length, drop, get_or, Option, Some, None, Result, Ok, Err, refl, sym, subst, ap, ◌∙◌, arith}
+use Rattle.std.specs.Prelude.{reverse, slice_set}
+use Rattle.std.proofs.lemmas.List.{reverse-append}
+use Rattle.std.specs.FinMap as map
+use Rattle.tks_text.specs.declared.fault.ErrorNumber.{ErrorNumber}
+use Rattle.tks_vars.specs.Table.{Map}
+use Rattle.tks_vars.specs.Names.{Name, named}
+use Rattle.tks_vars.specs.Variables.{Variables, Frame, about, after, written, taken, on_name, is_link, is_global, innermost, seen_through, with_value, without_at, with_link, linked, content_of, with_content, left_with}
+use Rattle.tks_vars.specs.Parts.{own, local_left, put_local, take_local}
+use Rattle.tks_vars.specs.declared.content.Content.{Content}
+use Rattle.tks_vars.specs.declared.content.Local.{Local}
+use Rattle.tks_vars.specs.declared.content.Local.TheVariants.{Own, Link}
+use Rattle.tks_vars.specs.declared.procedure.Procedure.{Procedure}
+
+module _ {A : Type 0} where
+  last_first : (x : A) (xs : List A) (d : A) → reverse (x ∷ xs) ≡ get_or (x ∷ xs) (length xs) d ∷ drop 1 (reverse (x ∷ xs))
+  last_first x [] d = refl
+  last_first x (y ∷ xs) d =
+      subst (λ (r : List A). r ≡ get_or (y ∷ xs) (length xs) d ∷ drop 1 r) (sym (reverse-append (x ∷ []) (y ∷ xs)))
+      (subst (λ (r : List A). r ++ x ∷ [] ≡ get_or (y ∷ xs) (length xs) d ∷ drop 1 (r ++ x ∷ [])) (sym (last_first y xs d)) refl)
+
+  last_set : (x : A) (xs : List A) (y : A) → reverse (slice_set (x ∷ xs) (length xs) y) ≡ y ∷ drop 1 (reverse (x ∷ xs))
+  last_set x [] y = refl
+  last_set x (z ∷ xs) y =
+      reverse-append (x ∷ []) (slice_set (z ∷ xs) (length xs) y) ∙ ap (λ r. r ++ x ∷ []) (last_set z xs y)
+      ∙ subst (λ (r : List A). (y ∷ drop 1 r) ++ x ∷ [] ≡ y ∷ drop 1 (r ++ x ∷ [])) (sym (last_first z xs y)) refl
+      ∙ ap (λ r. y ∷ drop 1 r) (sym (reverse-append (x ∷ []) (z ∷ xs)))
+
+  -- the last item of a list, which comes first in reverse
+  pub innermost_first : (xs : List A) (k : ℕ) (d : A) → k + 1 ≡ length xs → reverse xs ≡ get_or xs k d ∷ drop 1 (reverse xs)
+  innermost_first [] k d e = absurd (omega arith)
+  innermost_first (x ∷ xs) k d e = let same : length xs ≡ k = omega arith in subst (λ i. reverse (x ∷ xs) ≡ get_or (x ∷ xs) i d ∷ drop 1 (reverse (x ∷ xs))) same (last_first x xs d)
+
+  pub innermost_set : (xs : List A) (k : ℕ) (y : A) → k + 1 ≡ length xs → reverse (slice_set xs k y) ≡ y ∷ drop 1 (reverse xs)
+  innermost_set [] k y e = absurd (omega arith)
+  innermost_set (x ∷ xs) k y e = let same : length xs ≡ k = omega arith in subst (λ i. reverse (slice_set (x ∷ xs) i y) ≡ y ∷ drop 1 (reverse (x ∷ xs))) same (last_set x xs y)
+
+-- where a name is no global's there is a frame
+pub some_frame : (frames : List Frame) (variable : List ℕ) → is_global (innermost (reverse frames)) variable ≡ false → 0 < length frames
+some_frame [] variable local = absurd cc
+some_frame (frame ∷ below) variable local = omega arith
+
+seen_own : (o : Option Local) (global : Option Content) → is_link o ≡ false → seen_through o global ≡ own o
+seen_own None global e = refl
+seen_own (Some (Own content)) global e = refl
+seen_own (Some Link) global e = absurd cc
+
+after_same : {X Y : Type 0} (r : Result X ErrorNumber) (f g : X → Y) → ((x : X) → f x ≡ g x) → after r f ≡ after r g
+after_same (Ok x) f g h = ap Ok (h x)
+after_same (Err number) f g h = refl
+
+after_both : {X Y W : Type 0} (r : Result X ErrorNumber) (f : X → Y) (g : Y → W) → after (after r f) g ≡ after r (λ x. g (f x))
+after_both (Ok x) f g = refl
+after_both (Err number) f g = refl
+
+module _ (globals : Map Content) (procedures : Map Procedure) (below : List Frame) where
+  -- all variables, by the innermost frame
+  abbrev pub holding : Frame → Variables
+  holding frame = record { globals = globals; locals = frame ∷ below; procedures = procedures }
+
+  module _ (frame : Frame) (name : Name) (no_link : is_link (map.get frame name.variable) ≡ false) where
+    reads_own : content_of (holding frame) name.variable ≡ own (map.get frame name.variable)
+    reads_own = seen_own (map.get frame name.variable) (map.get globals name.variable) no_link
+
+    puts_own : (c : Content) → with_content (holding frame) name.variable c ≡ holding (map.insert frame name.variable (Own c))
+    puts_own c = ap (λ b. if b then record (holding frame) { globals = map.insert globals name.variable c } else holding (map.insert frame name.variable (Own c))) no_link
+
+    leaves_own : (o : Option Content) → left_with (holding frame) name.variable o ≡ holding (local_left frame name.variable o)
+    leaves_own None = ap (λ b. if b then record (holding frame) { globals = map.remove globals name.variable } else holding (map.remove frame name.variable)) no_link
+    leaves_own (Some c) = puts_own c
+
+    local_put : (value : List ℕ) → after (written (content_of (holding frame) name.variable) name.index value) (with_content (holding frame) name.variable) ≡ after (put_local frame name value) holding
+    local_put value =
+        ap (λ (o : Option Content). after (written o name.index value) (with_content (holding frame) name.variable)) reads_own
+        ∙ after_same (written (own (map.get frame name.variable)) name.index value) _ _ puts_own
+        ∙ sym (after_both (written (own (map.get frame name.variable)) name.index value) (λ c. map.insert frame name.variable (Own c)) holding)
+
+    local_taken : after (taken (content_of (holding frame) name.variable) name.index) (left_with (holding frame) name.variable) ≡ after (take_local frame name) holding
+    local_taken =
+        ap (λ (o : Option Content). after (taken o name.index) (left_with (holding frame) name.variable)) reads_own
+        ∙ after_same (taken (own (map.get frame name.variable)) name.index) _ _ leaves_own
+        ∙ sym (after_both (taken (own (map.get frame name.variable)) name.index) (local_left frame name.variable) holding)
+
+  module _ (now : Variables) (frame : Frame) (held : now ≡ holding frame) (text : List ℕ) where
+    no_link_in : (name : Name) → is_global (innermost now.locals) name.variable ≡ false → is_link (map.get frame name.variable) ≡ false
+    no_link_in name local = ap (λ (v : Variables). is_global (innermost v.locals) name.variable) (sym held) ∙ local
+
+    -- a change of a procedure's own variable is one of the innermost frame
+    pub sets : (name : Name) (value : List ℕ) → named text ≡ Some name → is_global (innermost now.locals) name.variable ≡ false → with_value now text value ≡ about text (after (put_local frame name value) holding)
+    sets name value is local =
+        ap (λ v. with_value v text value) held
+        ∙ ap (λ (n : Option Name). about text (on_name n (λ name. after (written (content_of (holding frame) name.variable) name.index value) (with_content (holding frame) name.variable)))) is
+        ∙ ap (about text) (local_put frame name (no_link_in name local) value)
+
+    pub takes : (name : Name) → named text ≡ Some name → is_global (innermost now.locals) name.variable ≡ false → without_at now text ≡ after (take_local frame name) holding
+    takes name is local =
+        ap (λ v. without_at v text) held
+        ∙ ap (λ (n : Option Name). on_name n (λ name. after (taken (content_of (holding frame) name.variable) name.index) (left_with (holding frame) name.variable))) is
+        ∙ local_taken frame name (no_link_in name local)
+
+    pub links : linked now text ≡ about text (after (with_link frame text) holding)
+    links = ap (λ v. linked v text) held

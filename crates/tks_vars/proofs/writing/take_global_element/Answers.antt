@@ -1,0 +1,12 @@
+use Rattle.tks_vars.proofs.Changes.{at_some, on_err, unchanged, take_there}
+use Rattle.tks_vars.proofs.writing.take_global_element.Goals as goal
+
+pub returns-in_err-take-in-Some-clause-err : goal.returns-in_err-take-in-Some-clause-err
+returns-in_err-take-in-Some-clause-err c =
+    on_err c.from_residual.result (unchanged c.args.globals.now _ c.args.variable.now c.in-Some.content.now c.take.new.self c.in-Some.ensures.value c.in_err-take-in-Some.ensures.err
+    (at_some c.get_mut.result c.in-Some.content c.in-Some.is (c.get_mut.follows.holds c.take.new.self)))
+
+pub returns-in_ok-take-in-Some-clause-value : goal.returns-in_ok-take-in-Some-clause-value
+returns-in_ok-take-in-Some-clause-value c =
+    take_there c.args.globals.now _ c.args.variable.now c.args.index.now c.in-Some.content.now c.take.new.self c.in-Some.ensures.value c.in_ok-take-in-Some.ensures.value
+    (at_some c.get_mut.result c.in-Some.content c.in-Some.is (c.get_mut.follows.holds c.take.new.self))

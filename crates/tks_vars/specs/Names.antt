@@ -1,0 +1,40 @@
+-- The names of variables (Tcl(n), rule 8; set(n)).
+use Rattle.std.specs.Prelude.{ℕ, ◌+◌, ◌-◌, ◌==◌, if◌then◌else◌, List, [], ◌∷◌, length, take, drop, Option, Some, None, option_map, position, codes}
+use Rattle.tks_text.specs.Text.{same_text}
+
+-- a variable, and, where an element of it is named, the index
+pub record Name : Type 0 where
+  pub variable : List ℕ
+  pub index : Option (List ℕ)
+
+-- the parts of a text before and behind its first `(`
+abbrev pub halves : List ℕ → Option (List ℕ × List ℕ)
+halves text = option_map (λ open_at. (take open_at text, drop (open_at + 1) text)) (position (λ b. b == 40) text)
+
+-- a text without the `)` that it ends with
+abbrev pub closed : List ℕ → Option (List ℕ)
+closed text = if same_text (drop (length text - 1) text) (codes ")") then Some (take (length text - 1) text) else None
+
+abbrev pub whole : List ℕ → Name
+whole text = record { variable = text; index = None }
+
+abbrev pub element : List ℕ → List ℕ → Name
+element variable index = record { variable = variable; index = Some index }
+
+-- no variable has the empty name and elements
+abbrev pub element_named : List ℕ → List ℕ → Option Name
+element_named [] index = None
+element_named (c ∷ variable) index = Some (element (c ∷ variable) index)
+
+abbrev pub named_behind : List ℕ → List ℕ → Option (List ℕ) → Option Name
+named_behind text variable None = Some (whole text)
+named_behind text variable (Some index) = element_named variable index
+
+abbrev pub named_in : List ℕ → Option (List ℕ × List ℕ) → Option Name
+named_in text None = Some (whole text)
+named_in text (Some parts) = named_behind text parts.0 (closed parts.1)
+
+-- what a text says as a name: one that holds `(` and ends with `)` is that of an element of the variable
+-- before the first `(`, and none where nothing stands before it; any other is that of a whole variable
+abbrev pub named : List ℕ → Option Name
+named text = named_in text (halves text)

@@ -1,0 +1,158 @@
+ghost use Rattle.std.specs.Prelude.{◌≡◌, OnErr, false};
+ghost use Rattle.std.specs.FinMap as map;
+ghost use Rattle.tks_text.specs.Fault.{Gives};
+ghost use Rattle.tks_vars.specs.Meets.{AnswersSo};
+ghost use Rattle.tks_vars.specs.View.{name_seen};
+ghost use Rattle.tks_vars.specs.Variables.{about, is_link, with_link};
+ghost use Rattle.tks_vars.specs.Parts.{put_global, put_local, without_name, take_global, take_local};
+ghost use Rattle.tks_vars.specs.Names.{element};
+
+use crate::content::{Content, Local, fault};
+use crate::name::{Name, named};
+use crate::table::Table;
+use std::alloc::Global;
+use tks_text::{ErrorNumber, Failure, Txt};
+
+/// Gives a global, or an element of one, a value. The error tells the name.
+pub fn write_global(
+    alloc: Global,
+    globals: &mut Table<Content>,
+    name: &Txt,
+    part: Name<'_>,
+    value: Txt,
+) -> Result<(), Failure>
+    ensures value { Gives (λ _. globals.new) result (about name.now (put_global globals.old (name_seen part.entry) value)) }
+    ensures err { OnErr result (globals.new ≡ globals.old) }
+{
+    match globals.get_mut(part.variable) {
+        Some(content) => {
+            content.write(name, part.index, value)?;
+            Ok(())
+        }
+        None => {
+            globals.insert(part.variable, Content::of(alloc, part.index, value)?)?;
+            Ok(())
+        }
+    }
+}
+
+/// The same of a procedure's own variable.
+pub fn write_local(
+    alloc: Global,
+    frame: &mut Table<Local>,
+    name: &Txt,
+    part: Name<'_>,
+    value: Txt,
+) -> Result<(), Failure>
+    requires { is_link (map.get frame.old part.variable.now) ≡ false }
+    ensures value { Gives (λ _. frame.new) result (about name.now (put_local frame.old (name_seen part.entry) value)) }
+    ensures err { OnErr result (frame.new ≡ frame.old) }
+{
+    match frame.get_mut(part.variable) {
+        Some(local) => {
+            local.write(name, part.index, value)?;
+            Ok(())
+        }
+        None => {
+            let content = Content::of(alloc, part.index, value)?;
+            frame.insert(part.variable, Local::Own(content))?;
+            Ok(())
+        }
+    }
+}
+
+/// Takes a global, or an element of one, out.
+pub fn take_global(globals: &mut Table<Content>, part: Name<'_>) -> Result<(), ErrorNumber>
+    ensures value { AnswersSo (λ _. globals.new) result (take_global globals.old (name_seen part.entry)) }
+    ensures err { OnErr result (globals.new ≡ globals.old) }
+{
+    match part.index {
+        Some(index) => take_global_element(globals, part.variable, index),
+        None => take_whole(globals, part.variable),
+    }
+}
+
+/// The same of a procedure's own variable.
+pub fn take_local(frame: &mut Table<Local>, part: Name<'_>) -> Result<(), ErrorNumber>
+    requires { is_link (map.get frame.old part.variable.now) ≡ false }
+    ensures value { AnswersSo (λ _. frame.new) result (take_local frame.old (name_seen part.entry)) }
+    ensures err { OnErr result (frame.new ≡ frame.old) }
+{
+    match part.index {
+        Some(index) => take_local_element(frame, part.variable, index),
+        None => take_whole(frame, part.variable),
+    }
+}
+
+// Takes a name out with all that stands under it.
+fn take_whole<V: Drop>(table: &mut Table<V>, variable: &[u8]) -> Result<(), ErrorNumber>
+    ensures value { AnswersSo (λ _. table.new) result (without_name table.old variable.now) }
+    ensures err { OnErr result (table.new ≡ table.old) }
+{
+    if !table.contains(variable) {
+        return Err(ErrorNumber::NoSuchVariable);
+    }
+    table.remove(variable);
+    Ok(())
+}
+
+// Takes an element of a global out.
+fn take_global_element(
+    globals: &mut Table<Content>,
+    variable: &[u8],
+    index: &[u8],
+) -> Result<(), ErrorNumber>
+    ensures value { AnswersSo (λ _. globals.new) result (take_global globals.old (element variable.now index.now)) }
+    ensures err { OnErr result (globals.new ≡ globals.old) }
+{
+    match globals.get_mut(variable) {
+        Some(content) => {
+            content.take(index)?;
+            Ok(())
+        }
+        None => Err(ErrorNumber::NoSuchVariable),
+    }
+}
+
+// The same of a procedure's own variable.
+fn take_local_element(
+    frame: &mut Table<Local>,
+    variable: &[u8],
+    index: &[u8],
+) -> Result<(), ErrorNumber>
+    requires { is_link (map.get frame.old variable.now) ≡ false }
+    ensures value { AnswersSo (λ _. frame.new) result (take_local frame.old (element variable.now index.now)) }
+    ensures err { OnErr result (frame.new ≡ frame.old) }
+{
+    match frame.get_mut(variable) {
+        Some(local) => {
+            local.take(index)?;
+            Ok(())
+        }
+        None => Err(ErrorNumber::NoSuchVariable),
+    }
+}
+
+/// Makes a name of a procedure's frame a link.
+pub fn link(frame: &mut Table<Local>, name: &Txt) -> Result<(), Failure>
+    ensures value { Gives (λ _. frame.new) result (about name.now (with_link frame.old name.now)) }
+    ensures err { OnErr result (frame.new ≡ frame.old) }
+{
+    let Some(
+        Name {
+            variable,
+            index: None,
+        },
+    ) = named(name.as_bytes())
+    else {
+        return Err(fault(ErrorNumber::BadName, name));
+    };
+    match frame.get(variable) {
+        None => {
+            frame.insert(variable, Local::Link)?;
+            Ok(())
+        }
+        Some(Local::Link) => Ok(()),
+        Some(Local::Own(_)) => Err(fault(ErrorNumber::BadName, name)),
+    }
+}
