@@ -1,0 +1,5 @@
+pub mod Loops
+pub mod Matching
+pub mod Spelled
+pub mod Told
+pub mod Joined

@@ -1,0 +1,46 @@
+-- What the code returned, against what reading gives, unless memory was refused.
+use Rattle.std.specs.Prelude.{◌≡◌, ℕ, List, ◌∷◌, ◌++◌, Option, Some, None, option_to_list, Result, Ok, Err}
+use Rattle.tks_text.specs.Run.{Step, stop, fails, takes, Run}
+use Rattle.tks_list.specs.ListText.{Splits}
+use Rattle.tks_list.specs.declared.fault.ListFault.{ListFault}
+use Rattle.tks_list.specs.declared.fault.ListFault.TheVariants.{NoMemory, NotAList}
+
+abbrev pub FailsStep : {R : Type 0} → ListFault → Step ListFault R → Type 0
+FailsStep NoMemory s = Unit {0}
+FailsStep NotAList s = s ≡ fails NotAList
+
+-- the step that was found: none, one with this view, or a fault
+abbrev pub GivesStep : {X R : Type 0} → (X → Step ListFault R) → Result (Option X) ListFault → Step ListFault R → Type 0
+GivesStep view (Ok None) s = s ≡ stop
+GivesStep view (Ok (Some x)) s = s ≡ view x
+GivesStep view (Err e) s = FailsStep e s
+
+abbrev pub FailsRun : {R : Type 0} → ListFault → Run ListFault R → Type 0
+FailsRun NoMemory r = Unit {0}
+FailsRun NotAList r = r.fault ≡ Some NotAList
+
+-- the items that were found, with this view, or a fault
+abbrev pub GivesRun : {X R : Type 0} → (X → Run ListFault R) → Result X ListFault → Run ListFault R → Type 0
+GivesRun view (Ok x) r = r ≡ view x
+GivesRun view (Err e) r = FailsRun e r
+
+abbrev pub taken_char : ℕ × ℕ → Step ListFault (List ℕ)
+taken_char x = takes (λ e. x.0 ∷ e) x.1
+
+abbrev pub run_of_chars : List ℕ × ℕ → Run ListFault (List ℕ)
+run_of_chars x = record { items = x.0; fault = None; taken = x.1 }
+
+abbrev pub taken_element : Option (List ℕ) × ℕ → Step ListFault (List (List ℕ))
+taken_element x = takes (λ l. option_to_list x.0 ++ l) x.1
+
+-- the list that a call read, or that there is none
+abbrev pub ListRead : Result (List (List ℕ)) ListFault → Option (List (List ℕ)) → Type 0
+ListRead (Ok l) o = o ≡ Some l
+ListRead (Err NotAList) o = o ≡ None
+ListRead (Err NoMemory) o = Unit {0}
+
+-- the same of the text: it splits into the list, or into none
+abbrev pub SplitsSo : Result (List (List ℕ)) ListFault → List ℕ → Type 0
+SplitsSo (Ok l) t = Splits t l
+SplitsSo (Err NotAList) t = (l : List (List ℕ)) → ¬ Splits t l
+SplitsSo (Err NoMemory) t = Unit {0}

@@ -1,0 +1,4 @@
+pub mod ListText
+pub mod Reading
+pub mod Gives
+pub mod Quoting

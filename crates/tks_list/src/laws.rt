@@ -1,0 +1,14 @@
+ghost use Rattle.std.specs.Prelude.{◌≡◌, ◌↔◌, List, ℕ, Some};
+ghost use Rattle.tks_list.specs.ListText.{Splits};
+ghost use Rattle.tks_list.specs.Quoting.{joined};
+ghost use Rattle.tks_list.specs.Reading.{list_of};
+
+/// Each text splits into one list, the one that is read, or into none.
+pub fn one_list()
+    ensures { (t : List ℕ) (l : List (List ℕ)) → Splits t l ↔ (list_of t ≡ Some l) }
+{}
+
+/// The join of a list splits into that list.
+pub fn join_splits_back()
+    ensures { (l : List (List ℕ)) → Splits (joined l) l }
+{}

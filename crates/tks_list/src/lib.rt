@@ -1,0 +1,14 @@
+//! Lists as texts: what a text splits into, and how elements are written.
+#![tactic(auto)]
+
+mod braces;
+mod ends;
+mod fault;
+mod laws;
+mod reading;
+mod writing;
+
+pub use fault::ListFault;
+pub use laws::{join_splits_back, one_list};
+pub use reading::split;
+pub use writing::{backslash_form, join, quote};
