@@ -1,0 +1,10 @@
+pub mod Cause
+pub mod Words
+pub mod Index
+pub mod Variables
+pub mod Lists
+pub mod Strings
+pub mod Codes
+pub mod Names
+pub mod Plain
+pub mod Meets

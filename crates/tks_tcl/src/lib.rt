@@ -1,0 +1,17 @@
+//! The commands of scripts that run no script.
+#![tactic(auto)]
+
+mod calls;
+mod codes;
+mod command;
+mod index;
+mod interrupt;
+mod lists;
+mod stop;
+mod strings;
+mod variables;
+mod words;
+
+pub use calls::plain;
+pub use command::is_built_in;
+pub use stop::Stop;

@@ -1,0 +1,313 @@
+ghost use Rattle.std.specs.Prelude.{◌≡◌, ◌==◌, ◌<◌, ◌≤◌, ◌^◌, ◌++◌, ◌∷◌, [], length, map, filter, not, IfSome, IfOk, OnOk, position};
+ghost use Rattle.std.specs.List.{prefix_len};
+ghost use Rattle.tks_text.specs.Text.{same_text, IsText};
+ghost use Rattle.tks_text.specs.Integer.{is_space};
+ghost use Rattle.tks_tcl.specs.Meets.{GivesSo};
+ghost use Rattle.tks_tcl.specs.Lists.{first_or_empty, place_text, separated, joined_by, without_end, trimmed, concatenated, is_among, fields, split_at, llength_does, lindex_does, lrange_does, searched, lsearch_does, join_does, split_does, list_does};
+
+use crate::index::{index_in, range};
+use crate::interrupt::{Interrupt, error_about, wrong_words};
+use crate::words::{count_text, list_in};
+use std::alloc::{AllocError, Global};
+use tks_list::join;
+use tks_text::{ErrorNumber, Seq, Txt, is_space};
+
+/// The commands on lists.
+#[derive(Clone, Copy)]
+pub enum ListCommand {
+    Concat,
+    Join,
+    Lindex,
+    List,
+    Llength,
+    Lrange,
+    Lsearch,
+    Split,
+}
+
+impl ListCommand {
+    /// What the command answers, given its first word and the others.
+    pub fn run(self, alloc: Global, command: &Txt, words: &[Txt]) -> Result<Txt, Interrupt>
+        ensures { GivesSo (λ t. t) result (list_does self command.now words.now) }
+    {
+        match self {
+            ListCommand::Concat => Ok(concatenated(alloc, words)?),
+            ListCommand::Join => run_join(alloc, command, words),
+            ListCommand::Lindex => run_lindex(alloc, command, words),
+            ListCommand::List => Ok(join(alloc, words)?),
+            ListCommand::Llength => run_llength(alloc, command, words),
+            ListCommand::Lrange => run_lrange(alloc, command, words),
+            ListCommand::Lsearch => run_lsearch(alloc, command, words),
+            ListCommand::Split => run_split(alloc, command, words),
+        }
+    }
+}
+
+// llength l
+#[tactic(auto, using(crate::proofs::Causes::tells))]
+fn run_llength(alloc: Global, command: &Txt, words: &[Txt]) -> Result<Txt, Interrupt>
+    ensures { GivesSo (λ t. t) result (llength_does command.now words.now) }
+{
+    match words {
+        [list] => {
+            let list = list_in(alloc, list)?;
+            Ok(count_text(alloc, list.len())?)
+        }
+        _ => Err(wrong_words(command)),
+    }
+}
+
+// The first member, or the empty text.
+fn first_or_empty(alloc: Global, list: &[Txt]) -> Result<Txt, AllocError>
+    ensures { IfOk result (λ t. t ≡ first_or_empty list.now) }
+{
+    match list {
+        [] => Ok(Txt::new(alloc)),
+        [element, ..] => element.try_clone(),
+    }
+}
+
+// lindex l i
+#[tactic(auto, using(crate::proofs::Causes::tells))]
+fn run_lindex(alloc: Global, command: &Txt, words: &[Txt]) -> Result<Txt, Interrupt>
+    ensures { GivesSo (λ t. t) result (lindex_does command.now words.now) }
+{
+    match words {
+        [list, index] => {
+            let list = list_in(alloc, list)?;
+            let index = index_in(alloc, index)?;
+            Ok(first_or_empty(alloc, range(list.as_slice(), index, index))?)
+        }
+        _ => Err(wrong_words(command)),
+    }
+}
+
+// lrange l a b
+#[tactic(auto, using(crate::proofs::Causes::tells))]
+fn run_lrange(alloc: Global, command: &Txt, words: &[Txt]) -> Result<Txt, Interrupt>
+    ensures { GivesSo (λ t. t) result (lrange_does command.now words.now) }
+{
+    match words {
+        [list, first, last] => {
+            let list = list_in(alloc, list)?;
+            let first = index_in(alloc, first)?;
+            let last = index_in(alloc, last)?;
+            Ok(join(alloc, range(list.as_slice(), first, last))?)
+        }
+        _ => Err(wrong_words(command)),
+    }
+}
+
+// The place of the first element with this value.
+fn place(list: &[Txt], value: &Txt) -> Option<usize>
+    ensures bound { IfSome result (λ n. n < length list.now) }
+    ensures value { result ≡ position (λ element. same_text element value.now) list.now }
+{
+    list.iter().position(|element| element == value)
+}
+
+// A place as a text.
+fn place_text(alloc: Global, place: Option<usize>) -> Result<Txt, AllocError>
+    requires { IfSome place (λ n. n < 2 ^ 63) }
+    ensures { IfOk result (λ t. t ≡ place_text place) }
+{
+    match place {
+        Some(place) => count_text(alloc, place),
+        None => Txt::from_text(alloc, b"-1"),
+    }
+}
+
+// The place of an element in a list.
+fn searched(alloc: Global, list: &Txt, value: &Txt) -> Result<Txt, Interrupt>
+    ensures { GivesSo (λ t. t) result (searched list.now value.now) }
+{
+    let list = list_in(alloc, list)?;
+    let found = place(list.as_slice(), value);
+    let text = place_text(alloc, found)?;
+    Ok(text)
+}
+
+// lsearch -exact l v
+#[tactic(auto, using(crate::proofs::Causes::tells))]
+fn run_lsearch(alloc: Global, command: &Txt, words: &[Txt]) -> Result<Txt, Interrupt>
+    ensures { GivesSo (λ t. t) result (lsearch_does command.now words.now) }
+{
+    match words {
+        [option, list, value] => {
+            if option.as_bytes() == b"-exact".as_slice() {
+                searched(alloc, list, value)
+            } else {
+                Err(error_about(ErrorNumber::UnknownOption, option))
+            }
+        }
+        _ => Err(wrong_words(command)),
+    }
+}
+
+// Adds texts, each with a separator before it.
+fn push_separated(text: &mut Txt, more: &[Txt], separator: &Txt) -> Result<(), AllocError>
+    ensures { OnOk result (text.new ≡ text.old ++ separated separator.now more.now) }
+{
+    for next in more {
+        text.append(separator)?;
+        text.append(next)?;
+    }
+    Ok(())
+}
+
+// Texts with a separator between them.
+fn joined_by(alloc: Global, texts: &[Txt], separator: &Txt) -> Result<Txt, AllocError>
+    ensures { IfOk result (λ t. t ≡ joined_by separator.now texts.now) }
+{
+    let mut text = Txt::new(alloc);
+    if let [first, rest @ ..] = texts {
+        text.append(first)?;
+        push_separated(&mut text, rest, separator)?;
+    }
+    Ok(text)
+}
+
+// join l ?sep?
+#[tactic(auto, using(crate::proofs::Causes::tells))]
+fn run_join(alloc: Global, command: &Txt, words: &[Txt]) -> Result<Txt, Interrupt>
+    ensures { GivesSo (λ t. t) result (join_does command.now words.now) }
+{
+    match words {
+        [list] => {
+            let list = list_in(alloc, list)?;
+            let space = Txt::from_text(alloc, b" ")?;
+            Ok(joined_by(alloc, list.as_slice(), &space)?)
+        }
+        [list, separator] => {
+            let list = list_in(alloc, list)?;
+            Ok(joined_by(alloc, list.as_slice(), separator)?)
+        }
+        _ => Err(wrong_words(command)),
+    }
+}
+
+// A text without the white space at its end.
+#[tactic(auto, using(crate::proofs::Parts::space_falls, crate::proofs::Parts::other_stays))]
+fn without_end(text: &[u8]) -> &[u8]
+    requires { IsText text.now }
+    ensures value { result.now ≡ without_end text.now }
+    ensures text { IsText result.now }
+{
+    let mut rest = text;
+    'ends: while let Some((c, front)) = rest.split_last() {
+        if !is_space(*c) {
+            return rest;
+        }
+        rest = front;
+    }
+    rest
+}
+
+// How many bytes of white space the text begins with.
+fn space_len(text: &[u8]) -> usize
+    ensures value { result ≡ prefix_len is_space text.now }
+    ensures bound { result ≤ length text.now }
+{
+    text.iter().take_while(|byte| is_space(**byte)).count()
+}
+
+// A text without the white space around it.
+#[tactic(auto, using(tks_text::proofs::Texts::text_drop))]
+fn trimmed(alloc: Global, text: &Txt) -> Result<Txt, AllocError>
+    ensures { IfOk result (λ t. t ≡ trimmed text.now) }
+{
+    let bytes = text.as_bytes();
+    Txt::from_text(alloc, without_end(bytes.split_at(space_len(bytes)).1))
+}
+
+// Adds a text that isn't empty.
+fn push_some(list: &mut Seq<Txt>, text: Txt) -> Result<(), AllocError>
+    ensures { OnOk result (list.new ≡ list.old ++ filter (λ t. not (length t == 0)) (text ∷ [])) }
+{
+    if !text.is_empty() {
+        list.push(text)?;
+    }
+    Ok(())
+}
+
+// concat ..
+fn concatenated(alloc: Global, words: &[Txt]) -> Result<Txt, AllocError>
+    ensures { IfOk result (λ t. t ≡ concatenated words.now) }
+{
+    let mut kept = Seq::new(alloc);
+    for word in words {
+        push_some(&mut kept, trimmed(alloc, word)?)?;
+    }
+    let space = Txt::from_text(alloc, b" ")?;
+    joined_by(alloc, kept.as_slice(), &space)
+}
+
+// How many bytes stand before the first separator.
+fn field_len(separators: &[u8], text: &[u8]) -> usize
+    ensures value { result ≡ prefix_len (λ c. not (is_among separators.now c)) text.now }
+    ensures bound { result ≤ length text.now }
+{
+    text.iter().take_while(|c| !separators.contains(*c)).count()
+}
+
+// The fields of a text between separators.
+#[tactic(auto, using(crate::proofs::Parts::field_ends, crate::proofs::Parts::last_field, tks_text::proofs::Texts::text_drop))]
+fn fields(alloc: Global, separators: &[u8], text: &[u8]) -> Result<Seq<Txt>, AllocError>
+    requires { IsText text.now }
+    ensures { IfOk result (λ l. l ≡ fields separators.now text.now) }
+{
+    let mut list = Seq::new(alloc);
+    let mut rest = text;
+    let mut len = field_len(separators, rest);
+    'fields: while len < rest.len() {
+        list.push(Txt::from_text(alloc, &rest[..len])?)?;
+        rest = rest.split_at(len + 1).1;
+        len = field_len(separators, rest);
+    }
+    list.push(Txt::from_text(alloc, rest)?)?;
+    Ok(list)
+}
+
+// The characters of a text, each as a text.
+fn characters(alloc: Global, text: &Txt) -> Result<Seq<Txt>, AllocError>
+    ensures { IfOk result (λ l. l ≡ map (λ c. c ∷ []) text.now) }
+{
+    let mut list = Seq::new(alloc);
+    for c in text.as_bytes() {
+        let mut character = Txt::new(alloc);
+        character.push_byte(*c)?;
+        list.push(character)?;
+    }
+    Ok(list)
+}
+
+// What separators part a text into.
+fn split_at(alloc: Global, separators: &[u8], text: &Txt) -> Result<Seq<Txt>, AllocError>
+    ensures { IfOk result (λ l. l ≡ split_at separators.now text.now) }
+{
+    if text.is_empty() {
+        return Ok(Seq::new(alloc));
+    }
+    if separators.is_empty() {
+        return characters(alloc, text);
+    }
+    fields(alloc, separators, text.as_bytes())
+}
+
+// split t ?chars?
+#[tactic(auto, using(crate::proofs::Causes::tells))]
+fn run_split(alloc: Global, command: &Txt, words: &[Txt]) -> Result<Txt, Interrupt>
+    ensures { GivesSo (λ t. t) result (split_does command.now words.now) }
+{
+    match words {
+        [text] => {
+            let list = split_at(alloc, b" \t\n", text)?;
+            Ok(join(alloc, list.as_slice())?)
+        }
+        [text, separators] => {
+            let list = split_at(alloc, separators.as_bytes(), text)?;
+            Ok(join(alloc, list.as_slice())?)
+        }
+        _ => Err(wrong_words(command)),
+    }
+}

@@ -1,0 +1,383 @@
+ghost use Rattle.std.specs.Prelude.{◌≡◌, ◌++◌, ◌+ℤ◌, OnOk, OnErr};
+ghost use Rattle.tks_tcl.specs.Meets.{GivesSo};
+ghost use Rattle.tks_tcl.specs.Variables.{value_in, is_missing, value_or, decimal_within, increased, flat, appended, list_appended, without_all, may_grow, stores, link_within, linked_all, set_does, unset_does, incr_does, append_does, lappend_does, global_does, info_does, variable_does};
+
+use crate::interrupt::{Interrupt, error, fits, within, wrong_words};
+use crate::words::{integer_in, list_in, truth_text};
+use std::alloc::{AllocError, Global};
+use tks_list::join;
+use tks_text::{ErrorNumber, Failure, Limits, Seq, Txt, decimal_of};
+use tks_vars::Vars;
+
+/// The commands on variables.
+#[derive(Clone, Copy)]
+pub enum VariableCommand {
+    Append,
+    Global,
+    Incr,
+    Info,
+    Lappend,
+    Set,
+    Unset,
+}
+
+impl VariableCommand {
+    /// What the command answers, given its first word and the others.
+    pub fn run(
+        self,
+        alloc: Global,
+        command: &Txt,
+        words: &[Txt],
+        variables: &mut Vars,
+        limits: &Limits,
+    ) -> Result<Txt, Interrupt>
+        ensures value { GivesSo (λ t. (t, variables.new)) result (variable_does limits.now self command.now words.now variables.old) }
+        ensures err { OnErr result (variables.new ≡ variables.old) }
+    {
+        match self {
+            VariableCommand::Append => run_append(alloc, command, words, variables, limits),
+            VariableCommand::Global => run_global(alloc, command, words, variables, limits),
+            VariableCommand::Incr => run_incr(alloc, command, words, variables, limits),
+            VariableCommand::Info => run_info(alloc, command, words, variables, limits),
+            VariableCommand::Lappend => run_lappend(alloc, command, words, variables, limits),
+            VariableCommand::Set => run_set(command, words, variables, limits),
+            VariableCommand::Unset => run_unset(alloc, command, words, variables),
+        }
+    }
+}
+
+// The value of a variable.
+fn value_in(variables: &Vars, name: &Txt) -> Result<Txt, Interrupt>
+    ensures { GivesSo (λ t. t) result (value_in variables.now name.now) }
+{
+    let value = variables.get(name)?;
+    Ok(value.try_clone()?)
+}
+
+// Whether an error says that a variable is missing.
+fn is_missing(number: ErrorNumber) -> bool
+    ensures { result ≡ is_missing number }
+{
+    matches!(number, ErrorNumber::NoSuchVariable)
+}
+
+// The value of a variable, or a default where it is missing.
+fn value_or(default: Txt, variables: &Vars, name: &Txt) -> Result<Txt, Interrupt>
+    ensures { GivesSo (λ t. t) result (value_or default variables.now name.now) }
+{
+    match variables.get(name) {
+        Ok(value) => Ok(value.try_clone()?),
+        Err(Failure::Script(fault)) => {
+            if is_missing(fault.number) {
+                Ok(default)
+            } else {
+                Err(Interrupt::Script(fault))
+            }
+        }
+        Err(Failure::NoMemory) => Err(Interrupt::NoMemory),
+    }
+}
+
+// Whether a list that would grow may have one member more.
+fn may_grow(members: Option<usize>, limits: &Limits) -> bool
+    ensures { result ≡ may_grow limits.now members }
+{
+    match members {
+        Some(members) => members < limits.items as usize,
+        None => true,
+    }
+}
+
+// Gives a name a value, which is the answer too.
+fn store(variables: &mut Vars, name: &Txt, value: Txt, limits: &Limits) -> Result<Txt, Interrupt>
+    ensures value { GivesSo (λ t. (t, variables.new)) result (stores limits.now name.now variables.old value) }
+    ensures err { OnErr result (variables.new ≡ variables.old) }
+{
+    if !fits(&value, limits) {
+        return Err(Interrupt::TooLarge);
+    }
+    if !may_grow(variables.grown_by_value(name), limits) {
+        return Err(Interrupt::TooLarge);
+    }
+    variables.set(name, &value)?;
+    Ok(value)
+}
+
+// set name ?value?
+#[tactic(auto, using(crate::proofs::Causes::tells))]
+fn run_set(
+    command: &Txt,
+    words: &[Txt],
+    variables: &mut Vars,
+    limits: &Limits,
+) -> Result<Txt, Interrupt>
+    ensures value { GivesSo (λ t. (t, variables.new)) result (set_does limits.now command.now words.now variables.old) }
+    ensures err { OnErr result (variables.new ≡ variables.old) }
+{
+    match words {
+        [name] => {
+            let value = within(value_in(variables, name)?, limits)?;
+            Ok(value)
+        }
+        [name, value] => {
+            let value = store(variables, name, value.try_clone()?, limits)?;
+            Ok(value)
+        }
+        _ => Err(wrong_words(command)),
+    }
+}
+
+// Takes names out one after the other.
+fn take_all(variables: &mut Vars, names: &[Txt]) -> Result<(), Interrupt>
+    ensures { GivesSo (λ _. variables.new) result (without_all names.now variables.old) }
+{
+    for name in names {
+        variables.unset(name)?;
+    }
+    Ok(())
+}
+
+// The same, where an error leaves the variables as they were.
+fn take_each(variables: &mut Vars, names: &[Txt]) -> Result<(), Interrupt>
+    ensures value { GivesSo (λ _. variables.new) result (without_all names.now variables.old) }
+    ensures err { OnErr result (variables.new ≡ variables.old) }
+{
+    if let [name] = names {
+        variables.unset(name)?;
+        return Ok(());
+    }
+    let mut left = variables.try_clone()?;
+    take_all(&mut left, names)?;
+    *variables = left;
+    Ok(())
+}
+
+// unset name ..
+#[tactic(auto, using(crate::proofs::Causes::tells))]
+fn run_unset(
+    alloc: Global,
+    command: &Txt,
+    words: &[Txt],
+    variables: &mut Vars,
+) -> Result<Txt, Interrupt>
+    ensures value { GivesSo (λ t. (t, variables.new)) result (unset_does command.now words.now variables.old) }
+    ensures err { OnErr result (variables.new ≡ variables.old) }
+{
+    if words.is_empty() {
+        return Err(wrong_words(command));
+    }
+    take_each(variables, words)?;
+    Ok(Txt::new(alloc))
+}
+
+// The integer in a variable, and another added.
+fn increased(alloc: Global, variables: &Vars, name: &Txt, amount: &Txt) -> Result<Txt, Interrupt>
+    ensures { GivesSo (λ t. t) result (increased variables.now name.now amount.now) }
+{
+    let zero = Txt::from_text(alloc, b"0")?;
+    let value = integer_in(&value_or(zero, variables, name)?)?;
+    let amount = integer_in(amount)?;
+    sum(alloc, value, amount)
+}
+
+// The decimal of a sum.
+fn sum(alloc: Global, a: i64, b: i64) -> Result<Txt, Interrupt>
+    ensures { GivesSo (λ t. t) result (decimal_within (a +ℤ b)) }
+{
+    match a.checked_add(b) {
+        Some(sum) => Ok(decimal_of(alloc, sum)?),
+        None => Err(error(ErrorNumber::OutOfRange)),
+    }
+}
+
+// incr name ?n?
+#[tactic(auto, using(crate::proofs::Causes::tells))]
+fn run_incr(
+    alloc: Global,
+    command: &Txt,
+    words: &[Txt],
+    variables: &mut Vars,
+    limits: &Limits,
+) -> Result<Txt, Interrupt>
+    ensures value { GivesSo (λ t. (t, variables.new)) result (incr_does limits.now command.now words.now variables.old) }
+    ensures err { OnErr result (variables.new ≡ variables.old) }
+{
+    match words {
+        [name] => {
+            let one = Txt::from_text(alloc, b"1")?;
+            let value = increased(alloc, variables, name, &one)?;
+            let value = store(variables, name, value, limits)?;
+            Ok(value)
+        }
+        [name, amount] => {
+            let value = increased(alloc, variables, name, amount)?;
+            let value = store(variables, name, value, limits)?;
+            Ok(value)
+        }
+        _ => Err(wrong_words(command)),
+    }
+}
+
+// Adds texts at the end of a text.
+fn push_all(text: &mut Txt, more: &[Txt]) -> Result<(), AllocError>
+    ensures { OnOk result (text.new ≡ text.old ++ flat more.now) }
+{
+    for next in more {
+        text.append(next)?;
+    }
+    Ok(())
+}
+
+// The value of a variable, and texts behind it.
+fn appended(alloc: Global, variables: &Vars, name: &Txt, texts: &[Txt]) -> Result<Txt, Interrupt>
+    ensures { GivesSo (λ t. t) result (appended variables.now name.now texts.now) }
+{
+    let mut value = value_or(Txt::new(alloc), variables, name)?;
+    push_all(&mut value, texts)?;
+    Ok(value)
+}
+
+// append name value ..
+#[tactic(auto, using(crate::proofs::Causes::tells))]
+fn run_append(
+    alloc: Global,
+    command: &Txt,
+    words: &[Txt],
+    variables: &mut Vars,
+    limits: &Limits,
+) -> Result<Txt, Interrupt>
+    ensures value { GivesSo (λ t. (t, variables.new)) result (append_does limits.now command.now words.now variables.old) }
+    ensures err { OnErr result (variables.new ≡ variables.old) }
+{
+    match words {
+        [name, values @ ..] if !values.is_empty() => {
+            let value = appended(alloc, variables, name, values)?;
+            let value = store(variables, name, value, limits)?;
+            Ok(value)
+        }
+        _ => Err(wrong_words(command)),
+    }
+}
+
+// Adds elements at the end of a list.
+fn push_elements(list: &mut Seq<Txt>, elements: &[Txt]) -> Result<(), AllocError>
+    ensures { OnOk result (list.new ≡ list.old ++ elements.now) }
+{
+    for element in elements {
+        list.push(element.try_clone()?)?;
+    }
+    Ok(())
+}
+
+// The list in a variable, and elements behind it.
+fn list_appended(
+    alloc: Global,
+    variables: &Vars,
+    name: &Txt,
+    elements: &[Txt],
+) -> Result<Txt, Interrupt>
+    ensures { GivesSo (λ t. t) result (list_appended variables.now name.now elements.now) }
+{
+    let mut list = list_in(alloc, &value_or(Txt::new(alloc), variables, name)?)?;
+    push_elements(&mut list, elements)?;
+    Ok(join(alloc, list.as_slice())?)
+}
+
+// lappend name value ..
+#[tactic(auto, using(crate::proofs::Causes::tells))]
+fn run_lappend(
+    alloc: Global,
+    command: &Txt,
+    words: &[Txt],
+    variables: &mut Vars,
+    limits: &Limits,
+) -> Result<Txt, Interrupt>
+    ensures value { GivesSo (λ t. (t, variables.new)) result (lappend_does limits.now command.now words.now variables.old) }
+    ensures err { OnErr result (variables.new ≡ variables.old) }
+{
+    match words {
+        [name, values @ ..] if !values.is_empty() => {
+            let value = list_appended(alloc, variables, name, values)?;
+            let value = store(variables, name, value, limits)?;
+            Ok(value)
+        }
+        _ => Err(wrong_words(command)),
+    }
+}
+
+// Makes a name a link.
+fn link(variables: &mut Vars, name: &Txt, limits: &Limits) -> Result<(), Interrupt>
+    ensures value { GivesSo (λ _. variables.new) result (link_within limits.now name.now variables.old) }
+    ensures err { OnErr result (variables.new ≡ variables.old) }
+{
+    if !may_grow(variables.grown_by_link(name), limits) {
+        return Err(Interrupt::TooLarge);
+    }
+    variables.link_global(name)?;
+    Ok(())
+}
+
+// Makes names links one after the other.
+fn link_all(variables: &mut Vars, names: &[Txt], limits: &Limits) -> Result<(), Interrupt>
+    ensures { GivesSo (λ _. variables.new) result (linked_all limits.now names.now variables.old) }
+{
+    for name in names {
+        link(variables, name, limits)?;
+    }
+    Ok(())
+}
+
+// The same, where an error leaves the variables as they were.
+fn link_each(variables: &mut Vars, names: &[Txt], limits: &Limits) -> Result<(), Interrupt>
+    ensures value { GivesSo (λ _. variables.new) result (linked_all limits.now names.now variables.old) }
+    ensures err { OnErr result (variables.new ≡ variables.old) }
+{
+    if let [name] = names {
+        link(variables, name, limits)?;
+        return Ok(());
+    }
+    let mut left = variables.try_clone()?;
+    link_all(&mut left, names, limits)?;
+    *variables = left;
+    Ok(())
+}
+
+// global name ..
+#[tactic(auto, using(crate::proofs::Causes::tells))]
+fn run_global(
+    alloc: Global,
+    command: &Txt,
+    words: &[Txt],
+    variables: &mut Vars,
+    limits: &Limits,
+) -> Result<Txt, Interrupt>
+    ensures value { GivesSo (λ t. (t, variables.new)) result (global_does limits.now command.now words.now variables.old) }
+    ensures err { OnErr result (variables.new ≡ variables.old) }
+{
+    if words.is_empty() {
+        return Err(wrong_words(command));
+    }
+    link_each(variables, words, limits)?;
+    Ok(Txt::new(alloc))
+}
+
+// info exists name
+#[tactic(auto, using(crate::proofs::Causes::tells))]
+fn run_info(
+    alloc: Global,
+    command: &Txt,
+    words: &[Txt],
+    variables: &Vars,
+    limits: &Limits,
+) -> Result<Txt, Interrupt>
+    ensures { GivesSo (λ t. (t, variables.now)) result (info_does limits.now command.now words.now variables.now) }
+{
+    match words {
+        [subcommand, name] if subcommand.as_bytes() == b"exists".as_slice() => {
+            let there = truth_text(alloc, variables.exists(name)?)?;
+            let there = within(there, limits)?;
+            Ok(there)
+        }
+        _ => Err(wrong_words(command)),
+    }
+}
