@@ -14,6 +14,7 @@ use Rattle.tks_parse.specs.Class.{is_blank}
 use Rattle.tks_parse.specs.Reading.{braced_at}
 use Rattle.tks_parse.specs.Braces.{quotes, ends_comment, comment_len, ends_braces, held_behind, braced_len, braced_escape, verbatim_step, verbatim}
 use Rattle.tks_parse.specs.Script.{BeginsNot, CommentThen, Nests, BracedThen, Verbatim}
+use Rattle.tks_parse.specs.declared.syntax.Syntax.{Syntax}
 use Rattle.tks_parse.proofs.Tests.{if_case, or_left, or_right, and_cases, drop_one, prefix_all, prefix_name}
 
 -- ---- comments
@@ -73,9 +74,9 @@ nests_len _ _ v (Nests.other n c t e h) =
     rw (opener, closer, quoter) (ap suc (nests_len n t v h))
 
 -- text up to the brace that closes it is read so
-pub braced_read : (inside u v : List ℕ) → BracedThen inside u v → braced_at u ≡ record { items = chars (verbatim inside) no_part; fault = None; taken = length inside + 1 }
+pub braced_read : (inside u v : List ℕ) → BracedThen inside u v → (syntax : Syntax) → braced_at syntax u ≡ record { items = chars (verbatim inside) no_part; fault = None; taken = length inside + 1 }
 unfolding braced_at
-braced_read inside u v h =
+braced_read inside u v h syntax =
     let len = nests_len 0 inside v h.nests in
     rw (h.is, len, take_at inside (125 ∷ v) (length inside) refl, drop_at inside (125 ∷ v) (length inside) refl) refl
 

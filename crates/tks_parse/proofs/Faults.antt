@@ -7,7 +7,7 @@ use Rattle.tks_text.specs.declared.fault.ScriptFault.{ScriptFault}
 use Rattle.tks_text.proofs.Runs.{behind, Run_ext, run_fails}
 use Rattle.tks_parse.specs.Tree.{Script, no_command, command, no_word, word, Parts, no_part, chars, join_scripts, join_words, join_parts}
 use Rattle.tks_parse.specs.Class.{is_no_close_brace, ends_word_at, is_expanded}
-use Rattle.tks_parse.specs.Fault.{missing_close_brace, missing_close_quote, text_after_close_quote, text_after_close_brace, missing_close_of_variable}
+use Rattle.tks_parse.specs.Fault.{missing_close_brace, missing_close_quote, text_after_close_quote, text_after_close_brace, missing_close_of_variable, told, syntax_of}
 use Rattle.tks_parse.specs.Braces.{braced_len, verbatim}
 use Rattle.tks_parse.specs.Reading.{close_name, braced_name_step, close_index, close_script, close_text, close_parts, braced_at, ended_word, closed_word, behind_bytes, nested_step, index_step, named_step, variable_step, part_step, parts_at, quoted_at, bare_word, plain_word, prefixed_word, word_step, words_at, words_command, command_step, commands_at, nest, index, closed, script_of}
 use Rattle.tks_parse.specs.Script.{BeginsNot, BeginsCommand, BracedThen, word_start, PartsThen, PartFails, PartsFail, WordFails, WordsFail, ScriptFails, BracketsFail, IndexFails, Spells}
@@ -15,6 +15,8 @@ use Rattle.tks_parse.specs.declared.mode.Place.{Place}
 use Rattle.tks_parse.specs.declared.mode.Place.TheVariants.{Alone, Brackets}
 use Rattle.tks_parse.specs.declared.mode.Mode.{Mode}
 use Rattle.tks_parse.specs.declared.mode.Mode.TheVariants.{Bare, Quoted, Index}
+use Rattle.tks_parse.specs.declared.syntax.Syntax.{Syntax}
+use Rattle.tks_parse.specs.declared.syntax.Syntax.TheVariants.{Scripts}
 use Rattle.tks_parse.proofs.Joins.{join_scripts_none}
 use Rattle.tks_parse.proofs.Tests.{or_left, or_right, prefix_whole, start_begins}
 use Rattle.tks_parse.proofs.Braced.{braced_read, braced_rest, braced_told}
@@ -31,52 +33,52 @@ run_fault : {R : Type 0} (none : R) (step : List ℕ → Step ScriptFault R) (jo
 run_fault none step join t v f s r e = ap (λ x. x.fault) (r.same ∙ ap (behind join r.len) (run_fails none step v f s e))
 
 -- what a fault in brackets and one in an index come to, with d of either left to open
-abbrev BracketsRead : ℕ → Type 0
+abbrev pub BracketsRead : ℕ → Type 0
 BracketsRead d = (s : List ℕ) (f : ScriptFault) → BracketsFail d s f → nested_step (nest d) s ≡ fails f
 
-abbrev IndexesRead : ℕ → Type 0
-IndexesRead d = (name : List ℕ) (n : ℕ) (s : List ℕ) (f : ScriptFault) → IndexFails d s f → index_step (index d) name n s ≡ fails f
+abbrev pub IndexesRead : ℕ → Type 0
+IndexesRead d = (syntax : Syntax) (name : List ℕ) (n : ℕ) (s : List ℕ) (f : ScriptFault) → IndexFails d syntax s f → index_step (index d) syntax name n s ≡ fails f
 
 -- ---- parts
 
-unclosed_at : (d : ℕ) (name : List ℕ) → AllByRecursion (λ c. is_no_close_brace c ≡ true) name → variable_step (index d) (123 ∷ name) ≡ fails missing_close_of_variable
+unclosed_at : (d : ℕ) (syntax : Syntax) (name : List ℕ) → AllByRecursion (λ c. is_no_close_brace c ≡ true) name → variable_step (index d) syntax (123 ∷ name) ≡ fails (told syntax missing_close_of_variable)
 unfolding variable_step braced_name_step
-unclosed_at d name each = let w = prefix_whole is_no_close_brace name each in ap (close_name (take (prefix_len is_no_close_brace name) name) (prefix_len is_no_close_brace name)) w
+unclosed_at d syntax name each = let w = prefix_whole is_no_close_brace name each in ap (close_name syntax (take (prefix_len is_no_close_brace name) name) (prefix_len is_no_close_brace name)) w
 
-part_fault : (d : ℕ) (m : Mode) (u : List ℕ) (f : ScriptFault) → BracketsRead d → IndexesRead d → PartFails (BracketsFail d) (IndexFails d) m u f → part_step (nest d) (index d) m u ≡ fails f
+pub part_fault : (d : ℕ) (m : Mode) (u : List ℕ) (f : ScriptFault) → BracketsRead d → IndexesRead d → PartFails (BracketsFail d) (IndexFails d) m u f → part_step (nest d) (index d) m u ≡ fails f
 unfolding part_step named_step
 part_fault d m _ _ b i (PartFails.in_brackets s f h) = bracket_at (nest d) (index d) m s ∙ b s f h
-part_fault d m _ _ b i (PartFails.in_index name u s f n h) = variable_at (nest d) (index d) m u ∙ name_at (nest d) (index d) name u (40 ∷ s) n ∙ i name (length name) s f h
-part_fault d m _ _ b i (PartFails.name_unclosed name each) = variable_at (nest d) (index d) m (123 ∷ name) ∙ unclosed_at d name each
+part_fault d m _ _ b i (PartFails.in_index name u s f n h) = variable_at (nest d) (index d) m u ∙ name_at (nest d) (index d) (syntax_of m) name u (40 ∷ s) n ∙ i (syntax_of m) name (length name) s f h
+part_fault d m _ _ b i (PartFails.name_unclosed name each) = variable_at (nest d) (index d) m (123 ∷ name) ∙ unclosed_at d (syntax_of m) name each
 part_fault d m _ _ b i (PartFails.outside_texts u s h) = rw (s, h) refl
 
-parts_fault : (d : ℕ) (m : Mode) (t : List ℕ) (f : ScriptFault) → BracketsRead d → IndexesRead d → PartsFail (BracketsFail d) (IndexFails d) d m t f → (parts_at (nest d) (index d) m t).fault ≡ Some f
+pub parts_fault : (d : ℕ) (m : Mode) (t : List ℕ) (f : ScriptFault) → BracketsRead d → IndexesRead d → PartsFail (BracketsFail d) (IndexFails d) d m t f → (parts_at (nest d) (index d) m t).fault ≡ Some f
 unfolding parts_at part_step
 parts_fault d m t f b i h = run_fault no_part (part_step (nest d) (index d) m) (join_parts h.0) t h.1 f refl (parts_read h.0 d m t h.1 h.2) (part_fault d m h.1 f b i h.3)
 
 -- ---- words
 
 -- a fault inside quotes is the fault of the word
-quoted_fault : (d : ℕ) (u : List ℕ) (f : ScriptFault) → (parts_at (nest d) (index d) Quoted u).fault ≡ Some f → (quoted_at (nest d) (index d) u).fault ≡ Some f
+pub quoted_fault : (d : ℕ) (syntax : Syntax) (u : List ℕ) (f : ScriptFault) → (parts_at (nest d) (index d) (Quoted syntax) u).fault ≡ Some f → (quoted_at (nest d) (index d) syntax u).fault ≡ Some f
 unfolding quoted_at
-quoted_fault d u f e =
-    let r = parts_at (nest d) (index d) Quoted u in
-    ap (λ (o : Option ScriptFault). (elim o as (λ _. Run ScriptFault Parts) [ None ↦ close_text missing_close_quote r.items r.taken (drop r.taken u) | Some g ↦ ended no_part (Some g) ]).fault) e
+quoted_fault d syntax u f e =
+    let r = parts_at (nest d) (index d) (Quoted syntax) u in
+    ap (λ (o : Option ScriptFault). (elim o as (λ _. Run ScriptFault Parts) [ None ↦ close_text (told syntax missing_close_quote) r.items r.taken (drop r.taken u) | Some g ↦ ended no_part (Some g) ]).fault) e
 
-unclosed_quote : (d : ℕ) (u : List ℕ) (parts : Parts) → PartsThen parts d Quoted u [] → (quoted_at (nest d) (index d) u).fault ≡ Some missing_close_quote
+pub unclosed_quote : (d : ℕ) (syntax : Syntax) (u : List ℕ) (parts : Parts) → PartsThen parts d (Quoted syntax) u [] → (quoted_at (nest d) (index d) syntax u).fault ≡ Some (told syntax missing_close_quote)
 unfolding quoted_at
-unclosed_quote d u parts h =
-    let r = parts_read parts d Quoted u [] h in
-    ap (λ (z : Run ScriptFault Parts). (close_parts missing_close_quote u z).fault) (parts_whole (nest d) (index d) Quoted parts u [] r refl) ∙ ap (λ v. (close_text missing_close_quote parts r.len v).fault) r.rest
+unclosed_quote d syntax u parts h =
+    let r = parts_read parts d (Quoted syntax) u [] h in
+    ap (λ (z : Run ScriptFault Parts). (close_parts (told syntax missing_close_quote) u z).fault) (parts_whole (nest d) (index d) (Quoted syntax) parts u [] r refl) ∙ ap (λ v. (close_text (told syntax missing_close_quote) parts r.len v).fault) r.rest
 
 -- where there is no close, none is read
-none_closes : (u w : List ℕ) → drop (braced_len 0 false u) u ≡ w → ((inside v : List ℕ) → BracedThen inside u v → ⊥) → (close_text missing_close_brace (chars (verbatim (take (braced_len 0 false u) u)) no_part) (braced_len 0 false u) w).fault ≡ Some missing_close_brace
-none_closes u [] e h = refl
-none_closes u (z ∷ v) e h = absurd (h (take (braced_len 0 false u) u) v (braced_told u z v e))
+none_closes : (syntax : Syntax) (u w : List ℕ) → drop (braced_len 0 false u) u ≡ w → ((inside v : List ℕ) → BracedThen inside u v → ⊥) → (close_text (told syntax missing_close_brace) (chars (verbatim (take (braced_len 0 false u) u)) no_part) (braced_len 0 false u) w).fault ≡ Some (told syntax missing_close_brace)
+none_closes syntax u [] e h = refl
+none_closes syntax u (z ∷ v) e h = absurd (h (take (braced_len 0 false u) u) v (braced_told u z v e))
 
-unclosed_brace : (u : List ℕ) → ((inside v : List ℕ) → BracedThen inside u v → ⊥) → (braced_at u).fault ≡ Some missing_close_brace
+pub unclosed_brace : (syntax : Syntax) (u : List ℕ) → ((inside v : List ℕ) → BracedThen inside u v → ⊥) → (braced_at syntax u).fault ≡ Some (told syntax missing_close_brace)
 unfolding braced_at
-unclosed_brace u h = none_closes u (drop (braced_len 0 false u) u) refl h
+unclosed_brace syntax u h = none_closes syntax u (drop (braced_len 0 false u) u) refl h
 
 text_behind : (place : Place) (expand : Bool) (f : ScriptFault) (parts : Parts) (n : ℕ) (u v : List ℕ) → drop n u ≡ v → ends_word_at place v ≡ false → ended_word place expand f parts n (drop n u) ≡ fails f
 text_behind place expand f parts n u v d e = ap (ended_word place expand f parts n) d ∙ ap (λ (b : Bool). cond b (takes (word expand parts) n) (fails f)) e
@@ -91,16 +93,16 @@ bare_fault d place expand (c ∷ t) f b i k q h =
 plain_fault : (d : ℕ) (place : Place) (expand : Bool) (s : List ℕ) (f : ScriptFault) → BracketsRead d → IndexesRead d → ends_word_at place s ≡ false → WordFails (BracketsFail d) (IndexFails d) d place s f → plain_word (nest d) (index d) place expand s ≡ fails f
 unfolding plain_word
 plain_fault d place expand _ _ b i k (WordFails.in_quotes u f h) =
-    fault_at (quoted_at (nest d) (index d) u) f (λ ps n. ended_word place expand text_after_close_quote ps n (drop n u)) (quoted_fault d u f (parts_fault d Quoted u f b i h))
+    fault_at (quoted_at (nest d) (index d) Scripts u) f (λ ps n. ended_word place expand text_after_close_quote ps n (drop n u)) (quoted_fault d Scripts u f (parts_fault d (Quoted Scripts) u f b i h))
 plain_fault d place expand _ _ b i k (WordFails.quote_unclosed u parts h) =
-    fault_at (quoted_at (nest d) (index d) u) missing_close_quote (λ ps n. ended_word place expand text_after_close_quote ps n (drop n u)) (unclosed_quote d u parts h)
+    fault_at (quoted_at (nest d) (index d) Scripts u) missing_close_quote (λ ps n. ended_word place expand text_after_close_quote ps n (drop n u)) (unclosed_quote d Scripts u parts h)
 plain_fault d place expand _ _ b i k (WordFails.behind_quote u v parts h e) =
-    let r = parts_read parts d Quoted u (34 ∷ v) h in
-    ap (closed_word place expand text_after_close_quote u) (quoted_whole (nest d) (index d) parts u v r) ∙ text_behind place expand text_after_close_quote parts (r.len + 1) u v (next_rest (nest d) (index d) r.len u v 34 r.rest) e
+    let r = parts_read parts d (Quoted Scripts) u (34 ∷ v) h in
+    ap (closed_word place expand text_after_close_quote u) (quoted_whole (nest d) (index d) Scripts parts u v r) ∙ text_behind place expand text_after_close_quote parts (r.len + 1) u v (next_rest (nest d) (index d) r.len u v 34 r.rest) e
 plain_fault d place expand _ _ b i k (WordFails.brace_unclosed u h) =
-    fault_at (braced_at u) missing_close_brace (λ ps n. ended_word place expand text_after_close_brace ps n (drop n u)) (unclosed_brace u h)
+    fault_at (braced_at Scripts u) missing_close_brace (λ ps n. ended_word place expand text_after_close_brace ps n (drop n u)) (unclosed_brace Scripts u h)
 plain_fault d place expand _ _ b i k (WordFails.behind_brace u inside v h e) =
-    ap (closed_word place expand text_after_close_brace u) (braced_read inside u v h) ∙ text_behind place expand text_after_close_brace (chars (verbatim inside) no_part) (length inside + 1) u v (braced_rest inside u v h) e
+    ap (closed_word place expand text_after_close_brace u) (braced_read inside u v h Scripts) ∙ text_behind place expand text_after_close_brace (chars (verbatim inside) no_part) (length inside + 1) u v (braced_rest inside u v h) e
 plain_fault d place expand _ _ b i k (WordFails.bare t f q h) = bare_fault d place expand t f b i k q h
 
 prefixed_fault : (d : ℕ) (place : Place) (x : List ℕ) (f : ScriptFault) (expand : Bool) → is_expanded place x ≡ expand → BracketsRead d → IndexesRead d → ends_word_at place x ≡ false → WordFails (BracketsFail d) (IndexFails d) d place (word_start place x) f → prefixed_word (nest d) (index d) place x ≡ fails f
@@ -150,7 +152,7 @@ script_whole d place script t r = r.same ∙ ap (behind (join_scripts script) r.
 mutual
   unfolding nested_step index_step nest
 
-  brackets_fault : (d : ℕ) → BracketsRead d
+  pub brackets_fault : (d : ℕ) → BracketsRead d
   brackets_fault zero s f h = ap fails (sym h)
   brackets_fault (suc d) s f (script, inl h) =
       let r = script_reads script d Brackets s [] h.0 in
@@ -159,13 +161,13 @@ mutual
       let e = script_fault d Brackets script s f (brackets_fault d) (indexes_fault d) h in
       fault_at (commands_at (nest d) (index d) Brackets s) f (λ cs n. close_script cs n (drop n s)) (ap (λ (z : Run ScriptFault Script). z.fault) e.1)
 
-  indexes_fault : (d : ℕ) → IndexesRead d
-  indexes_fault zero name n s f h = ap fails (sym h)
-  indexes_fault (suc d) name n s f (inl h) =
-      let r = parts_read h.0 d Index s [] h.1 in
-      ap (λ (z : Run ScriptFault Parts). on_run z (λ ps k. close_index name ps (n + 1 + k) (drop k s))) (parts_whole (nest d) (index d) Index h.0 s [] r refl) ∙ ap (close_index name h.0 (n + 1 + r.len)) r.rest ∙ ap fails (sym h.2)
-  indexes_fault (suc d) name n s f (inr h) =
-      fault_at (parts_at (nest d) (index d) Index s) f (λ ps k. close_index name ps (n + 1 + k) (drop k s)) (parts_fault d Index s f (brackets_fault d) (indexes_fault d) h)
+  pub indexes_fault : (d : ℕ) → IndexesRead d
+  indexes_fault zero syntax name n s f h = ap fails (sym h)
+  indexes_fault (suc d) syntax name n s f (inl h) =
+      let r = parts_read h.0 d (Index syntax) s [] h.1 in
+      ap (λ (z : Run ScriptFault Parts). on_run z (λ ps k. close_index syntax name ps (n + 1 + k) (drop k s))) (parts_whole (nest d) (index d) (Index syntax) h.0 s [] r refl) ∙ ap (close_index syntax name h.0 (n + 1 + r.len)) r.rest ∙ ap fails (sym h.2)
+  indexes_fault (suc d) syntax name n s f (inr h) =
+      fault_at (parts_at (nest d) (index d) (Index syntax) s) f (λ ps k. close_index syntax name ps (n + 1 + k) (drop k s)) (parts_fault d (Index syntax) s f (brackets_fault d) (indexes_fault d) h)
 
 -- ---- scripts
 

@@ -11,6 +11,7 @@ use Rattle.tks_parse.specs.Braces.{verbatim_step, verbatim}
 use Rattle.tks_parse.specs.Reading.{part_step, parts_at, word_step, words_at, command_step, commands_at}
 use Rattle.tks_parse.specs.declared.mode.Mode.{Mode}
 use Rattle.tks_parse.specs.declared.mode.Place.{Place}
+use Rattle.tks_parse.specs.declared.syntax.Syntax.{Syntax}
 use Rattle.tks_parse.proofs.Joins.{join_parts_assoc, join_words_assoc, join_scripts_assoc, join_parts_none, join_words_none, join_scripts_none}
 
 -- ---- what stands in braces
@@ -26,7 +27,7 @@ pub verbatim_stops : (front t all : List ℕ) → front ++ verbatim t ≡ all �
 unfolding verbatim verbatim_step
 verbatim_stops front t all h e = sym (append-nil front) ∙ ap (λ (r : Run ScriptFault (List ℕ)). front ++ r.items) (sym (run_stops [] verbatim_step t e)) ∙ h
 
-module _ (nest : List ℕ → Run ScriptFault Script) (index : List ℕ → Run ScriptFault Parts) where
+module _ (nest : List ℕ → Run ScriptFault Script) (index : Syntax → List ℕ → Run ScriptFault Parts) where
   -- ---- parts
 
   pub parts_go : (m : Mode) (front item : Parts) (n k : ℕ) (t : List ℕ) (all : Run ScriptFault Parts) → behind (join_parts front) n (parts_at nest index m t) ≡ all → part_step nest index m t ≡ takes (join_parts item) k → k < length t → behind (join_parts (join_parts front item)) (n + (1 + k)) (parts_at nest index m (drop (1 + k) t)) ≡ all

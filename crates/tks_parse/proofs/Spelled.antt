@@ -9,7 +9,7 @@ use Rattle.tks_text.specs.declared.fault.ScriptFault.{ScriptFault}
 use Rattle.tks_text.proofs.Runs.{behind, Run_ext, run_takes, run_stops, run_taken}
 use Rattle.tks_parse.specs.Tree.{Script, no_command, faulty, command, Words, no_word, word, Parts, no_part, char, variable, element, nested, chars, join_scripts, join_words, join_parts}
 use Rattle.tks_parse.specs.Class.{is_name_char, is_no_close_brace, ends_word_at, ends_command_at, is_expanded}
-use Rattle.tks_parse.specs.Fault.{missing_close_quote, text_after_close_brace, text_after_close_quote}
+use Rattle.tks_parse.specs.Fault.{missing_close_quote, text_after_close_brace, text_after_close_quote, told, syntax_of}
 use Rattle.tks_text.proofs.Backslashes.{escape_within}
 use Rattle.tks_parse.specs.Braces.{comment_len, verbatim}
 use Rattle.tks_parse.specs.Reading.{braced_name_step, close_index, close_script, close_text, close_parts, ended_word, closed_word, behind_bytes, nested_step, index_step, named_step, variable_step, part_step, parts_at, quoted_at, bare_word, plain_word, prefixed_word, word_step, words_at, words_command, command_step, commands_at, nest, index}
@@ -18,6 +18,8 @@ use Rattle.tks_parse.specs.declared.mode.Place.{Place}
 use Rattle.tks_parse.specs.declared.mode.Place.TheVariants.{Brackets}
 use Rattle.tks_parse.specs.declared.mode.Mode.{Mode}
 use Rattle.tks_parse.specs.declared.mode.Mode.TheVariants.{Bare, Quoted, Index}
+use Rattle.tks_parse.specs.declared.syntax.Syntax.{Syntax}
+use Rattle.tks_parse.specs.declared.syntax.Syntax.TheVariants.{Scripts}
 use Rattle.tks_parse.proofs.Joins.{join_parts_none, join_words_none, join_scripts_none}
 use Rattle.tks_parse.proofs.Tests.{or_left, or_right, start_begins, behind_drop, drop_one, prefix_all, open_goes_on, dollar_goes_on, hash_goes_on, word_begins, command_ends, end_at_word, ends_parts_at, bare_end, taken_some, pred_drop}
 use Rattle.tks_parse.proofs.Braced.{comment_read, comment_within, braced_read, braced_rest, verbatim_is}
@@ -48,20 +50,20 @@ reads_step none step g k c t u s e h d =
       rest = d;
     }
 
-module _ (nest : List ℕ → Run ScriptFault Script) (index : List ℕ → Run ScriptFault Parts) where
+module _ (nest : List ℕ → Run ScriptFault Script) (index : Syntax → List ℕ → Run ScriptFault Parts) where
   -- ---- parts
 
-  dollar_alone : (u : List ℕ) → BeginsNot (λ d. is_name_char d || eqb d 123) u → variable_step index u ≡ takes (char 36) 0
+  dollar_alone : (syntax : Syntax) (u : List ℕ) → BeginsNot (λ d. is_name_char d || eqb d 123) u → variable_step index syntax u ≡ takes (char 36) 0
   unfolding variable_step braced_name_step
-  dollar_alone [] h = refl
-  dollar_alone (d ∷ u) h = rw (or_left (is_name_char d) (eqb d 123) h, or_right (is_name_char d) (eqb d 123) h) refl
+  dollar_alone syntax [] h = refl
+  dollar_alone syntax (d ∷ u) h = rw (or_left (is_name_char d) (eqb d 123) h, or_right (is_name_char d) (eqb d 123) h) refl
 
   char_at : (m : Mode) (c : ℕ) (u : List ℕ) → StandsForItself m c u → part_step nest index m (c ∷ u) ≡ takes (char c) 0
   unfolding part_step
   char_at m c u h =
       rw (h.inside, or_left (eqb c 91) (eqb c 92) h.plain, or_right (eqb c 91) (eqb c 92) h.plain)
-      (elim (eqb c 36) as (λ b. eqb c 36 ≡ b → cond b (variable_step index u) (takes (char c) 0) ≡ takes (char c) 0) [
-        | true ↦ λ e. let is : c ≡ 36 = eqb-true c 36 e in dollar_alone u (h.no_variable is) ∙ ap (λ x. takes (char x) 0) (sym is)
+      (elim (eqb c 36) as (λ b. eqb c 36 ≡ b → cond b (variable_step index (syntax_of m) u) (takes (char c) 0) ≡ takes (char c) 0) [
+        | true ↦ λ e. let is : c ≡ 36 = eqb-true c 36 e in dollar_alone (syntax_of m) u (h.no_variable is) ∙ ap (λ x. takes (char x) 0) (sym is)
         | false ↦ λ e. refl
       ] refl)
 
@@ -70,23 +72,23 @@ module _ (nest : List ℕ → Run ScriptFault Script) (index : List ℕ → Run 
   escape_at m c u w h = rw (h.inside, h.is) refl
 
   -- a name, and what follows it
-  pub name_at : (name u w : List ℕ) → NameThen name u w → variable_step index u ≡ named_step index name (length name) w
+  pub name_at : (syntax : Syntax) (name u w : List ℕ) → NameThen name u w → variable_step index syntax u ≡ named_step index syntax name (length name) w
   unfolding variable_step
-  name_at [] u w h = absurd (omega (arith, h.some))
-  name_at (c ∷ name) u w h =
+  name_at syntax [] u w h = absurd (omega (arith, h.some))
+  name_at syntax (c ∷ name) u w h =
       rw (h.is, prefix_all is_name_char (c ∷ name) w h.each h.longest, eqb-suc-zero (length name), take_at (c ∷ name) w (suc (length name)) refl, drop_at (c ∷ name) w (suc (length name)) refl) refl
 
-  scalar_at : (name u w : List ℕ) → NameThen name u w → BeginsNot (λ c. eqb c 40) w → variable_step index u ≡ takes (variable name) (length name)
+  pub scalar_at : (syntax : Syntax) (name u w : List ℕ) → NameThen name u w → BeginsNot (λ c. eqb c 40) w → variable_step index syntax u ≡ takes (variable name) (length name)
   unfolding named_step
-  scalar_at name u [] h b = name_at name u [] h
-  scalar_at name u (c ∷ w) h b = name_at name u (c ∷ w) h ∙ rw b refl
+  scalar_at syntax name u [] h b = name_at syntax name u [] h
+  scalar_at syntax name u (c ∷ w) h b = name_at syntax name u (c ∷ w) h ∙ rw b refl
 
-  braced_name_at : (name u w : List ℕ) → BracedNameThen name u w → variable_step index u ≡ takes (variable name) (length name + 2)
+  pub braced_name_at : (syntax : Syntax) (name u w : List ℕ) → BracedNameThen name u w → variable_step index syntax u ≡ takes (variable name) (length name + 2)
   unfolding variable_step braced_name_step
-  braced_name_at name u w h =
+  braced_name_at syntax name u w h =
       rw (h.is, prefix_all is_no_close_brace name (125 ∷ w) h.each refl, take_at name (125 ∷ w) (length name) refl, drop_at name (125 ∷ w) (length name) refl) refl
 
-  pub variable_at : (m : Mode) (u : List ℕ) → part_step nest index m (36 ∷ u) ≡ variable_step index u
+  pub variable_at : (m : Mode) (u : List ℕ) → part_step nest index m (36 ∷ u) ≡ variable_step index (syntax_of m) u
   unfolding part_step
   variable_at m u = rw (dollar_goes_on m u) refl
 
@@ -105,10 +107,10 @@ module _ (nest : List ℕ → Run ScriptFault Script) (index : List ℕ → Run 
   scalar_read : (m : Mode) (name u w : List ℕ) → NameThen name u w → BeginsNot (λ c. eqb c 40) w → Reads (variable name) (parts_at nest index m) (36 ∷ u) w
   unfolding parts_at part_step
   scalar_read m name u w h b =
-      reads_step no_part (part_step nest index m) (variable name) (length name) 36 u w refl (variable_at m u ∙ scalar_at name u w h b)
+      reads_step no_part (part_step nest index m) (variable name) (length name) 36 u w refl (variable_at m u ∙ scalar_at (syntax_of m) name u w h b)
       (omega (arith, ap length h.is, length-append name w)) (ap (drop (length name)) h.is ∙ drop_at name w (length name) refl)
 
-  braced_name_rest : (name u w : List ℕ) → BracedNameThen name u w → drop (length name + 2) u ≡ w
+  pub braced_name_rest : (name u w : List ℕ) → BracedNameThen name u w → drop (length name + 2) u ≡ w
   braced_name_rest name u w h =
       let two : length name + 2 ≡ suc (suc (length name)) = omega arith in
       ap (λ n. drop n u) two ∙ ap (drop (suc (suc (length name)))) h.is ∙ drop_one (length name) (name ++ 125 ∷ w) w 125 (drop_at name (125 ∷ w) (length name) refl)
@@ -116,7 +118,7 @@ module _ (nest : List ℕ → Run ScriptFault Script) (index : List ℕ → Run 
   braced_name_read : (m : Mode) (name u w : List ℕ) → BracedNameThen name u w → Reads (variable name) (parts_at nest index m) (36 ∷ u) w
   unfolding parts_at part_step
   braced_name_read m name u w h =
-      reads_step no_part (part_step nest index m) (variable name) (length name + 2) 36 u w refl (variable_at m u ∙ braced_name_at name u w h)
+      reads_step no_part (part_step nest index m) (variable name) (length name + 2) 36 u w refl (variable_at m u ∙ braced_name_at (syntax_of m) name u w h)
       (omega (arith, ap length h.is, length-append name (125 ∷ w))) (braced_name_rest name u w h)
 
   parts_stop_at : (m : Mode) (y : List ℕ) → ends_parts_at m y ≡ true → parts_at nest index m y ≡ ended no_part None
@@ -141,9 +143,9 @@ module _ (nest : List ℕ → Run ScriptFault Script) (index : List ℕ → Run 
     pub within : len < length s
     pub rest : drop (suc len) s ≡ y
 
-  pub quoted_whole : (parts : Parts) (u y : List ℕ) (r : Reads (join_parts parts) (parts_at nest index Quoted) u (34 ∷ y)) → quoted_at nest index u ≡ record { items = parts; fault = None; taken = r.len + 1 }
+  pub quoted_whole : (syntax : Syntax) (parts : Parts) (u y : List ℕ) (r : Reads (join_parts parts) (parts_at nest index (Quoted syntax)) u (34 ∷ y)) → quoted_at nest index syntax u ≡ record { items = parts; fault = None; taken = r.len + 1 }
   unfolding quoted_at
-  quoted_whole parts u y r = ap (close_parts missing_close_quote u) (parts_whole Quoted parts u (34 ∷ y) r refl) ∙ ap (close_text missing_close_quote parts r.len) r.rest
+  quoted_whole syntax parts u y r = ap (close_parts (told syntax missing_close_quote) u) (parts_whole (Quoted syntax) parts u (34 ∷ y) r refl) ∙ ap (close_text (told syntax missing_close_quote) parts r.len) r.rest
 
   ended_at : (place : Place) (expand : Bool) (f : ScriptFault) (parts : Parts) (n : ℕ) (u y : List ℕ) → drop n u ≡ y → ends_word_at place y ≡ true → ended_word place expand f parts n (drop n u) ≡ takes (word expand parts) n
   ended_at place expand f parts n u y d e = ap (ended_word place expand f parts n) d ∙ ap (λ (b : Bool). cond b (takes (word expand parts) n) (fails f)) e
@@ -151,14 +153,14 @@ module _ (nest : List ℕ → Run ScriptFault Script) (index : List ℕ → Run 
   pub next_rest : (n : ℕ) (u y : List ℕ) (c : ℕ) → drop n u ≡ c ∷ y → drop (n + 1) u ≡ y
   next_rest n u y c e = let one : n + 1 ≡ suc n = omega arith in ap (λ k. drop k u) one ∙ drop_one n u y c e
 
-  quoted_read : (place : Place) (expand : Bool) (parts : Parts) (u y : List ℕ) → Reads (join_parts parts) (parts_at nest index Quoted) u (34 ∷ y) → ends_word_at place y ≡ true → WordReads place expand parts (34 ∷ u) y
+  quoted_read : (place : Place) (expand : Bool) (parts : Parts) (u y : List ℕ) → Reads (join_parts parts) (parts_at nest index (Quoted Scripts)) u (34 ∷ y) → ends_word_at place y ≡ true → WordReads place expand parts (34 ∷ u) y
   unfolding plain_word
   quoted_read place expand parts u y r e =
       let lt = behind_drop r.len u y 34 r.rest in
       let rest = next_rest r.len u y 34 r.rest in
       record {
         len = r.len + 1;
-        is = ap (closed_word place expand text_after_close_quote u) (quoted_whole parts u y r) ∙ ended_at place expand text_after_close_quote parts (r.len + 1) u y rest e;
+        is = ap (closed_word place expand text_after_close_quote u) (quoted_whole Scripts parts u y r) ∙ ended_at place expand text_after_close_quote parts (r.len + 1) u y rest e;
         within = omega (arith, lt);
         rest = rest;
       }
@@ -169,7 +171,7 @@ module _ (nest : List ℕ → Run ScriptFault Script) (index : List ℕ → Run 
       let rest = braced_rest inside u y b in
       record {
         len = length inside + 1;
-        is = ap (closed_word place expand text_after_close_brace u) (braced_read inside u y b) ∙ ended_at place expand text_after_close_brace (chars (verbatim inside) no_part) (length inside + 1) u y rest e;
+        is = ap (closed_word place expand text_after_close_brace u) (braced_read inside u y b Scripts) ∙ ended_at place expand text_after_close_brace (chars (verbatim inside) no_part) (length inside + 1) u y rest e;
         within = omega (arith, ap length b.is, length-append inside (125 ∷ y));
         rest = rest;
       }
@@ -281,7 +283,7 @@ close_stops : (d : ℕ) (w : List ℕ) → commands_at (nest d) (index d) Bracke
 unfolding commands_at command_step
 close_stops d w = refl
 
-nested_at : (d : ℕ) (script : Script) (s w : List ℕ) (r : Reads (join_scripts script) (commands_at (nest d) (index d) Brackets) s (93 ∷ w)) → nested_step (nest (suc d)) s ≡ takes (nested script) (r.len + 1)
+pub nested_at : (d : ℕ) (script : Script) (s w : List ℕ) (r : Reads (join_scripts script) (commands_at (nest d) (index d) Brackets) s (93 ∷ w)) → nested_step (nest (suc d)) s ≡ takes (nested script) (r.len + 1)
 unfolding nested_step nest
 nested_at d script s w r =
     let whole : commands_at (nest d) (index d) Brackets s ≡ record { items = script; fault = None; taken = r.len } = r.same ∙ ap (behind (join_scripts script) r.len) (close_stops d w) ∙ Run_ext _ _ (join_scripts_none script) refl (omega arith) in
@@ -293,17 +295,17 @@ nested_read d m script s w r =
     reads_step no_part (part_step (nest (suc d)) (index (suc d)) m) (nested script) (r.len + 1) 91 s w refl
     (bracket_at (nest (suc d)) (index (suc d)) m s ∙ nested_at d script s w r) (omega (arith, behind_drop r.len s w 93 r.rest)) (next_rest (nest d) (index d) r.len s w 93 r.rest)
 
-index_at : (d : ℕ) (parts : Parts) (name s w : List ℕ) (r : Reads (join_parts parts) (parts_at (nest d) (index d) Index) s (41 ∷ w)) → index_step (index (suc d)) name (length name) s ≡ takes (element name parts) (length name + 1 + r.len + 1)
+index_at : (d : ℕ) (syntax : Syntax) (parts : Parts) (name s w : List ℕ) (r : Reads (join_parts parts) (parts_at (nest d) (index d) (Index syntax)) s (41 ∷ w)) → index_step (index (suc d)) syntax name (length name) s ≡ takes (element name parts) (length name + 1 + r.len + 1)
 unfolding index_step nest
-index_at d parts name s w r =
-    ap (λ (z : Run ScriptFault Parts). on_run z (λ ps k. close_index name ps (length name + 1 + k) (drop k s))) (parts_whole (nest d) (index d) Index parts s (41 ∷ w) r refl)
-    ∙ ap (close_index name parts (length name + 1 + r.len)) r.rest
+index_at d syntax parts name s w r =
+    ap (λ (z : Run ScriptFault Parts). on_run z (λ ps k. close_index syntax name ps (length name + 1 + k) (drop k s))) (parts_whole (nest d) (index d) (Index syntax) parts s (41 ∷ w) r refl)
+    ∙ ap (close_index syntax name parts (length name + 1 + r.len)) r.rest
 
-element_at : (d : ℕ) (parts : Parts) (name u s w : List ℕ) → NameThen name u (40 ∷ s) → (r : Reads (join_parts parts) (parts_at (nest d) (index d) Index) s (41 ∷ w)) → variable_step (index (suc d)) u ≡ takes (element name parts) (length name + 1 + r.len + 1)
+pub element_at : (d : ℕ) (syntax : Syntax) (parts : Parts) (name u s w : List ℕ) → NameThen name u (40 ∷ s) → (r : Reads (join_parts parts) (parts_at (nest d) (index d) (Index syntax)) s (41 ∷ w)) → variable_step (index (suc d)) syntax u ≡ takes (element name parts) (length name + 1 + r.len + 1)
 unfolding named_step
-element_at d parts name u s w h r = name_at (nest (suc d)) (index (suc d)) name u (40 ∷ s) h ∙ index_at d parts name s w r
+element_at d syntax parts name u s w h r = name_at (nest (suc d)) (index (suc d)) syntax name u (40 ∷ s) h ∙ index_at d syntax parts name s w r
 
-element_read : (d : ℕ) (m : Mode) (parts : Parts) (name u s w : List ℕ) → NameThen name u (40 ∷ s) → Reads (join_parts parts) (parts_at (nest d) (index d) Index) s (41 ∷ w) → Reads (element name parts) (parts_at (nest (suc d)) (index (suc d)) m) (36 ∷ u) w
+element_read : (d : ℕ) (m : Mode) (parts : Parts) (name u s w : List ℕ) → NameThen name u (40 ∷ s) → Reads (join_parts parts) (parts_at (nest d) (index d) (Index (syntax_of m))) s (41 ∷ w) → Reads (element name parts) (parts_at (nest (suc d)) (index (suc d)) m) (36 ∷ u) w
 unfolding parts_at part_step
 element_read d m parts name u s w h r =
     let lt = behind_drop r.len s w 41 r.rest in
@@ -311,7 +313,7 @@ element_read d m parts name u s w h r =
     let rest : drop (length name + suc (suc r.len)) u ≡ w =
     sym (drop-drop (suc (suc r.len)) (length name) u) ∙ ap (drop (suc (suc r.len))) (ap (drop (length name)) h.is ∙ drop_at name (40 ∷ s) (length name) refl) ∙ drop_one r.len s w 41 r.rest in
     reads_step no_part (part_step (nest (suc d)) (index (suc d)) m) (element name parts) (length name + 1 + r.len + 1) 36 u w refl
-    (variable_at (nest (suc d)) (index (suc d)) m u ∙ element_at d parts name u s w h r)
+    (variable_at (nest (suc d)) (index (suc d)) m u ∙ element_at d (syntax_of m) parts name u s w h r)
     (omega (arith, lt, ap length h.is, length-append name (40 ∷ s)))
     (ap (λ n. drop n u) whole ∙ rest)
 
@@ -335,7 +337,7 @@ mutual
       let blanks = blanks_read (nest d) (index d) place t h.0 h.2 in
       let start = word_start place h.0 in
       let plain : WordReads (nest d) (index d) place expand parts start h.1 = elim h.5 [
-        | inl q ↦ rw q.1 (quoted_read (nest d) (index d) place expand parts q.0 h.1 (parts_read parts d Quoted q.0 (34 ∷ h.1) q.2) h.6)
+        | inl q ↦ rw q.1 (quoted_read (nest d) (index d) place expand parts q.0 h.1 (parts_read parts d (Quoted Scripts) q.0 (34 ∷ h.1) q.2) h.6)
         | inr (inl b) ↦ rw (b.3, b.6, verbatim_is b.1 b.2 b.5) (brace_read (nest d) (index d) place expand b.1 b.0 h.1 b.4 h.6)
         | inr (inr b) ↦ bare_read (nest d) (index d) place expand parts start h.1 (start_begins place h.0 h.3) b.0 (parts_read parts d (Bare place) start h.1 b.1) h.6
       ] in
@@ -358,7 +360,7 @@ mutual
   parts_read (element name index' rest) zero m t v h = absurd h
   parts_read (element name index' rest) (suc d) m t v h =
       rw h.3 (reads_then (element name index') (join_parts rest) (parts_at (nest (suc d)) (index (suc d)) m) (36 ∷ h.0) h.2 v
-      (element_read d m index' name h.0 h.1 h.2 h.4 (parts_read index' d Index h.1 (41 ∷ h.2) h.5)) (parts_read rest (suc d) m h.2 v h.6))
+      (element_read d m index' name h.0 h.1 h.2 h.4 (parts_read index' d (Index (syntax_of m)) h.1 (41 ∷ h.2) h.5)) (parts_read rest (suc d) m h.2 v h.6))
   parts_read (nested script rest) zero m t v h = absurd h
   parts_read (nested script rest) (suc d) m t v h =
       rw h.2 (reads_then (nested script) (join_parts rest) (parts_at (nest (suc d)) (index (suc d)) m) (91 ∷ h.0) h.1 v

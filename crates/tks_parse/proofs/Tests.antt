@@ -69,14 +69,14 @@ prefix_name p (c ∷ u) =
 pub open_goes_on : (m : Mode) (u : List ℕ) → ends_parts m 91 u ≡ false
 open_goes_on (Bare Alone) u = refl
 open_goes_on (Bare Brackets) u = refl
-open_goes_on Quoted u = refl
-open_goes_on Index u = refl
+open_goes_on (Quoted syntax) u = refl
+open_goes_on (Index syntax) u = refl
 
 pub dollar_goes_on : (m : Mode) (u : List ℕ) → ends_parts m 36 u ≡ false
 dollar_goes_on (Bare Alone) u = refl
 dollar_goes_on (Bare Brackets) u = refl
-dollar_goes_on Quoted u = refl
-dollar_goes_on Index u = refl
+dollar_goes_on (Quoted syntax) u = refl
+dollar_goes_on (Index syntax) u = refl
 
 pub hash_goes_on : (place : Place) → ends_script place 35 ≡ false
 hash_goes_on Alone = refl

@@ -9,7 +9,7 @@ use Rattle.tks_text.specs.Run.{Step, stop, fails, takes, Run, ended, run, after_
 use Rattle.tks_text.specs.declared.fault.ScriptFault.{ScriptFault}
 use Rattle.tks_parse.specs.Tree.{Script, no_command, faulty, command, Words, no_word, word, Parts, no_part, char, variable, element, nested, chars}
 use Rattle.tks_parse.specs.Class.{is_blank, is_separator, is_name_char, is_no_close_brace, is_fold, ends_script, ends_word, ends_word_at, ends_command_at, ends_parts, is_expanded}
-use Rattle.tks_parse.specs.Fault.{missing_close_brace, missing_close_quote, missing_close_bracket, text_after_close_quote, text_after_close_brace, bad_escape, too_deeply_nested, missing_close_of_variable}
+use Rattle.tks_parse.specs.Fault.{missing_close_brace, missing_close_quote, missing_close_bracket, text_after_close_quote, text_after_close_brace, bad_escape, too_deeply_nested, missing_close_of_variable, told, syntax_of}
 use Rattle.tks_text.specs.Backslash.{escape}
 use Rattle.tks_parse.specs.Braces.{comment_len, braced_len, verbatim}
 use Rattle.tks_parse.specs.Reading.{escape_step, close_name, braced_name_step, close_index, close_script, close_text, braced_at, ended_word, closed_word, behind_bytes, nested_step, index_step, named_step, variable_step, part_step, parts_at, quoted_at, bare_word, plain_word, prefixed_word, word_step, words_at, words_command, command_step, commands_at, nest, index, closed, script_of}
@@ -18,41 +18,43 @@ use Rattle.tks_parse.specs.declared.mode.Place.{Place}
 use Rattle.tks_parse.specs.declared.mode.Place.TheVariants.{Alone, Brackets}
 use Rattle.tks_parse.specs.declared.mode.Mode.{Mode}
 use Rattle.tks_parse.specs.declared.mode.Mode.TheVariants.{Bare, Quoted, Index}
+use Rattle.tks_parse.specs.declared.syntax.Syntax.{Syntax}
+use Rattle.tks_parse.specs.declared.syntax.Syntax.TheVariants.{Scripts}
 use Rattle.tks_parse.proofs.Tests.{if_case, not_false, and_cases, drop_one, prefix_name, dollar_goes_on, ends_parts_at, bare_end, taken_some, pred_drop, end_at_word, start_begins}
 use Rattle.tks_parse.proofs.Braced.{comment_told, braced_told, unclosed_told, verbatim_told}
 
 -- ---- parts
 
 -- what a script behind a `[` came to
-data BracketCase : ℕ → List ℕ → Step ScriptFault Parts → Type 0 where
+pub data BracketCase : ℕ → List ℕ → Step ScriptFault Parts → Type 0 where
   bracket_is : (d : ℕ) (u : List ℕ) (script : Script) (n : ℕ) (w : List ℕ) → ScriptThen script d Brackets u (93 ∷ w) → drop n u ≡ w → BracketCase (suc d) u (takes (nested script) n)
   bracket_fails : (d : ℕ) (u : List ℕ) (f : ScriptFault) → BracketsFail d u f → BracketCase d u (fails f)
 
 -- what an index came to, behind a name of n characters and a `(`
-data IndexCase (name : List ℕ) (n : ℕ) : ℕ → List ℕ → Step ScriptFault Parts → Type 0 where
-  index_is : (d : ℕ) (s : List ℕ) (parts : Parts) (k : ℕ) (w : List ℕ) → PartsThen parts d Index s (41 ∷ w) → drop k s ≡ 41 ∷ w → IndexCase name n (suc d) s (takes (element name parts) (n + 1 + k + 1))
-  index_fails : (d : ℕ) (s : List ℕ) (f : ScriptFault) → IndexFails d s f → IndexCase name n d s (fails f)
+pub data IndexCase (syntax : Syntax) (name : List ℕ) (n : ℕ) : ℕ → List ℕ → Step ScriptFault Parts → Type 0 where
+  index_is : (d : ℕ) (s : List ℕ) (parts : Parts) (k : ℕ) (w : List ℕ) → PartsThen parts d (Index syntax) s (41 ∷ w) → drop k s ≡ 41 ∷ w → IndexCase syntax name n (suc d) s (takes (element name parts) (n + 1 + k + 1))
+  index_fails : (d : ℕ) (s : List ℕ) (f : ScriptFault) → IndexFails d syntax s f → IndexCase syntax name n d s (fails f)
 
 -- what a step over parts came to
-data PartCase (d : ℕ) (m : Mode) (c : ℕ) (u : List ℕ) : Step ScriptFault Parts → Type 0 where
+pub data PartCase (d : ℕ) (m : Mode) (c : ℕ) (u : List ℕ) : Step ScriptFault Parts → Type 0 where
   at_stop : ends_parts m c u ≡ true → PartCase d m c u stop
   at_char : StandsForItself m c u → PartCase d m c u (takes (char c) 0)
   at_escape : (x n : ℕ) (w : List ℕ) → c ≡ 92 → EscapeThen m x u w → drop n u ≡ w → PartCase d m c u (takes (char x) n)
   at_variable : (name : List ℕ) (n : ℕ) (w : List ℕ) → c ≡ 36 → ((NameThen name u w × BeginsNot (λ x. eqb x 40) w) ⊎ BracedNameThen name u w) → drop n u ≡ w → PartCase d m c u (takes (variable name) n)
   at_bracket : (s : Step ScriptFault Parts) → c ≡ 91 → BracketCase d u s → PartCase d m c u s
-  at_index : (s : Step ScriptFault Parts) (name : List ℕ) (n : ℕ) (v : List ℕ) → c ≡ 36 → NameThen name u (40 ∷ v) → drop n u ≡ 40 ∷ v → IndexCase name n d v s → PartCase d m c u s
+  at_index : (s : Step ScriptFault Parts) (name : List ℕ) (n : ℕ) (v : List ℕ) → c ≡ 36 → NameThen name u (40 ∷ v) → drop n u ≡ 40 ∷ v → IndexCase (syntax_of m) name n d v s → PartCase d m c u s
   at_fault : (f : ScriptFault) → PartFails (BracketsFail d) (IndexFails d) m (c ∷ u) f → PartCase d m c u (fails f)
 
-abbrev Bracketed : ℕ → Type 0
+abbrev pub Bracketed : ℕ → Type 0
 Bracketed d = (u : List ℕ) → BracketCase d u (nested_step (nest d) u)
 
-abbrev Indexes : ℕ → Type 0
-Indexes d = (name : List ℕ) (n : ℕ) (s : List ℕ) → IndexCase name n d s (index_step (index d) name n s)
+abbrev pub Indexes : ℕ → Type 0
+Indexes d = (syntax : Syntax) (name : List ℕ) (n : ℕ) (s : List ℕ) → IndexCase syntax name n d s (index_step (index d) syntax name n s)
 
 -- the name is behind the `{` of `${`
-close_name_case : (d : ℕ) (m : Mode) (u name : List ℕ) (n : ℕ) (w : List ℕ) → AllByRecursion (λ c. is_no_close_brace c ≡ true) name → BeginsNot is_no_close_brace w → u ≡ name ++ w → drop n u ≡ w → PartCase d m 36 (123 ∷ u) (close_name name n w)
+close_name_case : (d : ℕ) (m : Mode) (u name : List ℕ) (n : ℕ) (w : List ℕ) → AllByRecursion (λ c. is_no_close_brace c ≡ true) name → BeginsNot is_no_close_brace w → u ≡ name ++ w → drop n u ≡ w → PartCase d m 36 (123 ∷ u) (close_name (syntax_of m) name n w)
 close_name_case d m u name n [] each b is e =
-    at_fault missing_close_of_variable (PartFails.name_unclosed u (rw (is, append-nil name) each))
+    at_fault (told (syntax_of m) missing_close_of_variable) (PartFails.name_unclosed u (rw (is, append-nil name) each))
 close_name_case d m u name n (c ∷ w) each b is e =
     let closer : c ≡ 125 = eqb-true c 125 (not_false (eqb c 125) b) in
     let two : n + 2 ≡ suc (suc n) = omega arith in
@@ -60,7 +62,7 @@ close_name_case d m u name n (c ∷ w) each b is e =
     (inr (record { each = each; is = ap (λ x. 123 ∷ x) (is ∙ ap (λ x. name ++ x ∷ w) closer) }))
     (ap (λ k. drop k (123 ∷ u)) two ∙ drop_one n u w c e)
 
-braced_name_case : (d : ℕ) (m : Mode) (u : List ℕ) → BeginsNot is_name_char u → PartCase d m 36 u (braced_name_step u)
+braced_name_case : (d : ℕ) (m : Mode) (u : List ℕ) → BeginsNot is_name_char u → PartCase d m 36 u (braced_name_step (syntax_of m) u)
 unfolding braced_name_step
 braced_name_case d m [] b = at_char (record { inside = dollar_goes_on m []; plain = refl; no_variable = λ _. tt })
 braced_name_case d m (c ∷ u) b =
@@ -70,15 +72,15 @@ braced_name_case d m (c ∷ u) b =
     (λ e. rw (eqb-true c 123 e) (close_name_case d m u (take n u) n (drop n u) told.0 told.1 (sym (take-append-drop n u)) refl))
     (λ e. at_char (record { inside = dollar_goes_on m (c ∷ u); plain = refl; no_variable = λ _. rw (b, e) refl }))
 
-named_case : (d : ℕ) (m : Mode) (u name : List ℕ) (n : ℕ) (w : List ℕ) → Indexes d → NameThen name u w → drop n u ≡ w → PartCase d m 36 u (named_step (index d) name n w)
+named_case : (d : ℕ) (m : Mode) (u name : List ℕ) (n : ℕ) (w : List ℕ) → Indexes d → NameThen name u w → drop n u ≡ w → PartCase d m 36 u (named_step (index d) (syntax_of m) name n w)
 unfolding named_step
 named_case d m u name n [] i h e = at_variable name n [] refl (inl (h, tt)) e
 named_case d m u name n (c ∷ w) i h e =
     if_case (PartCase d m 36 u) (eqb c 40) _ _
-    (λ k. let is : c ≡ 40 = eqb-true c 40 k in at_index (index_step (index d) name n w) name n w refl (subst (λ x. NameThen name u (x ∷ w)) is h) (e ∙ ap (λ x. x ∷ w) is) (i name n w))
+    (λ k. let is : c ≡ 40 = eqb-true c 40 k in at_index (index_step (index d) (syntax_of m) name n w) name n w refl (subst (λ x. NameThen name u (x ∷ w)) is h) (e ∙ ap (λ x. x ∷ w) is) (i (syntax_of m) name n w))
     (λ k. at_variable name n (c ∷ w) refl (inl (h, k)) e)
 
-variable_case : (d : ℕ) (m : Mode) (u : List ℕ) → Indexes d → PartCase d m 36 u (variable_step (index d) u)
+variable_case : (d : ℕ) (m : Mode) (u : List ℕ) → Indexes d → PartCase d m 36 u (variable_step (index d) (syntax_of m) u)
 unfolding variable_step
 variable_case d m u i =
     let n = prefix_len is_name_char u in
@@ -88,26 +90,26 @@ variable_case d m u i =
     (λ e. named_case d m u (take n u) n (drop n u) i
     (record { some = omega (arith, length-prefix_len is_name_char u, eqb-false n 0 e); each = told.0; is = sym (take-append-drop n u); longest = told.1 }) refl)
 
-escape_case_of : (d : ℕ) (m : Mode) (u : List ℕ) (o : Option (ℕ × ℕ)) → ends_parts m 92 u ≡ false → escape u ≡ o → PartCase d m 92 u (escape_step o)
-escape_case_of d m u None s e = at_fault bad_escape (PartFails.outside_texts u s e)
+escape_case_of : (d : ℕ) (m : Mode) (u : List ℕ) (o : Option (ℕ × ℕ)) → ends_parts m 92 u ≡ false → escape u ≡ o → PartCase d m 92 u (escape_step (syntax_of m) o)
+escape_case_of d m u None s e = at_fault (told (syntax_of m) bad_escape) (PartFails.outside_texts u s e)
 escape_case_of d m u (Some x) s e = at_escape x.0 x.1 (drop x.1 u) refl (record { inside = s; taken = x.1; is = e; rest = refl }) refl
 
-escape_case : (d : ℕ) (m : Mode) (u : List ℕ) → ends_parts m 92 u ≡ false → PartCase d m 92 u (escape_step (escape u))
+escape_case : (d : ℕ) (m : Mode) (u : List ℕ) → ends_parts m 92 u ≡ false → PartCase d m 92 u (escape_step (syntax_of m) (escape u))
 escape_case d m u s = escape_case_of d m u (escape u) s refl
 
-part_case : (d : ℕ) (m : Mode) (c : ℕ) (u : List ℕ) → Bracketed d → Indexes d → PartCase d m c u (part_step (nest d) (index d) m (c ∷ u))
+pub part_case : (d : ℕ) (m : Mode) (c : ℕ) (u : List ℕ) → Bracketed d → Indexes d → PartCase d m c u (part_step (nest d) (index d) m (c ∷ u))
 unfolding part_step
 part_case d m c u b i =
     if_case (PartCase d m c u) (ends_parts m c u) _ _ (λ s. at_stop s)
     (λ s. if_case (PartCase d m c u) (eqb c 36) _ _
-    (λ e. subst (λ x. PartCase d m x u (variable_step (index d) u)) (sym (eqb-true c 36 e)) (variable_case d m u i))
+    (λ e. subst (λ x. PartCase d m x u (variable_step (index d) (syntax_of m) u)) (sym (eqb-true c 36 e)) (variable_case d m u i))
     (λ e. if_case (PartCase d m c u) (eqb c 91) _ _
     (λ k. at_bracket (nested_step (nest d) u) (eqb-true c 91 k) (b u))
     (λ k. if_case (PartCase d m c u) (eqb c 92) _ _
-    (λ q. let is : c ≡ 92 = eqb-true c 92 q in subst (λ x. PartCase d m x u (escape_step (escape u))) (sym is) (escape_case d m u (subst (λ x. ends_parts m x u ≡ false) is s)))
+    (λ q. let is : c ≡ 92 = eqb-true c 92 q in subst (λ x. PartCase d m x u (escape_step (syntax_of m) (escape u))) (sym is) (escape_case d m u (subst (λ x. ends_parts m x u ≡ false) is s)))
     (λ q. at_char (record { inside = s; plain = rw (k, q) refl; no_variable = λ is. absurd (eqb-false c 36 e is) })))))
 
-abbrev PartsOutcome : ℕ → Mode → List ℕ → Option ScriptFault → Parts → List ℕ → Type 0
+abbrev pub PartsOutcome : ℕ → Mode → List ℕ → Option ScriptFault → Parts → List ℕ → Type 0
 PartsOutcome d m t None ps v = PartsThen ps d m t v × (ends_parts_at m v ≡ true)
 PartsOutcome d m t (Some f) ps v = PartsFail (BracketsFail d) (IndexFails d) d m t f
 
@@ -127,23 +129,23 @@ nested_outcome : (d : ℕ) (m : Mode) (c : ℕ) (script : Script) (u w : List �
 nested_outcome d m c script u w None ps v e s h = ((u, w, ap (λ y. y ∷ u) e, s, h.0), h.1)
 nested_outcome d m c script u w (Some f) ps v e s h = (nested script h.0, h.1, (u, w, ap (λ y. y ∷ u) e, s, h.2), h.3)
 
-element_outcome : (d : ℕ) (m : Mode) (c : ℕ) (name : List ℕ) (parts : Parts) (u s w : List ℕ) (o : Option ScriptFault) (ps : Parts) (v : List ℕ) → c ≡ 36 → NameThen name u (40 ∷ s) → PartsThen parts d Index s (41 ∷ w) → PartsOutcome (suc d) m w o ps v → PartsOutcome (suc d) m (c ∷ u) o (element name parts ps) v
+element_outcome : (d : ℕ) (m : Mode) (c : ℕ) (name : List ℕ) (parts : Parts) (u s w : List ℕ) (o : Option ScriptFault) (ps : Parts) (v : List ℕ) → c ≡ 36 → NameThen name u (40 ∷ s) → PartsThen parts d (Index (syntax_of m)) s (41 ∷ w) → PartsOutcome (suc d) m w o ps v → PartsOutcome (suc d) m (c ∷ u) o (element name parts ps) v
 element_outcome d m c name parts u s w None ps v e n p h = ((u, s, w, ap (λ y. y ∷ u) e, n, p, h.0), h.1)
 element_outcome d m c name parts u s w (Some f) ps v e n p h = (element name parts h.0, h.1, (u, s, w, ap (λ y. y ∷ u) e, n, p, h.2), h.3)
 
-abbrev PartsTold : ℕ → Mode → List ℕ → List ℕ → Run ScriptFault Parts → Type 0
+abbrev pub PartsTold : ℕ → Mode → List ℕ → List ℕ → Run ScriptFault Parts → Type 0
 PartsTold d m t u r = PartsOutcome d m t r.fault r.items (drop r.taken u)
 
 after_bracket : (d : ℕ) (m : Mode) (c : ℕ) (u : List ℕ) (s : Step ScriptFault Parts) (go : ℕ → Run ScriptFault Parts) → c ≡ 91 → BracketCase d u s → ((k : ℕ) → PartsTold d m (drop k u) u (go k)) → PartsTold d m (c ∷ u) (c ∷ u) (after_step no_part s go)
 after_bracket _ m c _ _ go e (bracket_is d u script n w h r) ih = nested_outcome d m c script u w (go n).fault (go n).items (drop (go n).taken u) e h (subst (λ x. PartsTold (suc d) m x u (go n)) r (ih n))
 after_bracket _ m c _ _ go e (bracket_fails d u f h) ih = (no_part, 91 ∷ u, ap (λ x. x ∷ u) e, PartFails.in_brackets u f h)
 
-index_rest : (u s w : List ℕ) (n k : ℕ) → drop n u ≡ 40 ∷ s → drop k s ≡ 41 ∷ w → drop (n + 1 + k + 1) u ≡ w
+pub index_rest : (u s w : List ℕ) (n k : ℕ) → drop n u ≡ 40 ∷ s → drop k s ≡ 41 ∷ w → drop (n + 1 + k + 1) u ≡ w
 index_rest u s w n k e r =
     let whole : n + 1 + k + 1 ≡ n + suc (suc k) = omega arith in
     ap (λ i. drop i u) whole ∙ sym (drop-drop (suc (suc k)) n u) ∙ ap (drop (suc (suc k))) e ∙ drop_one k s w 41 r
 
-after_index : (name : List ℕ) (n d : ℕ) (m : Mode) (c : ℕ) (u v : List ℕ) (s : Step ScriptFault Parts) (go : ℕ → Run ScriptFault Parts) → c ≡ 36 → NameThen name u (40 ∷ v) → drop n u ≡ 40 ∷ v → IndexCase name n d v s → ((k : ℕ) → PartsTold d m (drop k u) u (go k)) → PartsTold d m (c ∷ u) (c ∷ u) (after_step no_part s go)
+after_index : (name : List ℕ) (n d : ℕ) (m : Mode) (c : ℕ) (u v : List ℕ) (s : Step ScriptFault Parts) (go : ℕ → Run ScriptFault Parts) → c ≡ 36 → NameThen name u (40 ∷ v) → drop n u ≡ 40 ∷ v → IndexCase (syntax_of m) name n d v s → ((k : ℕ) → PartsTold d m (drop k u) u (go k)) → PartsTold d m (c ∷ u) (c ∷ u) (after_step no_part s go)
 after_index name n _ m c u _ _ go e h r (index_is d s parts k w p q) ih =
     let at = n + 1 + k + 1 in
     element_outcome d m c name parts u s w (go at).fault (go at).items (drop (go at).taken u) e h p (subst (λ x. PartsTold (suc d) m x u (go at)) (index_rest u s w n k r q) (ih at))
@@ -164,7 +166,7 @@ run_parts d m b i (suc k) [] = (refl, refl)
 run_parts d m b i (suc k) (c ∷ u) = run_parts d m b i k u
 run_parts d m b i zero (c ∷ u) = after_part d m c u (part_step (nest d) (index d) m (c ∷ u)) (λ k. run no_part (part_step (nest d) (index d) m) k u) (part_case d m c u b i) (λ k. run_parts d m b i k u)
 
-parts_told : (d : ℕ) (m : Mode) → Bracketed d → Indexes d → (t : List ℕ) → PartsTold d m t t (parts_at (nest d) (index d) m t)
+pub parts_told : (d : ℕ) (m : Mode) → Bracketed d → Indexes d → (t : List ℕ) → PartsTold d m t t (parts_at (nest d) (index d) m t)
 unfolding parts_at
 parts_told d m b i t = run_parts d m b i 0 t
 
@@ -185,12 +187,12 @@ ended_case d place expand c n u y ps f e w wrong =
     (λ k. plain_is ps n y e w (ap (ends_word_at place) (sym e) ∙ k))
     (λ k. plain_fails f (wrong (ap (ends_word_at place) (sym e) ∙ k)))
 
-quoted_case : (d : ℕ) (place : Place) (expand : Bool) (u : List ℕ) (o : Option ScriptFault) (ps : Parts) (n : ℕ) (v : List ℕ) → drop n u ≡ v → PartsOutcome d Quoted u o ps v → PlainCase d place expand (34 ∷ u) (closed_word place expand text_after_close_quote u (elim o [ None ↦ close_text missing_close_quote ps n v | Some f ↦ ended no_part (Some f) ]))
+quoted_case : (d : ℕ) (place : Place) (expand : Bool) (u : List ℕ) (o : Option ScriptFault) (ps : Parts) (n : ℕ) (v : List ℕ) → drop n u ≡ v → PartsOutcome d (Quoted Scripts) u o ps v → PlainCase d place expand (34 ∷ u) (closed_word place expand text_after_close_quote u (elim o [ None ↦ close_text missing_close_quote ps n v | Some f ↦ ended no_part (Some f) ]))
 quoted_case d place expand u (Some f) ps n v e h = plain_fails f (WordFails.in_quotes u f h)
 quoted_case d place expand u None ps n [] e h = plain_fails missing_close_quote (WordFails.quote_unclosed u ps h.0)
 quoted_case d place expand u None ps n (c ∷ z) e h =
     let quote : c ≡ 34 = eqb-true c 34 h.1 in
-    let inside = subst (λ x. PartsThen ps d Quoted u (x ∷ z)) quote h.0 in
+    let inside = subst (λ x. PartsThen ps d (Quoted Scripts) u (x ∷ z)) quote h.0 in
     ended_case d place expand 34 (n + 1) u z ps text_after_close_quote (close_rest n u z c e) (inl (u, refl, inside)) (λ k. WordFails.behind_quote u z ps inside k)
 
 braced_case : (d : ℕ) (place : Place) (expand : Bool) (u inside : List ℕ) (n : ℕ) (v : List ℕ) → drop n u ≡ v → (v ≡ [] → (inside w : List ℕ) → BracedThen inside u w → ⊥) → ((c : ℕ) (w : List ℕ) → v ≡ c ∷ w → BracedThen inside u w) → PlainCase d place expand (123 ∷ u) (closed_word place expand text_after_close_brace u (close_text missing_close_brace (chars (verbatim inside) no_part) n v))
@@ -209,11 +211,11 @@ plain_case : (d : ℕ) (place : Place) (expand : Bool) (s : List ℕ) → Bracke
 unfolding plain_word quoted_at braced_at bare_word
 plain_case d place expand [] b i h = absurd cc
 plain_case d place expand (c ∷ u) b i h =
-    let p = parts_at (nest d) (index d) Quoted u in
+    let p = parts_at (nest d) (index d) (Quoted Scripts) u in
     let q = parts_at (nest d) (index d) (Bare place) (c ∷ u) in
     let n = braced_len 0 false u in
     if_case (PlainCase d place expand (c ∷ u)) (eqb c 34) _ _
-    (λ k. rw (eqb-true c 34 k) (quoted_case d place expand u p.fault p.items p.taken (drop p.taken u) refl (parts_told d Quoted b i u)))
+    (λ k. rw (eqb-true c 34 k) (quoted_case d place expand u p.fault p.items p.taken (drop p.taken u) refl (parts_told d (Quoted Scripts) b i u)))
     (λ k. if_case (PlainCase d place expand (c ∷ u)) (eqb c 123) _ _
     (λ j. rw (eqb-true c 123 j) (braced_case d place expand u (take n u) n (drop n u) refl (λ e. unclosed_told u e) (λ x w e. braced_told u x w e)))
     (λ j. bare_case d place expand c u q.fault q.items q.taken (drop q.taken (c ∷ u)) h (rw (k, j) refl) refl (parts_told d (Bare place) b i (c ∷ u))))
@@ -393,27 +395,27 @@ close_case d u None cs n (c ∷ w) e h =
     let is : c ≡ 93 = eqb-true c 93 h.1 in
     bracket_is d u cs (n + 1) w (subst (λ x. ScriptThen cs d Brackets u (x ∷ w)) is h.0) (close_rest n u w c e)
 
-index_case : (name : List ℕ) (n d : ℕ) (s : List ℕ) (o : Option ScriptFault) (ps : Parts) (k : ℕ) (v : List ℕ) → drop k s ≡ v → PartsOutcome d Index s o ps v → IndexCase name n (suc d) s (elim o [ None ↦ close_index name ps (n + 1 + k) v | Some f ↦ fails f ])
-index_case name n d s (Some f) ps k v e h = index_fails (suc d) s f (inr h)
-index_case name n d s None ps k [] e h = index_fails (suc d) s missing_close_of_variable (inl (ps, h.0, refl))
-index_case name n d s None ps k (c ∷ w) e h =
+index_case : (syntax : Syntax) (name : List ℕ) (n d : ℕ) (s : List ℕ) (o : Option ScriptFault) (ps : Parts) (k : ℕ) (v : List ℕ) → drop k s ≡ v → PartsOutcome d (Index syntax) s o ps v → IndexCase syntax name n (suc d) s (elim o [ None ↦ close_index syntax name ps (n + 1 + k) v | Some f ↦ fails f ])
+index_case syntax name n d s (Some f) ps k v e h = index_fails (suc d) s f (inr h)
+index_case syntax name n d s None ps k [] e h = index_fails (suc d) s (told syntax missing_close_of_variable) (inl (ps, h.0, refl))
+index_case syntax name n d s None ps k (c ∷ w) e h =
     let is : c ≡ 41 = eqb-true c 41 h.1 in
-    index_is d s ps k w (subst (λ x. PartsThen ps d Index s (x ∷ w)) is h.0) (e ∙ ap (λ x. x ∷ w) is)
+    index_is d s ps k w (subst (λ x. PartsThen ps d (Index syntax) s (x ∷ w)) is h.0) (e ∙ ap (λ x. x ∷ w) is)
 
 mutual
   unfolding nested_step index_step nest
 
-  brackets_told : (d : ℕ) → Bracketed d
+  pub brackets_told : (d : ℕ) → Bracketed d
   brackets_told zero u = bracket_fails zero u too_deeply_nested refl
   brackets_told (suc d) u =
       let r = commands_at (nest d) (index d) Brackets u in
       close_case d u r.fault r.items r.taken (drop r.taken u) refl (commands_told d Brackets (brackets_told d) (indexes_told d) u)
 
-  indexes_told : (d : ℕ) → Indexes d
-  indexes_told zero name n s = index_fails zero s too_deeply_nested refl
-  indexes_told (suc d) name n s =
-      let r = parts_at (nest d) (index d) Index s in
-      index_case name n d s r.fault r.items r.taken (drop r.taken s) refl (parts_told d Index (brackets_told d) (indexes_told d) s)
+  pub indexes_told : (d : ℕ) → Indexes d
+  indexes_told zero syntax name n s = index_fails zero s too_deeply_nested refl
+  indexes_told (suc d) syntax name n s =
+      let r = parts_at (nest d) (index d) (Index syntax) s in
+      index_case syntax name n d s r.fault r.items r.taken (drop r.taken s) refl (parts_told d (Index syntax) (brackets_told d) (indexes_told d) s)
 
 whole : (t : List ℕ) (o : Option ScriptFault) (cs : Script) (v : List ℕ) → ScriptOutcome 32 Alone t o cs v → Spells t (closed cs o)
 whole t None cs [] h = inl h.0

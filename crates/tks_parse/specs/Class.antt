@@ -51,8 +51,8 @@ ends_command_at place (c ∷ u) = is_separator c || ends_script place c
 -- the parts of a word, or of an index, end before c and u
 abbrev pub ends_parts : Mode → ℕ → List ℕ → Bool
 ends_parts (Bare place) c u = ends_word place c || is_fold c u
-ends_parts Quoted c u = c == 34
-ends_parts Index c u = c == 41
+ends_parts (Quoted syntax) c u = c == 34
+ends_parts (Index syntax) c u = c == 41
 
 -- whether a text begins with `{*}` and a word behind it
 abbrev pub is_expanded : Place → List ℕ → Bool

@@ -1,8 +1,12 @@
--- The faults of a script's form.
+-- The faults of the form of scripts and expressions, and how those outside brackets are told.
 use Rattle.std.specs.Prelude.{None}
 use Rattle.tks_text.specs.declared.fault.ErrorNumber.{ErrorNumber}
-use Rattle.tks_text.specs.declared.fault.ErrorNumber.TheVariants.{MissingCloseBrace, MissingCloseQuote, MissingCloseBracket, TextAfterCloseQuote, TextAfterCloseBrace, BadEscape, TooDeeplyNested, MissingCloseOfVariable}
+use Rattle.tks_text.specs.declared.fault.ErrorNumber.TheVariants.{MissingCloseBrace, MissingCloseQuote, MissingCloseBracket, TextAfterCloseQuote, TextAfterCloseBrace, BadEscape, TooDeeplyNested, MissingCloseOfVariable, ExpressionSyntax}
 use Rattle.tks_text.specs.declared.fault.ScriptFault.{ScriptFault}
+use Rattle.tks_parse.specs.declared.mode.Mode.{Mode}
+use Rattle.tks_parse.specs.declared.mode.Mode.TheVariants.{Bare, Quoted, Index}
+use Rattle.tks_parse.specs.declared.syntax.Syntax.{Syntax}
+use Rattle.tks_parse.specs.declared.syntax.Syntax.TheVariants.{Scripts, Expressions}
 
 abbrev pub fault_of : ErrorNumber → ScriptFault
 fault_of number = record { number = number; subject = None }
@@ -30,3 +34,17 @@ too_deeply_nested = fault_of TooDeeplyNested
 
 abbrev pub missing_close_of_variable : ScriptFault
 missing_close_of_variable = fault_of MissingCloseOfVariable
+
+abbrev pub expression_syntax : ScriptFault
+expression_syntax = fault_of ExpressionSyntax
+
+-- how a fault outside brackets is told: in a script as itself, in an expression as bad syntax
+abbrev pub told : Syntax → ScriptFault → ScriptFault
+told Scripts fault = fault
+told Expressions fault = expression_syntax
+
+-- whose syntax parts are of
+abbrev pub syntax_of : Mode → Syntax
+syntax_of (Bare place) = Scripts
+syntax_of (Quoted syntax) = syntax
+syntax_of (Index syntax) = syntax

@@ -8,11 +8,13 @@ use Rattle.tks_text.specs.Backslash.{escape}
 use Rattle.tks_text.specs.declared.fault.ScriptFault.{ScriptFault}
 use Rattle.tks_parse.specs.Tree.{Script, no_command, faulty, command, Words, no_word, word, Parts, no_part, char, variable, element, nested, chars, join_scripts}
 use Rattle.tks_parse.specs.Class.{is_blank, is_separator, is_name_char, is_no_close_brace, ends_word_at, ends_command_at, ends_parts, is_expanded}
-use Rattle.tks_parse.specs.Fault.{missing_close_brace, missing_close_quote, missing_close_bracket, text_after_close_quote, text_after_close_brace, bad_escape, too_deeply_nested, missing_close_of_variable}
+use Rattle.tks_parse.specs.Fault.{missing_close_brace, missing_close_quote, missing_close_bracket, text_after_close_quote, text_after_close_brace, bad_escape, too_deeply_nested, missing_close_of_variable, told, syntax_of}
 use Rattle.tks_parse.specs.declared.mode.Place.{Place}
 use Rattle.tks_parse.specs.declared.mode.Place.TheVariants.{Alone, Brackets}
 use Rattle.tks_parse.specs.declared.mode.Mode.{Mode}
 use Rattle.tks_parse.specs.declared.mode.Mode.TheVariants.{Bare, Quoted, Index}
+use Rattle.tks_parse.specs.declared.syntax.Syntax.{Syntax}
+use Rattle.tks_parse.specs.declared.syntax.Syntax.TheVariants.{Scripts}
 
 -- a text that begins with no such character
 abbrev pub BeginsNot : (ℕ → Bool) → List ℕ → Type 0
@@ -107,7 +109,7 @@ word_start place t = if is_expanded place t then drop 3 t else t
 -- closes it. 3: another ends at white space or what ends a command. `Are` says that t is the word's parts, then v
 abbrev pub WordThen : Parts → (Mode → List ℕ → List ℕ → Type 0) → Place → List ℕ → List ℕ → Type 0
 WordThen parts Are place t v =
-    ((u : List ℕ) × (t ≡ 34 ∷ u) × Are Quoted u (34 ∷ v))
+    ((u : List ℕ) × (t ≡ 34 ∷ u) × Are (Quoted Scripts) u (34 ∷ v))
     ⊎ (((u inside value : List ℕ) × (t ≡ 123 ∷ u) × BracedThen inside u v × Verbatim inside value × (parts ≡ chars value no_part))
     ⊎ (BeginsNot (λ c. (c == 34) || (c == 123)) t × Are (Bare place) t v))
 
@@ -137,7 +139,7 @@ abbrev mutual
       (u w : List ℕ) × (t ≡ 36 ∷ u) × ((NameThen name u w × BeginsNot (λ c. c == 40) w) ⊎ BracedNameThen name u w) × PartsThen rest d m w v
   PartsThen (element name index rest) zero m t v = ⊥
   PartsThen (element name index rest) (suc d) m t v =
-      (u s w : List ℕ) × (t ≡ 36 ∷ u) × NameThen name u (40 ∷ s) × PartsThen index d Index s (41 ∷ w) × PartsThen rest (suc d) m w v
+      (u s w : List ℕ) × (t ≡ 36 ∷ u) × NameThen name u (40 ∷ s) × PartsThen index d (Index (syntax_of m)) s (41 ∷ w) × PartsThen rest (suc d) m w v
   PartsThen (nested script rest) zero m t v = ⊥
   PartsThen (nested script rest) (suc d) m t v =
       (s w : List ℕ) × (t ≡ 91 ∷ s) × ScriptThen script d Brackets s (93 ∷ w) × PartsThen rest (suc d) m w v
@@ -149,32 +151,32 @@ abbrev pub Fails : Type 1
 Fails = List ℕ → ScriptFault → Type 0
 
 -- from t on stands a part with a fault
-pub data PartFails (InBrackets InIndex : Fails) (m : Mode) : List ℕ → ScriptFault → Type 0 where
+pub data PartFails (InBrackets : Fails) (InIndex : Syntax → Fails) (m : Mode) : List ℕ → ScriptFault → Type 0 where
   in_brackets : (s : List ℕ) (fault : ScriptFault) → InBrackets s fault → PartFails InBrackets InIndex m (91 ∷ s) fault
-  in_index : (name u s : List ℕ) (fault : ScriptFault) → NameThen name u (40 ∷ s) → InIndex s fault → PartFails InBrackets InIndex m (36 ∷ u) fault
-  name_unclosed : (name : List ℕ) → AllByRecursion (λ c. is_no_close_brace c ≡ true) name → PartFails InBrackets InIndex m (36 ∷ 123 ∷ name) missing_close_of_variable
-  outside_texts : (u : List ℕ) → ends_parts m 92 u ≡ false → escape u ≡ None → PartFails InBrackets InIndex m (92 ∷ u) bad_escape
+  in_index : (name u s : List ℕ) (fault : ScriptFault) → NameThen name u (40 ∷ s) → InIndex (syntax_of m) s fault → PartFails InBrackets InIndex m (36 ∷ u) fault
+  name_unclosed : (name : List ℕ) → AllByRecursion (λ c. is_no_close_brace c ≡ true) name → PartFails InBrackets InIndex m (36 ∷ 123 ∷ name) (told (syntax_of m) missing_close_of_variable)
+  outside_texts : (u : List ℕ) → ends_parts m 92 u ≡ false → escape u ≡ None → PartFails InBrackets InIndex m (92 ∷ u) (told (syntax_of m) bad_escape)
 
 -- t is parts, and then one with a fault
-abbrev pub PartsFail : Fails → Fails → ℕ → Mode → List ℕ → ScriptFault → Type 0
+abbrev pub PartsFail : Fails → (Syntax → Fails) → ℕ → Mode → List ℕ → ScriptFault → Type 0
 PartsFail InBrackets InIndex d m t fault = (parts : Parts) × (u : List ℕ) × PartsThen parts d m t u × PartFails InBrackets InIndex m u fault
 
 -- a word with a fault
-pub data WordFails (InBrackets InIndex : Fails) (d : ℕ) (place : Place) : List ℕ → ScriptFault → Type 0 where
-  in_quotes : (u : List ℕ) (fault : ScriptFault) → PartsFail InBrackets InIndex d Quoted u fault → WordFails InBrackets InIndex d place (34 ∷ u) fault
-  quote_unclosed : (u : List ℕ) (parts : Parts) → PartsThen parts d Quoted u [] → WordFails InBrackets InIndex d place (34 ∷ u) missing_close_quote
-  behind_quote : (u v : List ℕ) (parts : Parts) → PartsThen parts d Quoted u (34 ∷ v) → ends_word_at place v ≡ false → WordFails InBrackets InIndex d place (34 ∷ u) text_after_close_quote
+pub data WordFails (InBrackets : Fails) (InIndex : Syntax → Fails) (d : ℕ) (place : Place) : List ℕ → ScriptFault → Type 0 where
+  in_quotes : (u : List ℕ) (fault : ScriptFault) → PartsFail InBrackets InIndex d (Quoted Scripts) u fault → WordFails InBrackets InIndex d place (34 ∷ u) fault
+  quote_unclosed : (u : List ℕ) (parts : Parts) → PartsThen parts d (Quoted Scripts) u [] → WordFails InBrackets InIndex d place (34 ∷ u) missing_close_quote
+  behind_quote : (u v : List ℕ) (parts : Parts) → PartsThen parts d (Quoted Scripts) u (34 ∷ v) → ends_word_at place v ≡ false → WordFails InBrackets InIndex d place (34 ∷ u) text_after_close_quote
   brace_unclosed : (u : List ℕ) → ((inside v : List ℕ) → BracedThen inside u v → ⊥) → WordFails InBrackets InIndex d place (123 ∷ u) missing_close_brace
   behind_brace : (u inside v : List ℕ) → BracedThen inside u v → ends_word_at place v ≡ false → WordFails InBrackets InIndex d place (123 ∷ u) text_after_close_brace
   bare : (t : List ℕ) (fault : ScriptFault) → BeginsNot (λ c. (c == 34) || (c == 123)) t → PartsFail InBrackets InIndex d (Bare place) t fault → WordFails InBrackets InIndex d place t fault
 
 -- words, and then one with a fault
-abbrev pub WordsFail : Fails → Fails → ℕ → Place → List ℕ → ScriptFault → Type 0
+abbrev pub WordsFail : Fails → (Syntax → Fails) → ℕ → Place → List ℕ → ScriptFault → Type 0
 WordsFail InBrackets InIndex d place t fault =
     (words : Words) × (x : List ℕ) × WordsThen words d place t x × (ends_word_at place x ≡ false) × WordFails InBrackets InIndex d place (word_start place x) fault
 
 -- the commands before, and then one with a fault
-abbrev pub ScriptFails : Fails → Fails → ℕ → Place → Script → List ℕ → ScriptFault → Type 0
+abbrev pub ScriptFails : Fails → (Syntax → Fails) → ℕ → Place → Script → List ℕ → ScriptFault → Type 0
 ScriptFails InBrackets InIndex d place before t fault =
     (v : List ℕ) × ScriptThen before d place t v × BeginsCommand place v × WordsFail InBrackets InIndex d place v fault
 
@@ -186,10 +188,10 @@ abbrev mutual
       (script : Script) × ((ScriptThen script d Brackets s [] × (fault ≡ missing_close_bracket)) ⊎ ScriptFails (BracketsFail d) (IndexFails d) d Brackets script s fault)
 
   -- and so is an index in parentheses
-  pub IndexFails : ℕ → Fails
-  IndexFails zero s fault = fault ≡ too_deeply_nested
-  IndexFails (suc d) s fault =
-      ((parts : Parts) × PartsThen parts d Index s [] × (fault ≡ missing_close_of_variable)) ⊎ PartsFail (BracketsFail d) (IndexFails d) d Index s fault
+  pub IndexFails : ℕ → Syntax → Fails
+  IndexFails zero syntax s fault = fault ≡ too_deeply_nested
+  IndexFails (suc d) syntax s fault =
+      ((parts : Parts) × PartsThen parts d (Index syntax) s [] × (fault ≡ told syntax missing_close_of_variable)) ⊎ PartsFail (BracketsFail d) (IndexFails d) d (Index syntax) s fault
 
 -- the text t spells this script: its commands to the end of t, or those before the first fault, and that
 abbrev pub Spells : List ℕ → Script → Type 0

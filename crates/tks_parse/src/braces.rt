@@ -6,7 +6,7 @@ ghost use Rattle.tks_parse.specs.Gives.{GivesRun, run_of_parts, GivesVerbatim, I
 ghost use Rattle.tks_parse.specs.Reading.{braced_at};
 
 use crate::class::blank_len;
-use crate::fault::fault;
+use crate::syntax::Syntax;
 use crate::tree::{Part, Parts};
 use std::alloc::{AllocError, Global};
 use tks_text::{ErrorNumber, Failure, Txt};
@@ -140,15 +140,15 @@ pub fn braced_value(alloc: Global, text: &[u8]) -> Result<Txt, AllocError>
 
 /// What stands behind an opening brace, up to the one that closes it, and how many bytes it takes with that.
 #[tactic(auto, unfolding(crate::specs::Reading::braced_at))]
-pub fn read_braced(alloc: Global, text: &[u8]) -> Result<(Parts, usize), Failure>
+pub fn read_braced(alloc: Global, text: &[u8], syntax: Syntax) -> Result<(Parts, usize), Failure>
     requires { IsText text.now }
-    ensures gives { GivesRun run_of_parts result (braced_at text.now) }
+    ensures gives { GivesRun run_of_parts result (braced_at syntax text.now) }
     ensures bound { IfOk result (λ x. x.1 ≤ length text.now) }
 {
     let len = braced_len(text);
     let (inside, behind) = text.split_at(len);
     if behind.is_empty() {
-        return Err(fault(ErrorNumber::MissingCloseBrace));
+        return Err(syntax.fault(ErrorNumber::MissingCloseBrace));
     }
     let mut parts = Vec::new(alloc);
     parts.push(Part::Text(braced_value(alloc, inside)?))?;

@@ -1,8 +1,8 @@
 //! The parts of a word while they are read.
 ghost use Rattle.std.specs.Prelude.{◌≡◌, IfOk};
-ghost use Rattle.tks_parse.specs.Gives.{IsTextPiece};
+ghost use Rattle.tks_parse.specs.Gives.{IsTextPiece, parts_of_piece};
 
-use crate::tree::Part;
+use crate::tree::{Part, Parts};
 use std::alloc::{AllocError, Global};
 use std::marker::Model;
 use tks_text::Txt;
@@ -14,6 +14,26 @@ pub enum Piece {
     Char(u8),
     /// A variable, or a script in brackets.
     Whole(Part),
+}
+
+impl Piece {
+    /// The parts that the piece is.
+    pub fn into_parts(self, alloc: Global) -> Result<Parts, AllocError>
+        requires { IsTextPiece self }
+        ensures { IfOk result (λ parts. parts ≡ parts_of_piece self) }
+    {
+        let part = match self {
+            Piece::Char(c) => {
+                let mut text = Txt::new(alloc);
+                text.push_byte(c)?;
+                Part::Text(text)
+            }
+            Piece::Whole(part) => part,
+        };
+        let mut parts = Vec::new(alloc);
+        parts.push(part)?;
+        Ok(Parts::new(parts))
+    }
 }
 
 /// The parts of a word while it is read: whole parts, and characters behind them.

@@ -17,7 +17,7 @@ pub fn is_separator(c: u8) -> bool
 }
 
 /// A letter, a digit or an underscore.
-fn is_name_char(c: u8) -> bool
+pub fn is_name_char(c: u8) -> bool
     ensures { result ≡ is_name_char c }
 {
     (b'0' <= c && c <= b'9') || (b'A' <= c && c <= b'Z') || (b'a' <= c && c <= b'z') || c == b'_'

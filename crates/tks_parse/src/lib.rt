@@ -9,11 +9,14 @@ mod fault;
 mod laws;
 mod mode;
 mod reading;
+mod syntax;
 mod tree;
 mod words;
 
 pub use braces::read_braced;
 pub use builder::Piece;
+pub use class::is_name_char;
 pub use laws::one_script;
 pub use reading::{MAX_DEPTH, parse, read_nested, read_quoted, read_variable};
+pub use syntax::Syntax;
 pub use tree::{Command, Part, Parts, Script, Word};

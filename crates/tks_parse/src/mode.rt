@@ -1,7 +1,9 @@
 ghost use Rattle.std.specs.Prelude.{◌≡◌};
 ghost use Rattle.tks_parse.specs.Class.{ends_script, ends_word, ends_word_at, ends_parts};
+ghost use Rattle.tks_parse.specs.Fault.{syntax_of};
 
 use crate::class::{is_blank, is_fold, is_separator};
+use crate::syntax::Syntax;
 
 /// Where a script stands.
 #[derive(Clone, Copy)]
@@ -47,20 +49,31 @@ pub enum Mode {
     /// In a word without quotes.
     Bare(Place),
     /// Between quotes.
-    Quoted,
+    Quoted(Syntax),
     /// In the index of an array's element.
-    Index,
+    Index(Syntax),
 }
 
 impl Mode {
+    /// Whose syntax the parts are of.
+    pub fn syntax(self) -> Syntax
+        ensures { result ≡ syntax_of self }
+    {
+        match self {
+            Mode::Bare(_) => Syntax::Scripts,
+            Mode::Quoted(syntax) => syntax,
+            Mode::Index(syntax) => syntax,
+        }
+    }
+
     /// Whether the parts end before this character, with this text behind it.
     pub fn ends_parts(self, c: u8, rest: &[u8]) -> bool
         ensures { result ≡ ends_parts self c rest.now }
     {
         match self {
             Mode::Bare(place) => place.ends_word(c) || is_fold(c, rest),
-            Mode::Quoted => c == b'"',
-            Mode::Index => c == b')',
+            Mode::Quoted(_) => c == b'"',
+            Mode::Index(_) => c == b')',
         }
     }
 }

@@ -17,6 +17,7 @@ use crate::class::{braced_name_len, is_blank, is_fold, is_separator, name_len};
 use crate::commands::{Found, add_command};
 use crate::fault::fault;
 use crate::mode::{Mode, Place};
+use crate::syntax::Syntax;
 use crate::tree::{Command, Part, Parts, Script, Word};
 use crate::words::{add_word, end_word, is_expanded};
 use std::alloc::{AllocError, Global};
@@ -27,9 +28,13 @@ pub const MAX_DEPTH: u32 = 32;
 
 // What a `$` before no name begins: `{name}`, or the `$` stands for itself.
 #[tactic(auto, unfolding(crate::specs::Reading::braced_name_step))]
-fn read_braced_name(alloc: Global, text: &[u8]) -> Result<Option<(Piece, usize)>, Failure>
+fn read_braced_name(
+    alloc: Global,
+    text: &[u8],
+    syntax: Syntax,
+) -> Result<Option<(Piece, usize)>, Failure>
     requires { IsText text.now }
-    ensures gives { GivesStep taken_piece result (braced_name_step text.now) }
+    ensures gives { GivesStep taken_piece result (braced_name_step syntax text.now) }
     ensures bound { IfOk result (λ o. IfSome o (λ x. x.1 ≤ length text.now)) }
     ensures text { IfOk result (λ o. IfSome o (λ x. IsTextPiece x.0)) }
 {
@@ -38,7 +43,7 @@ fn read_braced_name(alloc: Global, text: &[u8]) -> Result<Option<(Piece, usize)>
             let len = braced_name_len(rest);
             let (name, behind) = rest.split_at(len);
             if behind.is_empty() {
-                return Err(fault(ErrorNumber::MissingCloseOfVariable));
+                return Err(syntax.fault(ErrorNumber::MissingCloseOfVariable));
             }
             let name = Txt::from_text(alloc, name)?;
             Ok(Some((Piece::Whole(Part::Variable(name, None)), len + 2)))
@@ -86,25 +91,26 @@ fn read_index(
     alloc: Global,
     name: &[u8],
     text: &[u8],
+    syntax: Syntax,
     depth: u32,
 ) -> Result<Option<(Piece, usize)>, Failure>
     requires text { IsText text.now }
     requires name { IsText name.now }
     requires room { length name.now + length text.now < 2 ^ 64 - 1 }
-    ensures gives { GivesStep taken_piece result (index_step (index depth) name.now (length name.now) text.now) }
+    ensures gives { GivesStep taken_piece result (index_step (index depth) syntax name.now (length name.now) text.now) }
     ensures bound { IfOk result (λ o. IfSome o (λ x. x.1 ≤ length name.now + 1 + length text.now)) }
     ensures text { IfOk result (λ o. IfSome o (λ x. IsTextPiece x.0)) }
 {
     if depth == 0 {
         return Err(fault(ErrorNumber::TooDeeplyNested));
     }
-    let (parts, taken) = read_parts(alloc, text, Mode::Index, depth - 1)?;
+    let (parts, taken) = read_parts(alloc, text, Mode::Index(syntax), depth - 1)?;
     if taken < text.len() {
         let len = name.len() + 1 + taken + 1;
         let name = Txt::from_text(alloc, name)?;
         Ok(Some((Piece::Whole(Part::Variable(name, Some(parts))), len)))
     } else {
-        Err(fault(ErrorNumber::MissingCloseOfVariable))
+        Err(syntax.fault(ErrorNumber::MissingCloseOfVariable))
     }
 }
 
@@ -114,20 +120,21 @@ fn read_index(
 pub fn read_variable(
     alloc: Global,
     text: &[u8],
+    syntax: Syntax,
     depth: u32,
 ) -> Result<Option<(Piece, usize)>, Failure>
     requires { IsText text.now }
-    ensures gives { GivesStep taken_piece result (variable_step (index depth) text.now) }
+    ensures gives { GivesStep taken_piece result (variable_step (index depth) syntax text.now) }
     ensures bound { IfOk result (λ o. IfSome o (λ x. x.1 ≤ length text.now)) }
     ensures text { IfOk result (λ o. IfSome o (λ x. IsTextPiece x.0)) }
 {
     let len = name_len(text);
     if len == 0 {
-        return read_braced_name(alloc, text);
+        return read_braced_name(alloc, text, syntax);
     }
     let (name, behind) = text.split_at(len);
     match behind {
-        [b'(', rest @ ..] => read_index(alloc, name, rest, depth),
+        [b'(', rest @ ..] => read_index(alloc, name, rest, syntax, depth),
         _ => {
             let name = Txt::from_text(alloc, name)?;
             Ok(Some((Piece::Whole(Part::Variable(name, None)), len)))
@@ -136,14 +143,14 @@ pub fn read_variable(
 }
 
 // The character that a backslash before this text gives.
-fn read_escape(text: &[u8]) -> Result<Option<(Piece, usize)>, Failure>
-    ensures gives { GivesStep taken_piece result (escape_step (escape text.now)) }
+fn read_escape(text: &[u8], syntax: Syntax) -> Result<Option<(Piece, usize)>, Failure>
+    ensures gives { GivesStep taken_piece result (escape_step syntax (escape text.now)) }
     ensures bound { IfOk result (λ o. IfSome o (λ x. x.1 ≤ length text.now)) }
     ensures text { IfOk result (λ o. IfSome o (λ x. IsTextPiece x.0)) }
 {
     match escape(text) {
         Some((c, taken)) => Ok(Some((Piece::Char(c), taken))),
-        None => Err(fault(ErrorNumber::BadEscape)),
+        None => Err(syntax.fault(ErrorNumber::BadEscape)),
     }
 }
 
@@ -169,13 +176,13 @@ fn read_piece(
                 return Ok(None);
             }
             if c == b'$' {
-                return read_variable(alloc, rest, depth);
+                return read_variable(alloc, rest, mode.syntax(), depth);
             }
             if c == b'[' {
                 return read_nested(alloc, rest, depth);
             }
             if c == b'\\' {
-                return read_escape(rest);
+                return read_escape(rest, mode.syntax());
             }
             Ok(Some((Piece::Char(c), 0)))
         }
@@ -203,16 +210,21 @@ fn read_parts(alloc: Global, text: &[u8], mode: Mode, depth: u32) -> Result<(Par
 /// The parts behind an opening quote, up to the next quote.
 #[cycle(parse)]
 #[tactic(auto, unfolding(crate::specs::Reading::quoted_at))]
-pub fn read_quoted(alloc: Global, text: &[u8], depth: u32) -> Result<(Parts, usize), Failure>
+pub fn read_quoted(
+    alloc: Global,
+    text: &[u8],
+    syntax: Syntax,
+    depth: u32,
+) -> Result<(Parts, usize), Failure>
     requires { IsText text.now }
-    ensures gives { GivesRun run_of_parts result (quoted_at (nest depth) (index depth) text.now) }
+    ensures gives { GivesRun run_of_parts result (quoted_at (nest depth) (index depth) syntax text.now) }
     ensures bound { IfOk result (λ x. x.1 ≤ length text.now) }
 {
-    let (parts, taken) = read_parts(alloc, text, Mode::Quoted, depth)?;
+    let (parts, taken) = read_parts(alloc, text, Mode::Quoted(syntax), depth)?;
     if taken < text.len() {
         Ok((parts, taken + 1))
     } else {
-        Err(fault(ErrorNumber::MissingCloseQuote))
+        Err(syntax.fault(ErrorNumber::MissingCloseQuote))
     }
 }
 
@@ -233,7 +245,7 @@ fn read_plain(
     match text {
         [] => Ok(None),
         [b'"', rest @ ..] => {
-            let (parts, taken) = read_quoted(alloc, rest, depth)?;
+            let (parts, taken) = read_quoted(alloc, rest, Syntax::Scripts, depth)?;
             let behind = rest.split_at(taken).1;
             end_word(
                 place,
@@ -245,7 +257,7 @@ fn read_plain(
             )
         }
         [b'{', rest @ ..] => {
-            let (parts, taken) = read_braced(alloc, rest)?;
+            let (parts, taken) = read_braced(alloc, rest, Syntax::Scripts)?;
             let behind = rest.split_at(taken).1;
             end_word(
                 place,

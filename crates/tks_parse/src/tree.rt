@@ -100,6 +100,13 @@ impl Script {
     {
         (self.commands.as_slice(), self.fault.as_ref())
     }
+
+    /// The same, given away.
+    pub fn into_contents(self) -> (Vec<Command>, Option<ScriptFault>)
+        ensures { script_of_commands result.0.items result.1 ≡ self }
+    {
+        (self.commands, self.fault)
+    }
 }
 
 impl Parts {
@@ -115,5 +122,12 @@ impl Parts {
         ensures { parts_of result.now ≡ self.now }
     {
         self.parts.as_slice()
+    }
+
+    /// The same, given away.
+    pub fn into_parts(self) -> Vec<Part>
+        ensures { parts_of result.items ≡ self }
+    {
+        self.parts
     }
 }

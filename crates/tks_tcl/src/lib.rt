@@ -14,4 +14,8 @@ mod words;
 
 pub use calls::plain;
 pub use command::is_built_in;
+pub use interrupt::{Interrupt, error_about, fits, within, wrong_words};
+pub use lists::concatenated;
 pub use stop::Stop;
+pub use variables::store;
+pub use words::list_in;

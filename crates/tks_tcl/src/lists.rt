@@ -230,8 +230,8 @@ fn push_some(list: &mut Seq<Txt>, text: Txt) -> Result<(), AllocError>
     Ok(())
 }
 
-// concat ..
-fn concatenated(alloc: Global, words: &[Txt]) -> Result<Txt, AllocError>
+/// The texts without their outer white space, those that are not empty then, with spaces between them.
+pub fn concatenated(alloc: Global, words: &[Txt]) -> Result<Txt, AllocError>
     ensures { IfOk result (λ t. t ≡ concatenated words.now) }
 {
     let mut kept = Seq::new(alloc);

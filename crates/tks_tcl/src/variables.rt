@@ -88,8 +88,14 @@ fn may_grow(members: Option<usize>, limits: &Limits) -> bool
     }
 }
 
-// Gives a name a value, which is the answer too.
-fn store(variables: &mut Vars, name: &Txt, value: Txt, limits: &Limits) -> Result<Txt, Interrupt>
+/// Gives a name a value, which is answered. `TooLarge` where the value, or the list that it joins, would
+/// pass its limit.
+pub fn store(
+    variables: &mut Vars,
+    name: &Txt,
+    value: Txt,
+    limits: &Limits,
+) -> Result<Txt, Interrupt>
     ensures value { GivesSo (λ t. (t, variables.new)) result (stores limits.now name.now variables.old value) }
     ensures err { OnErr result (variables.new ≡ variables.old) }
 {

@@ -30,8 +30,8 @@ fn is_blank(text: &[u8]) -> bool
     text.iter().all(|byte| is_space(*byte))
 }
 
-// How many bytes of white space the text begins with.
-fn space_len(text: &[u8]) -> usize
+/// How many bytes of white space the text begins with.
+pub fn space_len(text: &[u8]) -> usize
     ensures value { result ≡ prefix_len is_space text.now }
     ensures bound { result ≤ length text.now }
 {

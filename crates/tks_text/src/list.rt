@@ -41,6 +41,13 @@ impl<T> Seq<T> {
         self.items.is_empty()
     }
 
+    /// The items, in order, as a vector.
+    pub fn into_items(self) -> Vec<T>
+        ensures { result.items ≡ self }
+    {
+        self.items
+    }
+
     /// The items, in order.
     pub fn as_slice(&self) -> &[T]
         ensures { result.now ≡ self.now }

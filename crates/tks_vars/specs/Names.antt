@@ -1,5 +1,5 @@
 -- The names of variables (Tcl(n), rule 8; set(n)).
-use Rattle.std.specs.Prelude.{ℕ, ◌+◌, ◌-◌, ◌==◌, if◌then◌else◌, List, [], ◌∷◌, length, take, drop, Option, Some, None, option_map, position, codes}
+use Rattle.std.specs.Prelude.{ℕ, Bool, false, is_none, ◌+◌, ◌-◌, ◌==◌, if◌then◌else◌, List, [], ◌∷◌, length, take, drop, Option, Some, None, option_map, position, codes}
 use Rattle.tks_text.specs.Text.{same_text}
 
 -- a variable, and, where an element of it is named, the index
@@ -33,6 +33,11 @@ named_behind text variable (Some index) = element_named variable index
 abbrev pub named_in : List ℕ → Option (List ℕ × List ℕ) → Option Name
 named_in text None = Some (whole text)
 named_in text (Some parts) = named_behind text parts.0 (closed parts.1)
+
+-- whether a name is that of a whole variable
+abbrev pub is_whole : Option Name → Bool
+is_whole None = false
+is_whole (Some name) = is_none name.index
 
 -- what a text says as a name: one that holds `(` and ends with `)` is that of an element of the variable
 -- before the first `(`, and none where nothing stands before it; any other is that of a whole variable

@@ -1,5 +1,5 @@
 -- The variables and procedures of scripts (set(n), unset(n), global(n), info(n), proc(n)), as finite maps.
-use Rattle.std.specs.Prelude.{ℕ, Bool, true, false, if◌then◌else◌, List, [], ◌∷◌, Option, Some, None, is_some, option_and_then, drop, Result, Ok, Err, refl}
+use Rattle.std.specs.Prelude.{ℕ, Bool, true, false, if◌then◌else◌, List, [], ◌∷◌, Option, Some, None, is_some, option_and_then, drop, reverse, Result, Ok, Err, refl}
 use Rattle.std.specs.Coded.{Coded, code_by, coded×, coded_list, coded_ℕ}
 use Rattle.std.specs.FinMap as map
 use Rattle.tks_text.specs.declared.fault.ErrorNumber.{ErrorNumber}
@@ -11,6 +11,7 @@ use Rattle.tks_vars.specs.declared.content.Content.{Content}
 use Rattle.tks_vars.specs.declared.content.Content.TheVariants.{Scalar, Array}
 use Rattle.tks_vars.specs.declared.content.Local.{Local}
 use Rattle.tks_vars.specs.declared.content.Local.TheVariants.{Own, Link}
+use Rattle.tks_vars.specs.declared.procedure.Argument.{Argument}
 use Rattle.tks_vars.specs.declared.procedure.Procedure.{Procedure}
 use Rattle.tks_vars.specs.contracts.content.Content as content
 use Rattle.tks_vars.specs.contracts.content.Local as local
@@ -197,6 +198,24 @@ linked variables text = about text (linked_in variables variables.locals text)
 -- the variables with a new frame
 abbrev pub pushed : Variables → Variables
 pushed variables = record variables { locals = map.empty ∷ variables.locals }
+
+-- a frame with these scalars in it, one after the other
+abbrev pub filled : Frame → List Argument → Frame
+filled frame [] = frame
+filled frame (x ∷ xs) = filled (map.insert frame x.name (Own (Scalar x.value))) xs
+
+-- the frame of a call: of two arguments with one name the first stays
+abbrev pub frame_of : List Argument → Frame
+frame_of given = filled map.empty (reverse given)
+
+-- the variables with the frame of a call
+abbrev pub pushed_with : List Argument → Variables → Variables
+pushed_with given variables = record variables { locals = frame_of given ∷ variables.locals }
+
+-- how many variables the present frame has
+abbrev pub frame_size : Map Content → Option Frame → ℕ
+frame_size globals None = map.len globals
+frame_size globals (Some frame) = map.len frame
 
 -- the variables without the innermost frame
 abbrev pub popped : Variables → Variables

@@ -9,5 +9,6 @@ mod table;
 mod vars;
 mod writing;
 
-pub use procedure::{Parameter, Procedure};
+pub use name::names_whole;
+pub use procedure::{Argument, Parameter, Procedure};
 pub use vars::Vars;

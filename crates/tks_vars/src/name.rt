@@ -1,6 +1,8 @@
 ghost use Rattle.std.specs.Prelude.{◌≡◌, ◌==◌, position, option_map};
-ghost use Rattle.tks_vars.specs.Names.{halves, whole, element_named, named};
+ghost use Rattle.tks_vars.specs.Names.{halves, whole, element_named, named, is_whole};
 ghost use Rattle.tks_vars.specs.View.{pair_seen, name_seen};
+
+use tks_text::Txt;
 
 /// What the name of a variable says: the variable, and, where it names an element, its index.
 #[derive(Clone, Copy)]
@@ -19,6 +21,16 @@ pub fn named(text: &[u8]) -> Option<Name<'_>>
     match behind.strip_suffix(b")".as_slice()) {
         Some(index) => element_named(variable, index),
         None => Some(whole(text)),
+    }
+}
+
+/// Whether a text is the name of a whole variable, and not of an element.
+pub fn names_whole(text: &Txt) -> bool
+    ensures { result ≡ is_whole (named text.now) }
+{
+    match named(text.as_bytes()) {
+        Some(name) => name.index.is_none(),
+        None => false,
     }
 }
 

@@ -9,6 +9,13 @@ pub struct Parameter {
     pub default: Option<Txt>,
 }
 
+/// A parameter's name, and the value that a call gives it.
+#[derive(Drop)]
+pub struct Argument {
+    pub name: Txt,
+    pub value: Txt,
+}
+
 /// A procedure.
 #[derive(Drop)]
 pub struct Procedure {

@@ -1,13 +1,13 @@
-ghost use Rattle.std.specs.Prelude.{◌≡◌, ◌<◌, length, reverse, false, IfOk, OnOk, OnErr, IsOk, option_copied};
+ghost use Rattle.std.specs.Prelude.{◌≡◌, length, reverse, false, IfOk, OnOk, OnErr, IsOk, option_copied};
 ghost use Rattle.std.specs.FinMap as map;
 ghost use Rattle.tks_text.specs.Fault.{Gives};
 ghost use Rattle.tks_vars.specs.Meets.{AnswersSo};
-ghost use Rattle.tks_vars.specs.Variables.{no_variables, innermost, content_of, is_global, value_at, value_of, with_value, without_at, without, exists, linked, pushed, popped, with_procedure, size_in, grown_by_value, grown_by_link};
+ghost use Rattle.tks_vars.specs.Variables.{no_variables, innermost, content_of, is_global, value_at, value_of, with_value, without_at, without, exists, linked, pushed, frame_of, pushed_with, frame_size, popped, with_procedure, size_in, grown_by_value, grown_by_link};
 
 use crate::clones::CloneIn;
 use crate::content::{Content, Local, fault};
 use crate::name::named;
-use crate::procedure::Procedure;
+use crate::procedure::{Argument, Procedure};
 use crate::table::Table;
 use crate::writing::{link, take_global, take_local, write_global, write_local};
 use std::alloc::{AllocError, Global};
@@ -178,9 +178,28 @@ impl Vars {
         Ok(())
     }
 
-    /// Ends the present frame, and its variables with it.
+    /// Begins a frame with these scalars. Of two with one name the first stays.
+    pub fn push_frame_with(&mut self, arguments: Vec<Argument>) -> Result<(), AllocError>
+        ensures ok { OnOk result (self.new ≡ pushed_with arguments.items self.old) }
+        ensures err { OnErr result (self.new ≡ self.old) }
+    {
+        let frame = frame_of(self.alloc, arguments)?;
+        self.locals.push(frame)?;
+        Ok(())
+    }
+
+    /// How many variables the present frame has.
+    pub fn frame_len(&self) -> usize
+        ensures { result ≡ frame_size self.now.globals (innermost self.now.locals) }
+    {
+        match innermost(&self.locals) {
+            None => self.globals.len(),
+            Some(frame) => frame.len(),
+        }
+    }
+
+    /// Ends the present frame, and its variables with it. At global level nothing is done.
     pub fn pop_frame(&mut self)
-        requires { 0 < length self.old.locals }
         ensures { self.new ≡ popped self.old }
     {
         let _ended = self.locals.pop();
@@ -271,6 +290,18 @@ impl Vars {
             procedures: self.procedures.clone_in(self.alloc)?,
         })
     }
+}
+
+// The frame of a call.
+fn frame_of(alloc: Global, arguments: Vec<Argument>) -> Result<Table<Local>, AllocError>
+    ensures { IfOk result (λ frame. frame ≡ frame_of arguments.items) }
+{
+    let mut frame = Table::new(alloc);
+    let mut arguments = arguments;
+    while let Some(Argument { name, value }) = arguments.pop() {
+        frame.insert(name.as_bytes(), Local::Own(Content::Scalar(value)))?;
+    }
+    Ok(frame)
 }
 
 // Equal frames.

@@ -1,4 +1,5 @@
 use super::*;
+use std::process::Abort;
 use std::test::Fail;
 
 // A text of a table: a `~` stands for a newline, a `!` for a tab.
@@ -44,36 +45,47 @@ fn shown(alloc: Global, text: &str) -> Result<String, Fail> {
     Ok(shown)
 }
 
+// Compares what the text of a row splits into with what stands behind its `=`.
+fn compare(rt: &impl Abort, alloc: Global, row: &str) -> Result<(), Fail> {
+    let (text, want) = row.split_once('=').ok_or("no value")?;
+    let shown = shown(alloc, text)?;
+    assert_eq!(rt; shown.as_str(), want, "at {text}");
+    Ok(())
+}
+
+// A text, `=`, and what it splits into.
+fn rows() -> &'static str {
+    "\
+=\n\
+\u{20}!~ =\n\
+a {b c} \"d e\"=|a|b c|d e\n\
+a {b {c d}} {}=|a|b {c d}|\n\
+{a\\}b} {\\{}=|a\\}b|\\{\n\
+a\\ b \\x41\\u0042\\1033 \\401=|a b|ABC3| 1\n\
+\"a\\\"b\" a\\~!  b=|a\"b|a b\n\
+a\\x \\uz \\=|ax|uz|\\\n\
+a{b c}d \\{ $x;[y]=|a{b|c}d|{|$x;[y]\n\
+{a}b=none\n\
+\"a\"b=none\n\
+{a {b}=none\n\
+\"a b=none\n\
+{a\\}=none\n\
+a\\a=none\n\
+\"\\x7f\"=none\n\
+{\\a}=|\\a"
+}
+
 #[test]
 fn lists_of_texts(rt: HostRuntime) -> Result<(), Fail> {
-    let table = [
-        ("", ""),
-        (" !~ ", ""),
-        ("a {b c} \"d e\"", "|a|b c|d e"),
-        ("a {b {c d}} {}", "|a|b {c d}|"),
-        ("{a\\}b} {\\{}", "|a\\}b|\\{"),
-        ("a\\ b \\x41\\u0042\\1033 \\401", "|a b|ABC3| 1"),
-        ("\"a\\\"b\" a\\~!  b", "|a\"b|a b"),
-        ("a\\x \\uz \\", "|ax|uz|\\"),
-        ("a{b c}d \\{ $x;[y]", "|a{b|c}d|{|$x;[y]"),
-        ("{a}b", "none"),
-        ("\"a\"b", "none"),
-        ("{a {b}", "none"),
-        ("\"a b", "none"),
-        ("{a\\}", "none"),
-        ("a\\a", "none"),
-        ("\"\\x7f\"", "none"),
-        ("{\\a}", "|\\a"),
-    ];
-    for (text, want) in table {
-        let shown = shown(rt.alloc(), text)?;
-        assert_eq!(rt; shown.as_str(), want, "at {text}");
+    for row in rows().lines() {
+        compare(&rt, rt.alloc(), row)?;
     }
     Ok(())
 }
 
 // Made by tests/lists.tcl with Tcl 8.6.13: a text, `=`, and what Tcl splits it into.
-const TABLE: &str = "{}n} =none
+fn rows_of_tcl() -> &'static str {
+    "{}n} =none
 }}}7\\ {b$7b\\tt][\"} =|}}}7 {b$7b!t][\"}
 { u} =| u
 !}}{\\}}=|}}{}}
@@ -312,14 +324,13 @@ b\\{u0b  =|b{u0b
 ]n\" {4} =|]n\"|4
 nx\" {0t$nu} }~77\"} =|nx\"|0t$nu|}|77\"}
 ]\\ \"\\\\} =|] \"\\}
-{} \"a}}=none";
+{} \"a}}=none"
+}
 
 #[test]
 fn lists_as_in_tcl(rt: HostRuntime) -> Result<(), Fail> {
-    for row in TABLE.lines() {
-        let (text, want) = row.split_once('=').unwrap_or((row, "?"));
-        let shown = shown(rt.alloc(), text)?;
-        assert_eq!(rt; shown.as_str(), want, "at {text}");
+    for row in rows_of_tcl().lines() {
+        compare(&rt, rt.alloc(), row)?;
     }
     Ok(())
 }

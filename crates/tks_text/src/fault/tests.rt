@@ -9,29 +9,23 @@ fn numbers_are_those_of_the_texts(rt: HostRuntime) {
     assert_eq!(rt; ErrorNumber::NoSuchAfterId.number(), 45);
 }
 
+// The text of a fault about a subject.
+fn told(alloc: Global, number: ErrorNumber, subject: &[u8]) -> Result<Txt, Fail> {
+    let subject = Some(Txt::from_bytes(alloc, subject)?);
+    Ok(ScriptFault { number, subject }.text(alloc)?)
+}
+
 #[test]
 fn faults_have_texts(rt: HostRuntime) -> Result<(), Fail> {
-    let table = [
-        (ErrorNumber::TextAfterCloseQuote, None, b"E04".as_slice()),
-        (
-            ErrorNumber::NoSuchVariable,
-            Some(b"x y".as_slice()),
-            b"E11 x y".as_slice(),
-        ),
-        (
-            ErrorNumber::NoSuchAfterId,
-            Some(b"".as_slice()),
-            b"E45 ".as_slice(),
-        ),
-    ];
-    for (number, subject, want) in table {
-        let subject = match subject {
-            Some(bytes) => Some(Txt::from_bytes(rt.alloc(), bytes)?),
-            None => None,
-        };
-        let fault = ScriptFault { number, subject };
-        assert_eq!(rt; fault.text(rt.alloc())?.as_bytes(), want);
-    }
+    let fault = ScriptFault {
+        number: ErrorNumber::TextAfterCloseQuote,
+        subject: None,
+    };
+    assert_eq!(rt; fault.text(rt.alloc())?.as_bytes(), b"E04".as_slice());
+    let text = told(rt.alloc(), ErrorNumber::NoSuchVariable, b"x y")?;
+    assert_eq!(rt; text.as_bytes(), b"E11 x y".as_slice());
+    let text = told(rt.alloc(), ErrorNumber::NoSuchAfterId, b"")?;
+    assert_eq!(rt; text.as_bytes(), b"E45 ".as_slice());
     Ok(())
 }
 

@@ -1,4 +1,5 @@
 use super::*;
+use std::process::Abort;
 use std::test::Fail;
 
 // Shows what a text spells: an integer in decimal, `none` or `range`.
@@ -11,40 +12,33 @@ fn shown(alloc: Global, text: &[u8]) -> Result<Txt, Fail> {
     }
 }
 
+// Compares what the text of a row spells with what stands behind its `=`.
+fn compare(rt: &impl Abort, alloc: Global, row: &str) -> Result<(), Fail> {
+    let (text, want) = row.split_once('=').ok_or("no value")?;
+    let shown = shown(alloc, text.as_bytes())?;
+    assert_eq!(rt; shown.as_bytes(), want.as_bytes(), "at {text}");
+    Ok(())
+}
+
+// Texts and what they spell, with a semicolon between rows.
+fn rows() -> &'static str {
+    "0=0;-0=0;007=7;08=none;=none;+=none;0x=none;0X1=none;0x1g=none;0xfF=255;+ 5=none;--5=none;5 6=none;\
+     9223372036854775807=9223372036854775807; \t\n-12\n\t =-12;9223372036854775808=range;\
+     -9223372036854775808=-9223372036854775808;-0x8000000000000000=-9223372036854775808;\
+     -9223372036854775809=range;18446744073709551616=range;99999999999999999999x=none"
+}
+
 #[test]
 fn integers_of_texts(rt: HostRuntime) -> Result<(), Fail> {
-    let table = [
-        ("0", "0"),
-        ("-0", "0"),
-        ("007", "7"),
-        ("08", "none"),
-        ("", "none"),
-        ("+", "none"),
-        ("0x", "none"),
-        ("0X1", "none"),
-        ("0x1g", "none"),
-        ("0xfF", "255"),
-        ("+ 5", "none"),
-        ("--5", "none"),
-        ("5 6", "none"),
-        (" \t\n-12\n\t ", "-12"),
-        ("9223372036854775807", "9223372036854775807"),
-        ("9223372036854775808", "range"),
-        ("-9223372036854775808", "-9223372036854775808"),
-        ("-0x8000000000000000", "-9223372036854775808"),
-        ("-9223372036854775809", "range"),
-        ("18446744073709551616", "range"),
-        ("99999999999999999999x", "none"),
-    ];
-    for (text, want) in table {
-        let shown = shown(rt.alloc(), text.as_bytes())?;
-        assert_eq!(rt; shown.as_bytes(), want.as_bytes(), "at {text}");
+    for row in rows().split(';') {
+        compare(&rt, rt.alloc(), row)?;
     }
     Ok(())
 }
 
 // Made by tests/integers.tcl with Tcl 8.6.13: a text, `=`, and what Tcl takes it for.
-const TABLE: &str = "  -07779879778798907081  =none
+fn rows_of_tcl() -> &'static str {
+    "  -07779879778798907081  =none
 \t7011701717080110=7011701717080110
   071700071117177710=2036303205826504
  -001100710701171010077110\t=range
@@ -183,14 +177,13 @@ const TABLE: &str = "  -07779879778798907081  =none
  71707  =71707
   =none
 87877970900817987=87877970900817987
- -0077001170071700170100\t=-1134950544574574656";
+ -0077001170071700170100\t=-1134950544574574656"
+}
 
 #[test]
 fn integers_as_in_tcl(rt: HostRuntime) -> Result<(), Fail> {
-    for row in TABLE.lines() {
-        let (text, want) = row.split_once('=').unwrap_or((row, ""));
-        let shown = shown(rt.alloc(), text.as_bytes())?;
-        assert_eq!(rt; shown.as_bytes(), want.as_bytes(), "at {text}");
+    for row in rows_of_tcl().lines() {
+        compare(&rt, rt.alloc(), row)?;
     }
     Ok(())
 }

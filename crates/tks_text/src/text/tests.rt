@@ -1,4 +1,5 @@
 use super::*;
+use std::process::Abort;
 use std::test::Fail;
 
 #[test]
@@ -27,27 +28,23 @@ fn compares_bytes(rt: HostRuntime) -> Result<(), Fail> {
     Ok(())
 }
 
+// Compares whether a byte stands in texts with what three calls say of it.
+fn compare_byte(rt: &impl Abort, alloc: Global, byte: u8, stands: bool) {
+    assert_eq!(rt; is_text_byte(byte), stands, "byte {byte}");
+    assert_eq!(rt; is_text(&[b'a', byte]), stands, "byte {byte}");
+    let text = Txt::from_bytes(alloc, &[b'a', byte]);
+    assert_eq!(rt; text.is_ok(), stands, "byte {byte}");
+    let named = matches!(&text, Err(TxtFault::Byte(1)));
+    assert_eq!(rt; named, !stands, "byte {byte}");
+}
+
 #[test]
 fn knows_the_bytes_of_texts(rt: HostRuntime) {
-    let table = [
-        (8, false),
-        (9, true),
-        (10, true),
-        (11, false),
-        (13, false),
-        (31, false),
-        (32, true),
-        (126, true),
-        (127, false),
-        (255, false),
-    ];
-    for (byte, stands) in table {
-        assert_eq!(rt; is_text_byte(byte), stands, "byte {byte}");
-        assert_eq!(rt; is_text(&[b'a', byte]), stands, "byte {byte}");
-        let text = Txt::from_bytes(rt.alloc(), &[b'a', byte]);
-        assert_eq!(rt; text.is_ok(), stands, "byte {byte}");
-        let named = matches!(&text, Err(TxtFault::Byte(1)));
-        assert_eq!(rt; named, !stands, "byte {byte}");
+    for byte in b"\t\n ~" {
+        compare_byte(&rt, rt.alloc(), *byte, true);
+    }
+    for byte in b"\x08\x0b\x0d\x1f\x7f\xff" {
+        compare_byte(&rt, rt.alloc(), *byte, false);
     }
 }
 

@@ -2,84 +2,147 @@ use super::*;
 use crate::procedure::Parameter;
 use std::process::Abort;
 use std::test::Fail;
-use tks_text::Seq;
+use tks_text::{Seq, decimal_of};
 
-// The text that a failure tells.
-fn told(alloc: Global, failure: &Failure) -> Result<Txt, Fail> {
-    match failure {
-        Failure::Script(fault) => Ok(fault.text(alloc)?),
-        Failure::NoMemory => Err("out of memory")?,
+// A number, or nothing.
+fn number(alloc: Global, number: Option<usize>) -> Result<Txt, Failure> {
+    match number {
+        None => Ok(Txt::new(alloc)),
+        Some(number) => Ok(decimal_of(alloc, i64::try_from(number).unwrap_or(-1))?),
     }
 }
 
-// What a call answers that changes variables, or its error's text.
-fn answer_of_change(alloc: Global, done: &Result<(), Failure>, answer: &Txt) -> Result<Txt, Fail> {
-    match done {
-        Ok(()) => Ok(answer.try_clone()?),
-        Err(failure) => told(alloc, failure),
+fn set(variables: &mut Vars, name: &Txt, value: &Txt) -> Result<Txt, Failure> {
+    variables.set(name, value)?;
+    Ok(value.try_clone()?)
+}
+
+fn get(variables: &Vars, name: &Txt) -> Result<Txt, Failure> {
+    Ok(variables.get(name)?.try_clone()?)
+}
+
+fn exists(alloc: Global, variables: &Vars, name: &Txt) -> Result<Txt, Failure> {
+    number(alloc, Some(usize::from(variables.exists(name)?)))
+}
+
+fn unset(alloc: Global, variables: &mut Vars, name: &Txt) -> Result<Txt, Failure> {
+    variables.unset(name)?;
+    Ok(Txt::new(alloc))
+}
+
+fn global(alloc: Global, variables: &mut Vars, name: &Txt) -> Result<Txt, Failure> {
+    variables.link_global(name)?;
+    Ok(Txt::new(alloc))
+}
+
+fn push(alloc: Global, variables: &mut Vars) -> Result<Txt, Failure> {
+    variables.push_frame()?;
+    Ok(Txt::new(alloc))
+}
+
+// Ends a frame, or answers 0 where there is none.
+fn pop(alloc: Global, variables: &mut Vars) -> Result<Txt, Failure> {
+    if variables.depth() == 0 {
+        return number(alloc, Some(0));
+    }
+    variables.pop_frame();
+    Ok(Txt::new(alloc))
+}
+
+// Puts a procedure with this body and one parameter, whose default is 1.
+fn define(alloc: Global, variables: &mut Vars, name: &Txt, body: &Txt) -> Result<Txt, Failure> {
+    let mut params = Seq::new(alloc);
+    params.push(Parameter {
+        name: Txt::from_text(alloc, b"n")?,
+        default: Some(decimal_of(alloc, 1)?),
+    })?;
+    let body = body.try_clone()?;
+    variables.set_procedure(name, Procedure { params, body })?;
+    Ok(Txt::new(alloc))
+}
+
+// The body of a procedure, or nothing.
+fn body(alloc: Global, variables: &Vars, name: &Txt) -> Result<Txt, Failure> {
+    match variables.procedure(name) {
+        Some(procedure) => Ok(procedure.body.try_clone()?),
+        None => Ok(Txt::new(alloc)),
     }
 }
 
-// What a call answers, or its error's text.
-fn answer(
+// How many parameters a procedure has, or nothing.
+fn params(alloc: Global, variables: &Vars, name: &Txt) -> Result<Txt, Failure> {
+    match variables.procedure(name) {
+        Some(procedure) => number(alloc, Some(procedure.params.len())),
+        None => Ok(Txt::new(alloc)),
+    }
+}
+
+// What a call answers that changes nothing.
+fn asked(alloc: Global, variables: &Vars, call: &str, name: &Txt) -> Result<Txt, Failure> {
+    match call {
+        "get" => get(variables, name),
+        "exists" => exists(alloc, variables, name),
+        "grown by value" => number(alloc, variables.grown_by_value(name)),
+        "grown by link" => number(alloc, variables.grown_by_link(name)),
+        "depth" => number(alloc, Some(variables.depth())),
+        "procedures" => number(alloc, Some(variables.procedures())),
+        "params" => params(alloc, variables, name),
+        "body" => body(alloc, variables, name),
+        _ => Ok(Txt::from_text(alloc, b"no such call")?),
+    }
+}
+
+// What a call answers.
+fn called(
     alloc: Global,
     variables: &mut Vars,
     call: &str,
     name: &Txt,
     value: &Txt,
-) -> Result<Txt, Fail> {
-    let nothing = Txt::new(alloc);
-    if call == "set" {
-        let done = variables.set(name, value);
-        return answer_of_change(alloc, &done, value);
-    }
-    if call == "unset" {
-        let done = variables.unset(name);
-        return answer_of_change(alloc, &done, &nothing);
-    }
-    if call == "global" {
-        let done = variables.link_global(name);
-        return answer_of_change(alloc, &done, &nothing);
-    }
-    if call == "get" {
-        return match variables.get(name) {
-            Ok(value) => Ok(value.try_clone()?),
-            Err(failure) => told(alloc, &failure),
-        };
-    }
-    match variables.exists(name) {
-        Ok(true) => Ok(Txt::from_bytes(alloc, b"1")?),
-        Ok(false) => Ok(Txt::from_bytes(alloc, b"0")?),
-        Err(failure) => told(alloc, &failure),
+) -> Result<Txt, Failure> {
+    match call {
+        "set" => set(variables, name, value),
+        "unset" => unset(alloc, variables, name),
+        "global" => global(alloc, variables, name),
+        "push" => push(alloc, variables),
+        "pop" => pop(alloc, variables),
+        "define" => define(alloc, variables, name, value),
+        _ => asked(alloc, variables, call, name),
     }
 }
 
-// Makes the calls of a table, a line each: call, name, value and what it answers.
-fn compare(rt: &impl Abort, alloc: Global, table: &str) -> Result<(), Fail> {
-    let mut variables = Vars::new(alloc);
+// What a call answered, or its error's text.
+fn told(alloc: Global, answer: Result<Txt, Failure>) -> Result<Txt, Fail> {
+    match answer {
+        Ok(text) => Ok(text),
+        Err(Failure::Script(fault)) => Ok(fault.text(alloc)?),
+        Err(Failure::NoMemory) => Err("out of memory")?,
+    }
+}
+
+// Makes the call of a row: call, name, value and what it answers.
+fn row(rt: &impl Abort, alloc: Global, variables: &mut Vars, row: &str) -> Result<(), Fail> {
+    let (front, want) = row.rsplit_once('|').ok_or("no answer")?;
+    let (front, value) = front.rsplit_once('|').ok_or("no value")?;
+    let (call, name) = front.split_once('|').ok_or("no name")?;
+    let name = Txt::from_bytes(alloc, name.as_bytes())?;
+    let value = Txt::from_bytes(alloc, value.as_bytes())?;
+    let answer = told(alloc, called(alloc, variables, call, &name, &value))?;
+    assert_eq!(rt; answer.as_bytes(), want.as_bytes(), "at {row}");
+    Ok(())
+}
+
+// Makes the calls of a table, a line each.
+fn compare(rt: &impl Abort, alloc: Global, variables: &mut Vars, table: &str) -> Result<(), Fail> {
     for line in table.lines() {
-        let mut fields = line.split('|');
-        let call = fields.next().ok_or("no call")?;
-        let name = Txt::from_bytes(alloc, fields.next().ok_or("no name")?.as_bytes())?;
-        let value = Txt::from_bytes(alloc, fields.next().ok_or("no value")?.as_bytes())?;
-        let want = fields.next().ok_or("no answer")?;
-        if call == "push" {
-            variables.push_frame()?;
-        } else if call == "pop" {
-            assert!(rt; variables.depth() > 0, "a pop at global level");
-            variables.pop_frame();
-        } else {
-            let answer = answer(alloc, &mut variables, call, &name, &value)?;
-            assert_eq!(rt; answer.as_bytes(), want.as_bytes(), "at {line}");
-        }
+        row(rt, alloc, variables, line)?;
     }
     Ok(())
 }
 
-#[test]
-fn variables_are_those_of_tcl(rt: HostRuntime) -> Result<(), Fail> {
-    // Made by tests/against_tclsh.tcl with tclsh 8.6.13.
-    let table = "\
+// Made by tests/against_tclsh.tcl with tclsh 8.6.13.
+fn rows_of_tcl() -> &'static str {
+    "\
 get|b()|2|E11 b()\nget|a|3|E11 a\npush|||\nexists|c)|3|0\nset|b()|3|3\nget|b()|3|3\nset|b()|2|2\n\
 get|c)|1|E11 c)\nset|b()|1|1\nglobal|c)|3|\nset|a(y)|1|1\nset|c)|1|1\nglobal|a(|2|\npush|||\n\
 set||3|3\npop|||\npush|||\npop|||\nunset|a(y)|3|\npop|||\nglobal|b()|2|\npush|||\nset|b()|2|2\n\
@@ -126,97 +189,43 @@ global|a(|1|\npush|||\nglobal|b()|1|E17 b()\nset|a(x)(y)|2|2\nget|a(x)(y)|1|2\ns
 global|b(x)|1|E17 b(x)\nunset|a(x)(y)|1|\nset|b()|3|3\nset||1|1\nunset|b|1|\nunset|b|2|E11 b\n\
 push|||\nget|a|1|E11 a\npush|||\nunset|c)|2|E11 c)\nget|a(y)|3|E11 a(y)\nset|a(x)|3|3\n\
 get|b(x)|1|E11 b(x)\nset|b()|1|1\nunset|b|1|\nunset||1|E11 \nset|b|2|2\npop|||\nexists|b()|1|0\n\
-unset||1|E11 \nexists||1|0\nget|a(x)(y)|3|E11 a(x)(y)\nset|a(y)|3|3\n";
-    compare(&rt, rt.alloc(), table)
+unset||1|E11 \nexists||1|0\nget|a(x)(y)|3|E11 a(x)(y)\nset|a(y)|3|3\n"
 }
 
 #[test]
-fn a_name_before_the_parenthesis_is_missed(rt: HostRuntime) -> Result<(), Fail> {
-    let table = "set|(x)|1|E17 (x)\nget|(x)||E17 (x)\nexists|(x)||E17 (x)\nunset|(x)||E17 (x)\n\
-        global|(x)||\npush|||\nglobal|(x)||E17 (x)\n";
-    compare(&rt, rt.alloc(), table)
-}
-
-// A procedure with one parameter and its default, and this body.
-fn procedure_of(alloc: Global, body: &[u8]) -> Result<Procedure, Fail> {
-    let mut params = Seq::new(alloc);
-    params.push(Parameter {
-        name: Txt::from_bytes(alloc, b"n")?,
-        default: Some(Txt::from_bytes(alloc, b"1")?),
-    })?;
-    Ok(Procedure {
-        params,
-        body: Txt::from_bytes(alloc, body)?,
-    })
-}
-
-#[test]
-fn procedures_are_put_and_replaced(rt: HostRuntime) -> Result<(), Fail> {
+fn variables_are_those_of_tcl(rt: HostRuntime) -> Result<(), Fail> {
     let mut variables = Vars::new(rt.alloc());
-    let name = Txt::from_bytes(rt.alloc(), b"f")?;
-    assert!(rt; variables.procedure(&name).is_none());
-    for body in [b"one".as_slice(), b"two"] {
-        variables.set_procedure(&name, procedure_of(rt.alloc(), body)?)?;
-        let procedure = variables.procedure(&name).ok_or("no procedure")?;
-        assert_eq!(rt; procedure.body.as_bytes(), body);
-        assert_eq!(rt; procedure.params.len(), 1);
-    }
-    assert_eq!(rt; variables.procedures(), 1);
-    Ok(())
+    compare(&rt, rt.alloc(), &mut variables, rows_of_tcl())
+}
+
+// Rules of this project's own: names that have nothing before the parenthesis; procedures; how much a list holds that
+// would grow.
+fn rows_of_own_rules() -> &'static str {
+    "\
+set|(x)|1|E17 (x)\nget|(x)||E17 (x)\nexists|(x)||E17 (x)\nunset|(x)||E17 (x)\nglobal|(x)||\n\
+push|||\nglobal|(x)||E17 (x)\npop|||\n\
+body|f||\ndefine|f|one|\nbody|f||one\nparams|f||1\ndefine|f|two|\nbody|f||two\nparams|f||1\nprocedures|||1\n\
+set|s|1|1\nset|a(x)|1|1\nset|a(y)|1|1\npush|||\ngrown by link|a||0\nglobal|a||\n\
+grown by value|a(x)||\ngrown by link|a(x)||\ngrown by value|a(z)||2\ngrown by link|a(z)||\n\
+grown by value|a||\ngrown by link|a||\ngrown by value|s||1\ngrown by link|s||1\n\
+grown by value|b(x)||1\ngrown by link|b(x)||\ngrown by value|(x)||\ngrown by link|(x)||\n\
+pop|||\ngrown by value|b||2\ngrown by link|b||\n"
+}
+
+#[test]
+fn own_rules(rt: HostRuntime) -> Result<(), Fail> {
+    let mut variables = Vars::new(rt.alloc());
+    compare(&rt, rt.alloc(), &mut variables, rows_of_own_rules())
 }
 
 #[test]
 fn a_clone_is_independent(rt: HostRuntime) -> Result<(), Fail> {
     let mut variables = Vars::new(rt.alloc());
-    let one = Txt::from_bytes(rt.alloc(), b"1")?;
-    let two = Txt::from_bytes(rt.alloc(), b"2")?;
-    let scalar = Txt::from_bytes(rt.alloc(), b"s")?;
-    let element = Txt::from_bytes(rt.alloc(), b"a(x)")?;
-    variables.set_procedure(&scalar, procedure_of(rt.alloc(), b"body")?)?;
-    variables.set(&scalar, &one)?;
-    variables.push_frame()?;
-    variables.link_global(&scalar)?;
-    variables.set(&element, &one)?;
+    let before = "define|s|body|\nset|s|1|1\npush|||\nglobal|s||\nset|a(x)|1|1\n";
+    compare(&rt, rt.alloc(), &mut variables, before)?;
     let mut copy = variables.try_clone()?;
-    variables.set(&scalar, &two)?;
-    variables.set(&element, &two)?;
-    for name in [&scalar, &element] {
-        assert_eq!(rt; copy.get(name)?.as_bytes(), b"1".as_slice());
-    }
-    assert!(rt; copy.procedure(&scalar).is_some());
-    assert_eq!(rt; copy.depth(), 1);
-    copy.pop_frame();
-    assert!(rt; !copy.exists(&element)?);
-    Ok(())
-}
-
-#[test]
-fn lists_that_would_grow(rt: HostRuntime) -> Result<(), Fail> {
-    let mut variables = Vars::new(rt.alloc());
-    let value = Txt::from_bytes(rt.alloc(), b"1")?;
-    for name in [b"s".as_slice(), b"a(x)", b"a(y)"] {
-        variables.set(&Txt::from_bytes(rt.alloc(), name)?, &value)?;
-    }
-    variables.push_frame()?;
-    let array = Txt::from_bytes(rt.alloc(), b"a")?;
-    assert_eq!(rt; variables.grown_by_link(&array), Some(0));
-    variables.link_global(&array)?;
-    let table = [
-        (b"a(x)".as_slice(), None, None),
-        (b"a(z)", Some(2), None),
-        (b"a", None, None),
-        (b"s", Some(1), Some(1)),
-        (b"b(x)", Some(1), None),
-        (b"(x)", None, None),
-    ];
-    for (name, by_value, by_link) in table {
-        let name = Txt::from_bytes(rt.alloc(), name)?;
-        assert_eq!(rt; variables.grown_by_value(&name), by_value);
-        assert_eq!(rt; variables.grown_by_link(&name), by_link);
-    }
-    variables.pop_frame();
-    let name = Txt::from_bytes(rt.alloc(), b"b")?;
-    assert_eq!(rt; variables.grown_by_value(&name), Some(2));
-    assert_eq!(rt; variables.grown_by_link(&name), None);
-    Ok(())
+    let changes = "set|s|2|2\nset|a(x)|2|2\n";
+    compare(&rt, rt.alloc(), &mut variables, changes)?;
+    let unchanged = "get|s||1\nget|a(x)||1\nbody|s||body\ndepth|||1\npop|||\nexists|a(x)||0\n";
+    compare(&rt, rt.alloc(), &mut copy, unchanged)
 }

@@ -86,12 +86,12 @@ read_nested-returns-then-taken-text-clause-gives t c =
 
 pub read_index-returns-in_ok-name-clause-gives : goal.read_index-returns-in_ok-name-clause-gives
 read_index-returns-in_ok-name-clause-gives t c =
-    rw c.in_ok-name.ensures (index_found c.args.depth c.args.name.now c.args.text.now c.in_ok-parts.parts c.in_ok-parts.taken (omega arith) c.in_ok-parts.ensures.gives c.if-taken-text.true)
+    rw c.in_ok-name.ensures (index_found c.args.depth c.args.syntax c.args.name.now c.args.text.now c.in_ok-parts.parts c.in_ok-parts.taken (omega arith) c.in_ok-parts.ensures.gives c.if-taken-text.true)
 
 pub read_index-returns-else-taken-text-clause-gives : goal.read_index-returns-else-taken-text-clause-gives
 read_index-returns-else-taken-text-clause-gives t c =
-    rw c.fault-else-taken-text.ensures (index_missing c.args.depth c.args.name.now c.args.text.now c.in_ok-parts.parts c.in_ok-parts.taken (omega arith) c.in_ok-parts.ensures.gives c.if-taken-text.false)
+    rw c.fault-else-taken-text.ensures (index_missing c.args.depth c.args.syntax c.args.name.now c.args.text.now c.in_ok-parts.parts c.in_ok-parts.taken (omega arith) c.in_ok-parts.ensures.gives c.if-taken-text.false)
 
 pub read_quoted-returns-then-taken-text-clause-gives : goal.read_quoted-returns-then-taken-text-clause-gives
 read_quoted-returns-then-taken-text-clause-gives t c =
-    quoted_found (nest c.args.depth) (index c.args.depth) c.args.text.now c.in_ok-parts.parts c.in_ok-parts.taken c.in_ok-parts.ensures.gives c.if-taken-text.true
+    quoted_found (nest c.args.depth) (index c.args.depth) c.args.syntax c.args.text.now c.in_ok-parts.parts c.in_ok-parts.taken c.in_ok-parts.ensures.gives c.if-taken-text.true
