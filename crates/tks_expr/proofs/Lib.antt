@@ -1,0 +1,10 @@
+pub mod Suffixes
+pub mod Climbing
+pub mod Operands
+pub mod Literals
+pub mod Told
+pub mod Spelled
+pub mod Wide
+pub mod Bits
+pub mod Shifts
+pub mod Divisions

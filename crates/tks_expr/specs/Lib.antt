@@ -1,0 +1,11 @@
+pub mod Tree
+pub mod View
+pub mod Falls
+pub mod Sign
+pub mod Literal
+pub mod Reading
+pub mod Seen
+pub mod Expression
+pub mod Arithmetic
+pub mod Operation
+pub mod Value

@@ -1,0 +1,148 @@
+ghost use Rattle.std.specs.Prelude.{◌≡◌};
+ghost use Rattle.tks_text.specs.Fault.{Gives};
+ghost use Rattle.tks_expr.specs.Operation.{integer_in, integers_in, truth_in_word, truth_of, order, truth, binary_value, unary_value, applied, applied_unary, result_of};
+
+use crate::arithmetic::{Integers, fault_of, in_range};
+use crate::operator::{Binary, Unary};
+use std::alloc::Global;
+use std::cmp::Ordering;
+use tks_text::{ErrorNumber, Failure, ScriptFault, Txt, decimal_of, integer_of};
+
+// The integer that a text spells.
+fn integer_in(text: &Txt) -> Result<i64, Failure>
+    ensures { Gives (λ z. z) result (integer_in text.now) }
+{
+    match integer_of(text) {
+        Ok(Some(integer)) => Ok(integer),
+        Ok(None) => Err(Failure::Script(ScriptFault::about(ErrorNumber::NotAnInteger, text)?)),
+        Err(_) => Err(fault_of(ErrorNumber::OutOfRange)),
+    }
+}
+
+// The truth that a word stands for.
+fn truth_in_word(text: &Txt) -> Result<bool, Failure>
+    ensures { Gives (λ b. b) result (truth_in_word text.now) }
+{
+    let word = text.as_bytes();
+    if word == b"true".as_slice() || word == b"yes".as_slice() || word == b"on".as_slice() {
+        Ok(true)
+    } else if word == b"false".as_slice() || word == b"no".as_slice() || word == b"off".as_slice() {
+        Ok(false)
+    } else {
+        Err(Failure::Script(ScriptFault::about(ErrorNumber::NotAnInteger, text)?))
+    }
+}
+
+/// Whether a text holds as a condition: an integer but 0, or one of the words `true`, `yes` and `on`,
+/// and not where it is 0, `false`, `no` or `off`. Any other text is the error `NotAnInteger`, and an
+/// integer beyond 64 bits `OutOfRange`.
+pub fn truth_of(text: &Txt) -> Result<bool, Failure>
+    ensures { Gives (λ b. b) result (truth_of text.now) }
+{
+    match integer_of(text) {
+        Ok(Some(integer)) => Ok(integer != 0),
+        Ok(None) => truth_in_word(text),
+        Err(_) => Err(fault_of(ErrorNumber::OutOfRange)),
+    }
+}
+
+// How two texts stand to one another: by number where both spell integers, else by their bytes.
+fn order(left: &Txt, right: &Txt) -> Result<Ordering, Failure>
+    ensures { Gives (λ o. o) result (order left.now right.now) }
+{
+    match (integer_of(left), integer_of(right)) {
+        (Ok(Some(left)), Ok(Some(right))) => Ok(left.cmp(&right)),
+        (Ok(None), _) | (_, Ok(None)) => Ok(left.as_bytes().cmp(right.as_bytes())),
+        _ => Err(fault_of(ErrorNumber::OutOfRange)),
+    }
+}
+
+// 1 where something holds, else 0.
+fn truth(holds: bool) -> i64
+    ensures { result ≡ truth holds }
+{
+    if holds { 1 } else { 0 }
+}
+
+// The two integers that texts spell.
+fn integers_in(left: &Txt, right: &Txt) -> Result<Integers, Failure>
+    ensures { Gives (λ n. (n.left, n.right)) result (integers_in left.now right.now) }
+{
+    let left = integer_in(left)?;
+    let right = integer_in(right)?;
+    Ok(Integers { left, right })
+}
+
+// The integer that an operator gives for two texts.
+fn binary_value(operator: Binary, left: &Txt, right: &Txt) -> Result<i64, Failure>
+    ensures { Gives (λ z. z) result (binary_value operator left.now right.now) }
+{
+    match operator {
+        Binary::Multiply => integers_in(left, right)?.product(),
+        Binary::Divide => integers_in(left, right)?.quotient(),
+        Binary::Remainder => integers_in(left, right)?.remainder(),
+        Binary::Add => integers_in(left, right)?.sum(),
+        Binary::Subtract => integers_in(left, right)?.difference(),
+        Binary::ShiftLeft => integers_in(left, right)?.shifted_left(),
+        Binary::ShiftRight => integers_in(left, right)?.shifted_right(),
+        Binary::Less => Ok(truth(order(left, right)?.is_lt())),
+        Binary::Greater => Ok(truth(order(left, right)?.is_gt())),
+        Binary::AtMost => Ok(truth(order(left, right)?.is_le())),
+        Binary::AtLeast => Ok(truth(order(left, right)?.is_ge())),
+        Binary::Equal => Ok(truth(order(left, right)?.is_eq())),
+        Binary::NotEqual => Ok(truth(order(left, right)?.is_ne())),
+        Binary::SameText => Ok(truth(left == right)),
+        Binary::OtherText => Ok(truth(left != right)),
+        Binary::BitAnd => Ok(integers_in(left, right)?.bits_of_both()),
+        Binary::BitXor => Ok(integers_in(left, right)?.bits_of_one()),
+        Binary::BitOr => Ok(integers_in(left, right)?.bits_of_any()),
+    }
+}
+
+// The integer that an operator gives for a text.
+fn unary_value(operator: Unary, operand: &Txt) -> Result<i64, Failure>
+    ensures { Gives (λ z. z) result (unary_value operator operand.now) }
+{
+    match operator {
+        Unary::Minus => in_range(-i128::from(integer_in(operand)?)),
+        Unary::Plus => integer_in(operand),
+        Unary::Complement => Ok(!integer_in(operand)?),
+        Unary::Not => Ok(truth(!truth_of(operand)?)),
+    }
+}
+
+/// What an operator gives for two texts (expr(n), "OPERATORS"), an integer in decimal.
+///
+/// A text that spells no integer is the error `NotAnInteger` where an integer is wanted, of the left
+/// operand before the right one. An operand, a result or a count of a shift that is out of range is
+/// `OutOfRange`, and a divisor of 0 `DivisionByZero`.
+pub fn apply(alloc: Global, operator: Binary, left: &Txt, right: &Txt) -> Result<Txt, Failure>
+    ensures { Gives (λ t. t) result (applied operator left.now right.now) }
+{
+    let value = binary_value(operator, left, right)?;
+    Ok(decimal_of(alloc, value)?)
+}
+
+/// What an operator gives for a text (expr(n), "OPERATORS"), an integer in decimal. The errors are those of
+/// [`apply`], and of [`truth_of`] for `!`.
+pub fn apply_unary(alloc: Global, operator: Unary, operand: &Txt) -> Result<Txt, Failure>
+    ensures { Gives (λ t. t) result (applied_unary operator operand.now) }
+{
+    let value = unary_value(operator, operand)?;
+    Ok(decimal_of(alloc, value)?)
+}
+
+/// The result of an expression whose value is a text (expr(n)): an integer in decimal, or the error
+/// `OutOfRange` where it is out of range; any other text as it is.
+pub fn result_of(alloc: Global, text: &Txt) -> Result<Txt, Failure>
+    ensures { Gives (λ t. t) result (result_of text.now) }
+{
+    match integer_of(text) {
+        Ok(Some(integer)) => Ok(decimal_of(alloc, integer)?),
+        Ok(None) => Ok(text.try_clone()?),
+        Err(_) => Err(fault_of(ErrorNumber::OutOfRange)),
+    }
+}
+
+#[cfg(test)]
+mod tests;
