@@ -1,0 +1,17 @@
+//! The options of windows: which ones a class has, what their values may be, and the values of one window.
+#![tactic(auto)]
+
+mod anchor;
+mod name;
+mod number;
+mod options;
+mod said;
+mod state;
+mod table;
+
+pub use anchor::Anchor;
+pub use name::OptionName;
+pub use number::{boolean_of, number_within};
+pub use options::Options;
+pub use said::Said;
+pub use state::State;

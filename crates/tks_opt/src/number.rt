@@ -1,0 +1,54 @@
+ghost use Rattle.std.specs.Prelude.{◌≡◌};
+ghost use Rattle.tks_opt.specs.Values.{number_within, named_in, truth_words, boolean};
+
+use tks_text::{Txt, integer_of};
+
+/// The integer that a text spells, where it lies from least to most.
+pub fn number_within(least: u16, most: u16, text: &Txt) -> Option<u16>
+    ensures { result ≡ number_within least most text.now }
+{
+    match integer_of(text) {
+        Ok(Some(number)) if i64::from(least) <= number && number <= i64::from(most) => {
+            Some(number as u16)
+        }
+        _ => None,
+    }
+}
+
+// The truth value of one of six words.
+fn truth_of_word(text: &[u8]) -> Option<bool>
+    ensures { result ≡ named_in truth_words text.now }
+{
+    if text == b"true".as_slice() {
+        Some(true)
+    } else if text == b"yes".as_slice() {
+        Some(true)
+    } else if text == b"on".as_slice() {
+        Some(true)
+    } else if text == b"false".as_slice() {
+        Some(false)
+    } else if text == b"no".as_slice() {
+        Some(false)
+    } else if text == b"off".as_slice() {
+        Some(false)
+    } else {
+        None
+    }
+}
+
+/// The truth value that a text spells: `true`, `yes`, `on`, `false`, `no`, `off`, or an integer, which is
+/// true where it isn't 0.
+pub fn boolean_of(text: &Txt) -> Option<bool>
+    ensures { result ≡ boolean text.now }
+{
+    if let Some(truth) = truth_of_word(text.as_bytes()) {
+        return Some(truth);
+    }
+    match integer_of(text) {
+        Ok(Some(number)) => Some(number != 0),
+        _ => None,
+    }
+}
+
+#[cfg(test)]
+mod tests;

@@ -1,0 +1,180 @@
+ghost use Rattle.std.specs.Prelude.{◌≡◌, IfOk, OnErr, option_map, option_and_then};
+ghost use Rattle.tks_text.specs.Fault.{Gives, fault_about};
+ghost use Rattle.tks_opt.specs.Meets.{TellsSo};
+ghost use Rattle.tks_opt.specs.Table.{option_named, max_size};
+ghost use Rattle.tks_opt.specs.Values.{number_within, anchor_named, state_named};
+ghost use Rattle.tks_opt.specs.Options.{Legal, first_options, had, value_in, value_of, with_value, configured};
+
+use crate::anchor::Anchor;
+use crate::name::OptionName;
+use crate::number::number_within;
+use crate::state::State;
+use crate::table::{MAX_SIZE, accepts, first_value, options_of};
+use indexmap::IndexMap;
+use std::alloc::{AllocError, Global};
+use std::marker::Model;
+use tks_text::{Class, ErrorNumber, Failure, ScriptFault, Txt};
+
+/// The options of one window: each that its class has, with a value that it may have. A value is kept as it
+/// was given.
+#[derive(Drop)]
+pub struct Options {
+    alloc: Global,
+    class: Class,
+    values: IndexMap<OptionName, Txt>,
+}
+
+impl Model for Options {
+    ghost use Rattle.tks_opt.specs.Options.{Options, Legal};
+
+    ghost Value = { Options };
+
+    ghost view = { λ t. record { class = t.class; values = t.values.entries } };
+
+    ghost invariant = { λ t. Legal (record { class = t.class; values = t.values.entries }) };
+}
+
+// The error about the name of an option.
+fn fault(number: ErrorNumber, name: &Txt) -> Failure
+    ensures { TellsSo (fault_about number name.now) result }
+{
+    match ScriptFault::about(number, name) {
+        Ok(fault) => Failure::Script(fault),
+        Err(_) => Failure::NoMemory,
+    }
+}
+
+impl Options {
+    /// The options that a window of a class has at first. The path is for the default of `-variable`.
+    pub fn new(alloc: Global, class: Class, path: &Txt) -> Result<Options, AllocError>
+        ensures { IfOk result (λ t. t ≡ first_options class path.now) }
+    {
+        let mut values = IndexMap::new(alloc);
+        for name in options_of(class) {
+            let value = Txt::from_text(alloc, first_value(class, path.as_bytes(), *name))?;
+            values.insert(*name, value)?;
+        }
+        Ok(Options {
+            alloc,
+            class,
+            values,
+        })
+    }
+
+    /// The class of the window.
+    pub fn class(&self) -> Class
+        ensures value { result ≡ self.now.class }
+        ensures legal { Legal self.now }
+    {
+        self.class
+    }
+
+    /// The value of an option, where the class has it.
+    pub fn value(&self, name: OptionName) -> Option<&Txt>
+        ensures { option_map (λ v. v.now) result ≡ value_in self.now.values name }
+    {
+        self.values.get(&name)
+    }
+
+    /// The size that `-width` or `-height` says; none for another option, and where the class has none.
+    pub fn size(&self, name: OptionName) -> Option<u16>
+        ensures { result ≡ option_and_then (number_within 0 max_size) (value_in self.now.values name) }
+    {
+        number_within(0, MAX_SIZE, self.value(name)?)
+    }
+
+    /// What `-anchor` says, where the class has it.
+    pub fn anchor(&self) -> Option<Anchor>
+        ensures { result ≡ option_and_then anchor_named (value_in self.now.values OptionName.Anchor) }
+    {
+        Anchor::named(self.value(OptionName::Anchor)?)
+    }
+
+    /// What `-state` says, where the class has it.
+    pub fn state(&self) -> Option<State>
+        ensures { result ≡ option_and_then state_named (value_in self.now.values OptionName.State) }
+    {
+        State::named(self.value(OptionName::State)?)
+    }
+
+    /// The value of the option that a text names: a class without such an option is an error about the text.
+    pub fn cget(&self, name: &Txt) -> Result<&Txt, Failure>
+        ensures { Gives (λ v. v.now) result (value_of self.now name.now) }
+    {
+        let Some(option) = OptionName::named(name.as_bytes()) else {
+            return Err(fault(ErrorNumber::UnknownOption, name));
+        };
+        match self.value(option) {
+            Some(value) => Ok(value),
+            None => Err(fault(ErrorNumber::UnknownOption, name)),
+        }
+    }
+
+    // The option that a text names, where the class has it.
+    fn option_named(&self, name: &Txt) -> Option<OptionName>
+        ensures { result ≡ had self.now.values (option_named name.now) }
+    {
+        let option = OptionName::named(name.as_bytes())?;
+        if self.values.contains_key(&option) {
+            Some(option)
+        } else {
+            None
+        }
+    }
+
+    // Gives the option that a text names a value.
+    fn set(&mut self, name: &Txt, value: &Txt) -> Result<(), Failure>
+        ensures { Gives (λ _. self.new) result (with_value self.old name.now value.now) }
+    {
+        let Some(option) = self.option_named(name) else {
+            return Err(fault(ErrorNumber::UnknownOption, name));
+        };
+        if !accepts(self.class, option, value) {
+            return Err(fault(ErrorNumber::BadValue, name));
+        }
+        self.values.insert(option, value.try_clone()?)?;
+        Ok(())
+    }
+
+    // Gives the options that pairs of words name their values, until one is refused.
+    fn set_all(&mut self, pairs: &[Txt]) -> Result<(), Failure>
+        ensures { Gives (λ _. self.new) result (configured self.old pairs.now) }
+    {
+        let mut rest = pairs;
+        while let Some((name, behind)) = rest.split_first() {
+            let Some((value, more)) = behind.split_first() else {
+                return Ok(());
+            };
+            self.set(name, value)?;
+            rest = more;
+        }
+        Ok(())
+    }
+
+    /// Gives options values: words that are names and values in turn, from left to right. A class without such
+    /// an option, and a value that the option may not have, are errors about the name. A last name without a
+    /// value is passed over.
+    pub fn configure(&mut self, pairs: &[Txt]) -> Result<(), Failure>
+        ensures value { Gives (λ _. self.new) result (configured self.old pairs.now) }
+        ensures err { OnErr result (self.new ≡ self.old) }
+    {
+        let mut changed = self.try_clone()?;
+        changed.set_all(pairs)?;
+        *self = changed;
+        Ok(())
+    }
+
+    /// Equal options.
+    pub fn try_clone(&self) -> Result<Options, AllocError>
+        ensures { IfOk result (λ t. t ≡ self.now) }
+    {
+        Ok(Options {
+            alloc: self.alloc,
+            class: self.class,
+            values: self.values.clone()?,
+        })
+    }
+}
+
+#[cfg(test)]
+mod tests;

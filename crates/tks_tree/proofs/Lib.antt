@@ -1,0 +1,6 @@
+pub mod Paths
+pub mod Kept
+pub mod Trees
+pub mod Removals
+pub mod Preorders
+pub mod Once

@@ -1,0 +1,5 @@
+pub mod Path
+pub mod Windows
+pub mod WellFormed
+pub mod View
+pub mod Meets

@@ -1,0 +1,15 @@
+//! The tree of windows: their numbers, paths and classes, and the order of the focus.
+#![tactic(auto)]
+
+mod fault;
+mod focus;
+mod laws;
+mod path;
+mod tree;
+mod window;
+
+pub use fault::CreateFault;
+pub use laws::preorder_holds_each_once;
+pub use path::is_path;
+pub use tree::Tree;
+pub use window::{Window, WindowId};

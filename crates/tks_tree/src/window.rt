@@ -1,0 +1,65 @@
+ghost use Rattle.std.specs.Prelude.{◌≡◌, ◌==◌};
+
+use std::marker::Model;
+use tks_text::{Class, Txt};
+
+/// The number of a window. Numbers are given out from 0, which is that of `.`, and never again.
+#[derive(Clone, Copy, Debug, PartialEq, Eq)]
+pub struct WindowId {
+    number: u64,
+}
+
+impl Model for WindowId {
+    ghost use Rattle.std.specs.Prelude.{ℕ};
+
+    ghost Value = { ℕ };
+
+    ghost view = { λ id. id.number };
+
+    ghost inverse = { λ n. record { number = n } };
+}
+
+impl WindowId {
+    /// The number as an id.
+    pub fn of(number: u64) -> WindowId
+        ensures { result ≡ number }
+    {
+        WindowId { number }
+    }
+
+    /// The number of `.`.
+    pub fn root() -> WindowId
+        ensures { result ≡ 0 }
+    {
+        WindowId::of(0)
+    }
+
+    /// Whether this is the number of `.`.
+    pub fn is_root(self) -> bool
+        ensures { result ≡ (self == 0) }
+    {
+        self.number == 0
+    }
+
+    /// The number.
+    pub fn number(self) -> u64
+        ensures { result ≡ self }
+    {
+        self.number
+    }
+}
+
+/// A window, as a tree shows it.
+#[derive(Clone, Copy)]
+pub struct Window<'a> {
+    pub id: WindowId,
+    pub path: &'a Txt,
+    pub class: Class,
+}
+
+// What a tree keeps of a window under its path.
+#[derive(Clone, Copy)]
+pub struct Entry {
+    pub id: WindowId,
+    pub class: Class,
+}
