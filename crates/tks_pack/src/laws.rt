@@ -1,0 +1,27 @@
+ghost use Rattle.std.specs.Prelude.{List, ◌∷◌, ◌≡◌, ◌≤◌, ◌↔◌, ℕ, true};
+ghost use Rattle.std.specs.List.{AllByRecursion};
+ghost use Rattle.tks_pack.specs.declared.area.Extent.{Extent};
+ghost use Rattle.tks_pack.specs.declared.packing.Content.{Content};
+ghost use Rattle.tks_pack.specs.declared.stretch.Stretch.{Stretch};
+ghost use Rattle.tks_pack.specs.Laws.{LiesInside, InOrder};
+ghost use Rattle.tks_pack.specs.Packer.{share};
+ghost use Rattle.tks_pack.specs.Packing.{places};
+ghost use Rattle.tks_pack.specs.Requests.{request_with};
+ghost use Rattle.tks_pack.specs.Stretch.{takes_share};
+
+/// Each mapped window has at least a cell, and lies inside its container.
+pub fn windows_lie_inside()
+    ensures { (size : ℕ → Extent) (container : Extent) (contents : List Content) → AllByRecursion (LiesInside container) (places size container contents) }
+{}
+
+/// Each window lies nearer to its side than all that are packed after it, whatever their sides are; so no two
+/// windows overlap, and those on one side stand in the order in which they are packed.
+pub fn windows_stand_in_order()
+    ensures { (size : ℕ → Extent) (container : Extent) (contents : List Content) → InOrder contents (places size container contents) }
+{}
+
+/// What an expanding content gets beyond what it asks for is the most that it and all such contents behind it could
+/// get alike, so that each content still gets what it asks for; where not even a cell fits, it is nothing.
+pub fn share_is_the_most_that_fits()
+    ensures { (r x : ℕ) (s : Stretch) (rest : List Stretch) → takes_share s ≡ true → 1 ≤ x → (x ≤ share r s rest) ↔ (request_with x (s ∷ rest) ≤ r) }
+{}

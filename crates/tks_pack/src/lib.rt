@@ -1,0 +1,16 @@
+//! The packer: which cells each packed window gets, and how large its container asks to be.
+#![tactic(auto)]
+
+mod area;
+mod laws;
+mod line;
+mod options;
+mod packing;
+mod settings;
+mod share;
+mod stretch;
+
+pub use area::{Area, Extent};
+pub use laws::{share_is_the_most_that_fits, windows_lie_inside, windows_stand_in_order};
+pub use packing::{Content, Packing, Requests};
+pub use settings::{Anchor, Fill, Settings, Side};
