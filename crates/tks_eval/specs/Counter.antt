@@ -1,0 +1,21 @@
+-- The host of the tests: a count, with a command that adds one to it and one that sets it to 0.
+use Rattle.std.specs.Prelude.{ℕ, Bool, false, ◌+◌, ◌==◌, ◌||◌, if◌then◌else◌, codes, List, [], ◌∷◌}
+use Rattle.tks_text.specs.Text.{same_text}
+use Rattle.tks_vars.specs.Variables.{Variables}
+use Rattle.tks_eval.specs.Outcome.{Answer, Unknown, Replies, PassesLimit, Meaning}
+
+abbrev pub count_named : ℕ → Variables → List ℕ → Answer ℕ
+count_named n variables name =
+    if same_text name (codes "up") then (if n == 4294967295 then PassesLimit else Replies 0 [] (n + 1) variables)
+    else (if same_text name (codes "zero") then Replies 0 [] 0 variables
+    else Unknown)
+
+abbrev pub counts : ℕ → Variables → List (List ℕ) → Answer ℕ
+counts n variables [] = Unknown
+counts n variables (name ∷ words) = count_named n variables name
+
+abbrev pub is_counting : List ℕ → Bool
+is_counting name = same_text name (codes "up") || same_text name (codes "zero")
+
+abbrev pub counting : Meaning ℕ
+counting = record { commands = counts; owns = λ n name. is_counting name; alive = λ n window. false; faulted = λ n text. n }

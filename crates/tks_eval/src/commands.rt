@@ -1,0 +1,347 @@
+ghost use Rattle.std.specs.Prelude.{◌≡◌, ◌≤◌, ◌∷◌};
+ghost use Rattle.std.specs.FinMap as map;
+ghost use Rattle.tks_tcl.specs.Meets.{GivesSo};
+ghost use Rattle.tks_eval.specs.Outcome.{End};
+ghost use Rattle.tks_eval.specs.Evaluation.{evaluate, call, procedure_does, control_does, catch_does, eval_does, foreach_does, proc_does, each, foreach_form};
+ghost use Rattle.tks_eval.specs.Machine.{resume, frame_weight, GoesSo, Falls};
+ghost use Rattle.tks_eval.specs.declared.frame.Frame.TheVariants as frame;
+
+use crate::control::Control;
+use crate::frame::{Ending, Frame, Now};
+use crate::halt::{Halt, error_about};
+use crate::host::{Host, Plan};
+use crate::machine::Machine;
+use crate::procedures::{enter, run_proc};
+use crate::rest::Rest;
+use std::alloc::Global;
+use tks_parse::{Command, parse};
+use tks_tcl::{Interrupt, concatenated, list_in, plain, store, within, wrong_words};
+use tks_text::{ErrorNumber, Limits, ScriptFault, Seq, Txt, decimal_of};
+use tks_vars::Vars;
+
+// The variable's name, the body and the elements of a `foreach`.
+#[tactic(auto, using(tks_tcl::proofs::Causes::tells))]
+fn foreach_form(
+    alloc: Global,
+    command: &Txt,
+    words: &[Txt],
+) -> Result<(Txt, Txt, Rest<Txt>), Interrupt>
+    ensures { GivesSo (λ x. x) result (foreach_form command.now words.now) }
+{
+    match words {
+        [name, list, body] => {
+            let elements = list_in(alloc, list)?;
+            let name = name.try_clone()?;
+            let body = body.try_clone()?;
+            Ok((name, body, Rest::of(elements.into_items())))
+        }
+        _ => Err(wrong_words(command)),
+    }
+}
+
+impl Machine {
+    /// Goes on behind a command of a script.
+    pub fn after_command<H: Host>(
+        &mut self,
+        alloc: Global,
+        host: &mut H,
+        variables: &mut Vars,
+        rest: Rest<Command>,
+        fault: Option<ScriptFault>,
+        levels: u32,
+        end: Ending,
+        limits: &Limits,
+    ) -> Result<Now, Halt>
+        ensures falls { Falls result (frame_weight (frame.Commands rest fault levels)) self.old self.new }
+        ensures goes { GoesSo H.meaning limits.now (resume H.meaning limits.now self.old.left (frame.Commands rest fault levels ∷ self.old.stack) (End end.code end.text (H.state host.old) variables.old self.old.fuel)) result self.new (H.state host.new) variables.new }
+    {
+        if end.code != 0 {
+            self.left = levels;
+            return Ok(Now::At(end));
+        }
+        let mut rest = rest;
+        match rest.next() {
+            None => {
+                self.left = levels;
+                match fault {
+                    None => Ok(Now::At(end)),
+                    Some(fault) => Err(Halt::Fault(fault)),
+                }
+            }
+            Some(command) => {
+                self.stack.push(Frame::Commands {
+                    rest,
+                    fault,
+                    levels,
+                })?;
+                self.next_word(
+                    alloc,
+                    host,
+                    variables,
+                    Seq::new(alloc),
+                    Rest::of(command.words),
+                    limits,
+                )
+            }
+        }
+    }
+
+    /// Calls a command, whose words are there.
+    pub fn call<H: Host>(
+        &mut self,
+        alloc: Global,
+        host: &mut H,
+        variables: &mut Vars,
+        words: &[Txt],
+        limits: &Limits,
+    ) -> Result<Now, Halt>
+        ensures falls { Falls result 1 self.old self.new }
+        ensures goes { GoesSo H.meaning limits.now (resume H.meaning limits.now self.old.left self.old.stack (call H.meaning limits.now (evaluate H.meaning limits.now self.old.left) words.now (H.state host.old) variables.old self.old.fuel)) result self.new (H.state host.new) variables.new }
+    {
+        let Some((command, rest)) = words.split_first() else {
+            return Ok(Now::At(Ending {
+                code: 0,
+                text: Txt::new(alloc),
+            }));
+        };
+        self.take_step()?;
+        if let Some(control) = Control::named(command) {
+            return self.run_control(alloc, host, variables, control, command, rest, limits);
+        }
+        if let Some((code, text)) = plain(alloc, variables, words, limits)? {
+            return Ok(Now::At(Ending { code, text }));
+        }
+        if let Some(Plan::Answer(code, text)) = host.call(variables, words)? {
+            return Ok(Now::At(Ending { code, text }));
+        }
+        self.run_procedure(alloc, host, variables, command, rest, limits)
+    }
+
+    // Runs a command that runs scripts.
+    fn run_control<H: Host>(
+        &mut self,
+        alloc: Global,
+        host: &H,
+        variables: &mut Vars,
+        control: Control,
+        command: &Txt,
+        words: &[Txt],
+        limits: &Limits,
+    ) -> Result<Now, Halt>
+        ensures spends { self.new.fuel ≤ self.old.fuel }
+        ensures goes { GoesSo H.meaning limits.now (resume H.meaning limits.now self.old.left self.old.stack (control_does H.meaning limits.now (evaluate H.meaning limits.now self.old.left) control command.now words.now (H.state host.now) variables.old self.old.fuel)) result self.new (H.state host.now) variables.new }
+    {
+        match control {
+            Control::Catch => self.run_catch(alloc, host, variables, command, words, limits),
+            Control::Eval => self.run_eval(alloc, host, variables, words, limits),
+            Control::Foreach => self.run_foreach(alloc, host, variables, command, words, limits),
+            Control::Proc => self.define(alloc, host, variables, command, words, limits),
+        }
+    }
+
+    // catch s ?name?
+    fn run_catch<H: Host>(
+        &mut self,
+        alloc: Global,
+        host: &H,
+        variables: &Vars,
+        command: &Txt,
+        words: &[Txt],
+        limits: &Limits,
+    ) -> Result<Now, Halt>
+        ensures spends { self.new.fuel ≤ self.old.fuel }
+        ensures goes { GoesSo H.meaning limits.now (resume H.meaning limits.now self.old.left self.old.stack (catch_does limits.now (evaluate H.meaning limits.now self.old.left) command.now words.now (H.state host.now) variables.now self.old.fuel)) result self.new (H.state host.now) variables.now }
+    {
+        let (script, name) = match words {
+            [script] => (script, None),
+            [script, name] => (script, Some(name.try_clone()?)),
+            _ => return Err(error_about(ErrorNumber::WrongWords, command)),
+        };
+        let script = parse(alloc, script)?;
+        self.stack.push(Frame::Catch { name })?;
+        Ok(Now::Open(script))
+    }
+
+    /// Goes on with a `catch` behind its script.
+    #[tactic(auto, using(crate::proofs::Halts::given_halts))]
+    pub fn after_caught<H: Host>(
+        &mut self,
+        alloc: Global,
+        host: &H,
+        variables: &mut Vars,
+        name: Option<Txt>,
+        end: Ending,
+        limits: &Limits,
+    ) -> Result<Now, Halt>
+        ensures falls { Falls result 1 self.old self.new }
+        ensures goes { GoesSo H.meaning limits.now (resume H.meaning limits.now self.old.left (frame.Catch name ∷ self.old.stack) (End end.code end.text (H.state host.now) variables.old self.old.fuel)) result self.new (H.state host.now) variables.new }
+    {
+        let Ending { code, text } = end;
+        if let Some(name) = name {
+            store(variables, &name, text, limits)?;
+        }
+        Ok(Now::At(Ending {
+            code: 0,
+            text: decimal_of(alloc, code as i64)?,
+        }))
+    }
+
+    // eval ..
+    #[tactic(auto, using(crate::proofs::Halts::given_halts))]
+    fn run_eval<H: Host>(
+        &mut self,
+        alloc: Global,
+        host: &H,
+        variables: &Vars,
+        words: &[Txt],
+        limits: &Limits,
+    ) -> Result<Now, Halt>
+        ensures spends { self.new.fuel ≤ self.old.fuel }
+        ensures goes { GoesSo H.meaning limits.now (resume H.meaning limits.now self.old.left self.old.stack (eval_does limits.now (evaluate H.meaning limits.now self.old.left) words.now (H.state host.now) variables.now self.old.fuel)) result self.new (H.state host.now) variables.now }
+    {
+        let text = within(concatenated(alloc, words)?, limits)?;
+        Ok(Now::Open(parse(alloc, &text)?))
+    }
+
+    // foreach name l b
+    #[tactic(auto, using(crate::proofs::Halts::given_halts))]
+    fn run_foreach<H: Host>(
+        &mut self,
+        alloc: Global,
+        host: &H,
+        variables: &mut Vars,
+        command: &Txt,
+        words: &[Txt],
+        limits: &Limits,
+    ) -> Result<Now, Halt>
+        ensures spends { self.new.fuel ≤ self.old.fuel }
+        ensures goes { GoesSo H.meaning limits.now (resume H.meaning limits.now self.old.left self.old.stack (foreach_does limits.now (evaluate H.meaning limits.now self.old.left) command.now words.now (H.state host.now) variables.old self.old.fuel)) result self.new (H.state host.now) variables.new }
+    {
+        let (name, body, elements) = foreach_form(alloc, command, words)?;
+        self.next_element(alloc, host, variables, name, body, elements, limits)
+    }
+
+    // Goes on with the elements of a `foreach`.
+    #[tactic(auto, using(crate::proofs::Halts::given_halts, crate::proofs::Halts::step_halts))]
+    fn next_element<H: Host>(
+        &mut self,
+        alloc: Global,
+        host: &H,
+        variables: &mut Vars,
+        name: Txt,
+        body: Txt,
+        elements: Rest<Txt>,
+        limits: &Limits,
+    ) -> Result<Now, Halt>
+        ensures falls { Falls result 1 self.old self.new }
+        ensures goes { GoesSo H.meaning limits.now (resume H.meaning limits.now self.old.left self.old.stack (each limits.now (evaluate H.meaning limits.now self.old.left) name body elements (H.state host.now) variables.old self.old.fuel)) result self.new (H.state host.now) variables.new }
+    {
+        let mut elements = elements;
+        let Some(element) = elements.next() else {
+            return Ok(Now::At(Ending {
+                code: 0,
+                text: Txt::new(alloc),
+            }));
+        };
+        self.take_step()?;
+        store(variables, &name, element, limits)?;
+        let script = parse(alloc, &body)?;
+        self.stack.push(Frame::Each {
+            name,
+            body,
+            elements,
+        })?;
+        Ok(Now::Open(script))
+    }
+
+    /// Goes on with a `foreach` behind its body.
+    pub fn after_element<H: Host>(
+        &mut self,
+        alloc: Global,
+        host: &H,
+        variables: &mut Vars,
+        name: Txt,
+        body: Txt,
+        elements: Rest<Txt>,
+        end: Ending,
+        limits: &Limits,
+    ) -> Result<Now, Halt>
+        ensures falls { Falls result 1 self.old self.new }
+        ensures goes { GoesSo H.meaning limits.now (resume H.meaning limits.now self.old.left (frame.Each name body elements ∷ self.old.stack) (End end.code end.text (H.state host.now) variables.old self.old.fuel)) result self.new (H.state host.now) variables.new }
+    {
+        match end.code {
+            0 | 4 => self.next_element(alloc, host, variables, name, body, elements, limits),
+            3 => Ok(Now::At(Ending {
+                code: 0,
+                text: Txt::new(alloc),
+            })),
+            _ => Ok(Now::At(end)),
+        }
+    }
+
+    // proc name params body
+    #[tactic(auto, using(crate::proofs::Halts::given_halts))]
+    fn define<H: Host>(
+        &mut self,
+        alloc: Global,
+        host: &H,
+        variables: &mut Vars,
+        command: &Txt,
+        words: &[Txt],
+        limits: &Limits,
+    ) -> Result<Now, Halt>
+        ensures spends { self.new.fuel ≤ self.old.fuel }
+        ensures goes { GoesSo H.meaning limits.now (resume H.meaning limits.now self.old.left self.old.stack (proc_does H.meaning limits.now command.now words.now (H.state host.now) variables.old self.old.fuel)) result self.new (H.state host.now) variables.new }
+    {
+        run_proc(alloc, host, variables, command, words, limits)?;
+        Ok(Now::At(Ending {
+            code: 0,
+            text: Txt::new(alloc),
+        }))
+    }
+
+    // Calls a procedure.
+    #[tactic(auto, using(crate::proofs::Halts::given_halts))]
+    fn run_procedure<H: Host>(
+        &mut self,
+        alloc: Global,
+        host: &H,
+        variables: &mut Vars,
+        command: &Txt,
+        words: &[Txt],
+        limits: &Limits,
+    ) -> Result<Now, Halt>
+        ensures spends { self.new.fuel ≤ self.old.fuel }
+        ensures goes { GoesSo H.meaning limits.now (resume H.meaning limits.now self.old.left self.old.stack (procedure_does limits.now (evaluate H.meaning limits.now self.old.left) command.now words.now (map.get variables.old.procedures command.now) (H.state host.now) variables.old self.old.fuel)) result self.new (H.state host.now) variables.new }
+    {
+        let body = enter(alloc, variables, command, words, limits)?;
+        let script = parse(alloc, &body)?;
+        self.stack.push(Frame::Procedure)?;
+        Ok(Now::Open(script))
+    }
+
+    /// Ends a procedure, and its frame with it.
+    pub fn after_procedure<H: Host>(
+        &mut self,
+        host: &H,
+        variables: &mut Vars,
+        end: Ending,
+        limits: &Limits,
+    ) -> Result<Now, Halt>
+        ensures falls { Falls result 1 self.old self.new }
+        ensures goes { GoesSo H.meaning limits.now (resume H.meaning limits.now self.old.left (frame.Procedure ∷ self.old.stack) (End end.code end.text (H.state host.now) variables.old self.old.fuel)) result self.new (H.state host.now) variables.new }
+    {
+        variables.pop_frame();
+        match end.code {
+            2 => Ok(Now::At(Ending {
+                code: 0,
+                text: end.text,
+            })),
+            3 | 4 => Err(Halt::Fault(ScriptFault {
+                number: ErrorNumber::OutsideLoop,
+                subject: None,
+            })),
+            _ => Ok(Now::At(end)),
+        }
+    }
+}

@@ -1,0 +1,33 @@
+ghost use Rattle.std.specs.Prelude.{◌≡◌};
+ghost use Rattle.tks_eval.specs.Names.{control_named};
+
+use tks_text::Txt;
+
+/// The commands that run scripts, and `proc`, of those that have rules yet.
+#[derive(Clone, Copy)]
+pub enum Control {
+    Catch,
+    Eval,
+    Foreach,
+    Proc,
+}
+
+impl Control {
+    /// The command of this name.
+    pub fn named(name: &Txt) -> Option<Control>
+        ensures { result ≡ control_named name.now }
+    {
+        let name = name.as_bytes();
+        if name == b"catch".as_slice() {
+            Some(Control::Catch)
+        } else if name == b"eval".as_slice() {
+            Some(Control::Eval)
+        } else if name == b"foreach".as_slice() {
+            Some(Control::Foreach)
+        } else if name == b"proc".as_slice() {
+            Some(Control::Proc)
+        } else {
+            None
+        }
+    }
+}

@@ -1,0 +1,61 @@
+use crate::rest::Rest;
+use tks_parse::{Command, Part, Script, Word};
+use tks_text::{ScriptFault, Seq, Txt};
+
+/// How a script, a command or a word ended: its code, and its result or its error's text.
+#[derive(Drop)]
+pub struct Ending {
+    pub code: u8,
+    pub text: Txt,
+}
+
+/// What waits for an end.
+#[derive(Drop)]
+pub enum Frame {
+    /// The commands that are left of a script, which was opened where so many might be open.
+    Commands {
+        rest: Rest<Command>,
+        fault: Option<ScriptFault>,
+        levels: u32,
+    },
+    /// A command, whose next word is being made.
+    Command {
+        words: Seq<Txt>,
+        expand: bool,
+        rest: Rest<Word>,
+    },
+    /// A word, at a script in it.
+    Nested {
+        made: Txt,
+        parts: Rest<Part>,
+    },
+    /// A word, at the index of an element.
+    Element {
+        name: Txt,
+        made: Txt,
+        parts: Rest<Part>,
+    },
+    /// `catch`, with the variable for the text.
+    Catch {
+        name: Option<Txt>,
+    },
+    /// `foreach`, at its body.
+    Each {
+        name: Txt,
+        body: Txt,
+        elements: Rest<Txt>,
+    },
+    /// A procedure.
+    Procedure,
+}
+
+/// What the machine is at.
+#[derive(Drop)]
+pub enum Now {
+    /// A script to open.
+    Open(Script),
+    /// A word, or an index, to go on with.
+    Fill { made: Txt, parts: Rest<Part> },
+    /// An end, for the frame on top.
+    At(Ending),
+}

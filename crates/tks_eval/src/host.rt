@@ -1,0 +1,43 @@
+ghost use Rattle.std.specs.Prelude.{◌≡◌};
+ghost use Rattle.tks_eval.specs.Outcome.{Meaning};
+ghost use Rattle.tks_eval.specs.Meets.{AnswersSo, FaultsSo};
+
+use tks_tcl::Stop;
+use tks_text::Txt;
+use tks_vars::Vars;
+
+/// What a command of a host comes to.
+#[derive(Drop)]
+pub enum Plan {
+    /// A code, 0 ok, 1 error, 2 return, 3 break or 4 continue, and the result or the error's text.
+    Answer(u8, Txt),
+}
+
+/// What runs the commands that the language doesn't have: a state, and commands that change it and the
+/// variables. Contracts see `state` and `meaning` alone.
+pub trait Host {
+    type State;
+
+    /// The state now.
+    ghost state: { Self → Self.State };
+
+    /// What the host does and says in each state.
+    ghost meaning: { Meaning Self.State };
+
+    /// Runs a command, whose name is the first word. `None` where the host has none of this name; nothing
+    /// has changed then. It stops by `TooLarge` and `NoMemory` alone.
+    fn call(&mut self, variables: &mut Vars, words: &[Txt]) -> Result<Option<Plan>, Stop>
+        ensures answers { AnswersSo (meaning.commands (state self.old) variables.old words.now) result (state self.old) (state self.new) variables.old variables.new };
+
+    /// Whether no procedure may have this name.
+    fn owns(&self, name: &Txt) -> bool
+        ensures owns { result ≡ meaning.owns (state self.now) name.now };
+
+    /// Whether the window of this number is there.
+    fn alive(&self, window: u64) -> bool
+        ensures alive { result ≡ meaning.alive (state self.now) window };
+
+    /// Joins an error's text to the faults. It stops by `NoMemory` alone.
+    fn fault(&mut self, text: &Txt) -> Result<(), Stop>
+        ensures faulted { FaultsSo result (state self.new) (meaning.faulted (state self.old) text.now) };
+}

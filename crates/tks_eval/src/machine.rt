@@ -1,0 +1,170 @@
+ghost use Rattle.std.specs.Prelude.{◌≡◌, ◌+◌, ◌*◌, ◌∷◌};
+ghost use Rattle.tks_parse.specs.Tree.{script_size};
+ghost use Rattle.tks_eval.specs.Outcome.{End};
+ghost use Rattle.tks_eval.specs.Evaluation.{evaluate};
+ghost use Rattle.tks_eval.specs.Meets.{EndsSo, FailsSo, TakesStep};
+ghost use Rattle.tks_eval.specs.Machine.{resume, frame_weight, GoesSo, Falls};
+
+use crate::ended::Ended;
+use crate::frame::{Ending, Frame, Now};
+use crate::halt::Halt;
+use crate::host::Host;
+use crate::rest::Rest;
+use std::alloc::Global;
+use tks_parse::Script;
+use tks_tcl::Stop;
+use tks_text::{Limits, ScriptFault, Txt};
+use tks_vars::Vars;
+
+/// A run under way: what waits for the present end, how many scripts may yet be opened in one another, and
+/// the steps that are left.
+#[derive(Drop)]
+pub struct Machine {
+    pub stack: Rest<Frame>,
+    pub left: u32,
+    pub fuel: u64,
+}
+
+/// Runs a script.
+#[tactic(auto, using(crate::proofs::Halts::fails_halts))]
+pub fn eval<H: Host>(
+    alloc: Global,
+    host: &mut H,
+    variables: &mut Vars,
+    script: Script,
+    limits: &Limits,
+) -> Result<Ended, Stop>
+    ensures { EndsSo (evaluate H.meaning limits.now limits.now.depth script (H.state host.old) variables.old limits.now.fuel) result (H.state host.new) variables.new }
+{
+    let mut machine = Machine {
+        stack: Rest::new(alloc),
+        left: limits.depth,
+        fuel: limits.fuel,
+    };
+    let mut now = Now::Open(script);
+    'steps: loop {
+        let before = machine.fuel;
+        'turns: loop {
+            let next = match now {
+                Now::At(end) => match machine.stack.next() {
+                    None => {
+                        return Ok(Ended {
+                            code: end.code,
+                            text: end.text,
+                            fuel: machine.fuel,
+                        });
+                    }
+                    Some(frame) => machine.resume(alloc, host, variables, frame, end, limits),
+                },
+                Now::Open(script) => machine.open(alloc, host, variables, script, limits),
+                Now::Fill { made, parts } => {
+                    machine.fill(alloc, host, variables, made, parts, limits)
+                }
+            };
+            now = match next {
+                Ok(now) => now,
+                Err(Halt::Fault(fault)) => Now::At(failed(alloc, &fault, limits)?),
+                Err(Halt::Stop(why)) => return Err(why),
+            };
+            if machine.fuel != before {
+                continue 'steps;
+            }
+        }
+    }
+}
+
+// The end by an error.
+fn failed(alloc: Global, fault: &ScriptFault, limits: &Limits) -> Result<Ending, Stop>
+    ensures { FailsSo limits.now fault.now result }
+{
+    let text = fault.text(alloc)?;
+    if text.len() > limits.text as usize {
+        return Err(Stop::TooLarge);
+    }
+    Ok(Ending { code: 1, text })
+}
+
+impl Machine {
+    /// Takes a step.
+    pub fn take_step(&mut self) -> Result<(), Stop>
+        ensures step { TakesStep result self.old.fuel self.new.fuel }
+        ensures kept { self.new ≡ record self.old { fuel = self.new.fuel } }
+    {
+        if self.fuel == 0 {
+            return Err(Stop::Budget);
+        }
+        self.fuel -= 1;
+        Ok(())
+    }
+
+    // Opens a script.
+    fn open<H: Host>(
+        &mut self,
+        alloc: Global,
+        host: &H,
+        variables: &Vars,
+        script: Script,
+        limits: &Limits,
+    ) -> Result<Now, Halt>
+        ensures falls { Falls result (4 * script_size script + 2) self.old self.new }
+        ensures goes { GoesSo H.meaning limits.now (resume H.meaning limits.now self.old.left self.old.stack (evaluate H.meaning limits.now self.old.left script (H.state host.now) variables.now self.old.fuel)) result self.new (H.state host.now) variables.now }
+    {
+        if self.left == 0 {
+            return Err(Halt::Stop(Stop::Depth));
+        }
+        let (commands, fault) = script.into_contents();
+        self.stack.push(Frame::Commands {
+            rest: Rest::of(commands),
+            fault,
+            levels: self.left,
+        })?;
+        self.left -= 1;
+        Ok(Now::At(Ending {
+            code: 0,
+            text: Txt::new(alloc),
+        }))
+    }
+
+    // Goes on with what waited for an end.
+    fn resume<H: Host>(
+        &mut self,
+        alloc: Global,
+        host: &mut H,
+        variables: &mut Vars,
+        frame: Frame,
+        end: Ending,
+        limits: &Limits,
+    ) -> Result<Now, Halt>
+        ensures falls { Falls result (frame_weight frame) self.old self.new }
+        ensures goes { GoesSo H.meaning limits.now (resume H.meaning limits.now self.old.left (frame ∷ self.old.stack) (End end.code end.text (H.state host.old) variables.old self.old.fuel)) result self.new (H.state host.new) variables.new }
+    {
+        match frame {
+            Frame::Commands {
+                rest,
+                fault,
+                levels,
+            } => self.after_command(alloc, host, variables, rest, fault, levels, end, limits),
+            Frame::Command {
+                words,
+                expand,
+                rest,
+            } => self.after_word(alloc, host, variables, words, expand, rest, end, limits),
+            Frame::Nested { made, parts } => {
+                self.after_nested(host, variables, made, parts, end, limits)
+            }
+            Frame::Element { name, made, parts } => {
+                self.after_index(host, variables, name, made, parts, end, limits)
+            }
+            Frame::Catch { name } => self.after_caught(alloc, host, variables, name, end, limits),
+            Frame::Each {
+                name,
+                body,
+                elements,
+            } => self.after_element(alloc, host, variables, name, body, elements, end, limits),
+            Frame::Procedure => self.after_procedure(host, variables, end, limits),
+        }
+    }
+}
+
+#[cfg(test)]
+mod tests;

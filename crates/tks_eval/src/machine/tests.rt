@@ -1,0 +1,238 @@
+ghost use Rattle.std.specs.Prelude.{◌≡◌};
+ghost use Rattle.tks_eval.specs.Counter.{counting};
+
+use super::*;
+use crate::host::Plan;
+use std::process::Abort;
+use std::test::Fail;
+use tks_parse::parse;
+
+// A host with a count, `up`, which adds one to it, and `zero`.
+#[derive(Drop)]
+struct Counter {
+    alloc: Global,
+    count: u32,
+}
+
+impl Host for Counter {
+    type State = u32;
+
+    ghost state = { λ c. c.count };
+
+    ghost meaning = { counting };
+
+    fn call(&mut self, _variables: &mut Vars, words: &[Txt]) -> Result<Option<Plan>, Stop> {
+        let Some((name, _)) = words.split_first() else {
+            return Ok(None);
+        };
+        if name.as_bytes() == b"up".as_slice() {
+            if self.count == u32::MAX {
+                return Err(Stop::TooLarge);
+            }
+            self.count += 1;
+            return Ok(Some(Plan::Answer(0, Txt::new(self.alloc))));
+        }
+        if name.as_bytes() == b"zero".as_slice() {
+            self.count = 0;
+            return Ok(Some(Plan::Answer(0, Txt::new(self.alloc))));
+        }
+        Ok(None)
+    }
+
+    fn owns(&self, name: &Txt) -> bool {
+        name.as_bytes() == b"up".as_slice() || name.as_bytes() == b"zero".as_slice()
+    }
+
+    fn alive(&self, _window: u64) -> bool {
+        false
+    }
+
+    fn fault(&mut self, _text: &Txt) -> Result<(), Stop> {
+        Ok(())
+    }
+}
+
+// What a script ends with: its code and its text, or why it stops.
+fn run(
+    alloc: Global,
+    host: &mut Counter,
+    variables: &mut Vars,
+    script: &str,
+    limits: &Limits,
+) -> Result<String, Fail> {
+    let script = parse(alloc, &Txt::from_bytes(alloc, script.as_bytes())?)?;
+    match eval(alloc, host, variables, script, limits) {
+        Ok(ended) => {
+            let mut shown = format!(in alloc; "{} ", ended.code)?;
+            for byte in ended.text.as_bytes() {
+                shown.push(*byte as char)?;
+            }
+            Ok(shown)
+        }
+        Err(why) => Ok(format!(in alloc; "{why}")?),
+    }
+}
+
+// Runs the script of a row from nothing, and compares its end.
+fn try_row(rt: &impl Abort, alloc: Global, row: &str, limits: &Limits) -> Result<(), Fail> {
+    let (script, want) = row.split_once(" => ").ok_or("no such row")?;
+    let mut host = Counter { alloc, count: 0 };
+    let mut variables = Vars::new(alloc);
+    let end = run(alloc, &mut host, &mut variables, script, limits)?;
+    assert_eq!(rt; end.as_str(), want, "at {script}");
+    Ok(())
+}
+
+fn try_rows(rt: &impl Abort, alloc: Global, rows: &str, limits: &Limits) -> Result<(), Fail> {
+    for row in rows.lines() {
+        try_row(rt, alloc, row, limits)?;
+    }
+    Ok(())
+}
+
+// What Tcl 8.6.13 makes of these scripts (tests/scripts.tcl).
+fn rows_of_tcl() -> &'static str {
+    "set x 5; set y \"a[set x]b$x\\x41\" => 0 a5b5A\n\
+list {*}{a {b c}} \"\" x => 0 a {b c} {} x\n\
+set a(1) x; set i 1; set b $a($i) => 0 x\n\
+set a(xy) 3; set t y; list $a(x$t) $a([append u x]y) => 0 3 3\n\
+set x [list [list a b] [list c]] => 0 {a b} c\n\
+list a[list b c]d [list]{e} => 0 {ab cd} {{e}}\n\
+catch {error boom} m; list $m => 0 boom\n\
+list [catch {error boom}] [catch {return x}] [catch break] [catch continue] [catch {set a 1}] => 0 1 2 3 4 0\n\
+catch {set a 1; error b; set a 2}; set a => 0 1\n\
+list [catch {return 5} m] $m => 0 2 5\n\
+catch {catch {error x} m; error y} n; list $m $n => 0 x y\n\
+eval {set a 1}; set a => 0 1\n\
+eval set a 5 => 0 5\n\
+eval list {a b} {c} => 0 a b c\n\
+eval \"set a\" 5 => 0 5\n\
+eval {break} => 3 \n\
+foreach x {a b c} {append r $x-}; set r => 0 a-b-c-\n\
+foreach x {} {error never} => 0 \n\
+foreach x {1 2 3} {break}; set x => 0 1\n\
+foreach x {1 2 3} {continue; error never}; set x => 0 3\n\
+foreach x {1 2} {foreach y {a b} {lappend r $x$y}}; set r => 0 1a 1b 2a 2b\n\
+foreach x {1 2 3} {lappend r $x; set x q}; list $r $x => 0 {1 2 3} q\n\
+set l {a b}; foreach x $l {lappend l $x$x}; set l => 0 a b aa bb\n\
+foreach x {1 2} {foreach y {a b} {break}; lappend r $x$y}; set r => 0 1a 2a\n\
+catch {foreach x {1 2} {error $x}} m; list $x $m => 0 1 1\n\
+proc f {} {return 3}; f => 0 3\n\
+proc f {} {set a 1}; f => 0 1\n\
+proc f {a b} {list $b $a}; f 1 2 => 0 2 1\n\
+proc f {a {b 2} args} {list $a $b $args}; list [f 1] [f 1 5] [f 1 5 x y] => 0 {1 2 {}} {1 5 {}} {1 5 {x y}}\n\
+proc f {args} {llength $args}; list [f] [f a {b c}] => 0 0 2\n\
+proc f {args b} {list $args $b}; f 1 2 => 0 1 2\n\
+proc f {{args 5}} {set args}; f => 0 \n\
+proc f {a a} {set a}; f 1 2 => 0 1\n\
+proc f {a(b} {set a(b}; f 1 => 0 1\n\
+proc {} {} {return 4}; {} => 0 4\n\
+proc f {} {global n; incr n}; f; f; set n => 0 2\n\
+set n 7; proc f {} {set n 1; list $n}; list [f] $n => 0 1 7\n\
+proc f {x} {global r; lappend r $x; eval $x}; f {f {f {set y 1}}}; set r => 0 {f {f {set y 1}}} {f {set y 1}} {set y 1}\n\
+proc f {} {catch {error e} m; return $m}; f => 0 e\n\
+proc f {} {foreach x {1 2} {return $x}}; f => 0 1\n\
+proc f {} {proc g {} {return inner}; g}; list [f] [g] => 0 inner inner\n\
+proc f {} {error deep}; proc g {} {f}; catch g m; set m => 0 deep\n\
+proc f {} {return [list a b]}; list [f] {*}[f] => 0 {a b} a b\n\
+proc f {l} {foreach x $l {lappend r <$x>}; join $r ,}; f {a {b c} d} => 0 <a>,<b c>,<d>\n\
+proc f {} {set a(1) x; set a(2) y; list $a(1)$a(2)}; f => 0 xy\n\
+set x a; set $x b; set a => 0 b\n\
+{*}{set x} 3 => 0 3\n\
+{*}{} => 0 \n\
+set a 1; # set a 2 => 0 1"
+}
+
+// What this project's own rules make of these.
+fn own_rows() -> &'static str {
+    "foo => 1 E09 foo\n\
+set a {b}c => 1 E05\n\
+list [set q] => 1 E11 q\n\
+set a(1) x; set b $a => 1 E12 a\n\
+list {*}\"{\" => 1 E15\n\
+up; up; zero => 0 \n\
+catch => 1 E10 catch\n\
+catch a b c => 1 E10 catch\n\
+foreach x {1 2} => 1 E10 foreach\n\
+foreach x \"{\" {} => 1 E15\n\
+foreach (x) a {} => 1 E17 (x)\n\
+proc f {} => 1 E10 proc\n\
+proc set {} {} => 1 E17 set\n\
+proc while {} {} => 1 E17 while\n\
+proc up {} {} => 1 E17 up\n\
+proc .f {} {} => 1 E17 .f\n\
+proc f {{a b c}} {} => 1 E17 f\n\
+proc f {{}} {} => 1 E17 f\n\
+proc f {a(b)} {} => 1 E17 f\n\
+proc f \"{\" {} => 1 E15\n\
+proc f {a b} {}; f 1 => 1 E10 f\n\
+proc f {a b} {}; f 1 2 3 => 1 E10 f\n\
+proc f {} {break}; catch f m; set m => 0 E18\n\
+proc f {} {set a 1}; f; set a => 1 E11 a\n\
+proc f {} {f}; catch f => scripts too deep in one another\n\
+proc f {} {error [set x]}; catch f m; set m => 0 E11 x\n\
+foreach x {1 2} {return $x} => 2 1"
+}
+
+#[test]
+fn scripts_end_as_in_tcl(rt: HostRuntime) -> Result<(), Fail> {
+    try_rows(&rt, rt.alloc(), rows_of_tcl(), &Limits::format1())
+}
+
+#[test]
+fn scripts_end_by_own_rules(rt: HostRuntime) -> Result<(), Fail> {
+    try_rows(&rt, rt.alloc(), own_rows(), &Limits::format1())
+}
+
+#[test]
+fn limits_stop_scripts(rt: HostRuntime) -> Result<(), Fail> {
+    let limits = Limits {
+        fuel: 3,
+        depth: 3,
+        text: 12,
+        items: 2,
+        pending: 64,
+    };
+    let rows = "up; up; up => 0 \n\
+up; up; up; up => out of steps\n\
+catch {up; up} => 0 0\n\
+catch {up; up; up} => out of steps\n\
+foreach x {1} {up} => 0 \n\
+foreach x {1} {up; up} => out of steps\n\
+list [list [list a]] => 0 a\n\
+list [list [list [list a]]] => scripts too deep in one another\n\
+list 12345678901[list 2] => 0 123456789012\n\
+list 12345678901[list 23] => too large\n\
+eval list 1234567 => 0 1234567\n\
+eval list 12345678 => too large\n\
+set a 1; set b 2; set c 3 => too large\n\
+proc f {} {}; proc g {} {}; proc h {} {} => too large\n\
+proc f {a b c} {}; f 1 2 3 => too large";
+    try_rows(&rt, rt.alloc(), rows, &limits)
+}
+
+#[test]
+fn fuel_is_left(rt: HostRuntime) -> Result<(), Fail> {
+    let mut host = Counter {
+        alloc: rt.alloc(),
+        count: 0,
+    };
+    let mut variables = Vars::new(rt.alloc());
+    let script = parse(
+        rt.alloc(),
+        &Txt::from_text(rt.alloc(), b"up; foreach x {a b} {up}")?,
+    )?;
+    let ended = eval(
+        rt.alloc(),
+        &mut host,
+        &mut variables,
+        script,
+        &Limits::format1(),
+    )?;
+    assert_eq!(rt; ended.fuel, 9_994);
+    assert_eq!(rt; host.count, 3);
+    host.fault(&Txt::from_text(rt.alloc(), b"E18")?)?;
+    assert!(rt; host.owns(&Txt::from_text(rt.alloc(), b"up")?));
+    assert!(rt; !host.alive(1));
+    Ok(())
+}
