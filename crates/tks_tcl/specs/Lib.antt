@@ -7,4 +7,5 @@ pub mod Strings
 pub mod Codes
 pub mod Names
 pub mod Plain
+pub mod Laws
 pub mod Meets

@@ -155,8 +155,8 @@ fn push_separated(text: &mut Txt, more: &[Txt], separator: &Txt) -> Result<(), A
     Ok(())
 }
 
-// Texts with a separator between them.
-fn joined_by(alloc: Global, texts: &[Txt], separator: &Txt) -> Result<Txt, AllocError>
+/// Texts with a separator between them.
+pub fn joined_by(alloc: Global, texts: &[Txt], separator: &Txt) -> Result<Txt, AllocError>
     ensures { IfOk result (λ t. t ≡ joined_by separator.now texts.now) }
 {
     let mut text = Txt::new(alloc);

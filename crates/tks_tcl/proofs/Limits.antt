@@ -1,0 +1,202 @@
+-- Wider limits keep what a command comes to, where that passed none.
+use Rattle.std.proofs.Common.{◌≡◌, ℕ, ◌≤◌, Bool, true, false, ◌&&◌, leb, ltb, if◌then◌else◌, List, [], ◌∷◌, length, codes, Option, Some, None, Result, Ok, Err, option_map, refl, subst, arith}
+use Rattle.std.proofs.lemmas.Bool.{le-leb, leb-true, lt-ltb, ltb-true}
+use Rattle.tks_text.specs.Limits.{Wider}
+use Rattle.tks_text.specs.Text.{same_text}
+use Rattle.tks_text.specs.Fault.{fault_text}
+use Rattle.tks_text.specs.declared.limits.Limits.{Limits}
+use Rattle.tks_vars.specs.Variables.{Variables, with_value, linked, exists, grown_by_value, grown_by_link}
+use Rattle.tks_tcl.specs.Cause.{Cause, Fault, OverLimit, after, value_or_fault, fits, within, wrong_words}
+use Rattle.tks_tcl.specs.Codes.{bare_code, says, code_does}
+use Rattle.tks_tcl.specs.Words.{truth_text}
+use Rattle.tks_tcl.specs.Lists.{list_does}
+use Rattle.tks_tcl.specs.Strings.{string_does}
+use Rattle.tks_tcl.specs.Variables.{answers, may_grow, stores, link_within, linked_all, value_in, increased, appended, list_appended, silent, set_does, incr_does, append_does, lappend_does, global_does, info_does, unset_does, variable_does}
+use Rattle.tks_tcl.specs.Names.{command_named}
+use Rattle.tks_tcl.specs.Plain.{Answer, Answers, PassesLimit, Ending, with_code_0, command_does, answered, plain}
+use Rattle.tks_tcl.specs.declared.codes.CodeCommand.{CodeCommand}
+use Rattle.tks_tcl.specs.declared.codes.CodeCommand.TheVariants as code
+use Rattle.tks_tcl.specs.declared.variables.VariableCommand.{VariableCommand}
+use Rattle.tks_tcl.specs.declared.variables.VariableCommand.TheVariants as variable
+use Rattle.tks_tcl.specs.declared.command.Command.{Command}
+use Rattle.tks_tcl.specs.declared.command.Command.TheVariants.{OfCode, OfLists, OfStrings, OfVariables}
+use Rattle.tks_tcl.specs.Laws.{AnswersStay}
+
+-- ---- values
+
+-- the second is the first, unless that passed a limit
+abbrev pub IsKept : {X : Type 0} → Result X Cause → Result X Cause → Type 0
+IsKept (Ok x) r = r ≡ Ok x
+IsKept (Err (Fault fault)) r = r ≡ Err (Fault fault)
+IsKept (Err OverLimit) r = Unit {0}
+
+-- the same as a record, which shows its two results
+pub record Keeps {X : Type 0} (r r' : Result X Cause) : Type 0 where
+  pub kept : IsKept r r'
+
+pub itself : {X : Type 0} (r : Result X Cause) → Keeps r r
+itself (Ok x) = record { kept = refl }
+itself (Err (Fault fault)) = record { kept = refl }
+itself (Err OverLimit) = record { kept = tt }
+
+pub after_keeps : {X Y : Type 0} {r r' : Result X Cause} {next next' : X → Result Y Cause} → Keeps r r' → ((x : X) → Keeps (next x) (next' x)) → Keeps (after r next) (after r' next')
+after_keeps {r = Ok x} h n = rw (h.kept) (n x)
+after_keeps {r = Err (Fault fault)} h n = rw (h.kept) (itself (Err (Fault fault)))
+after_keeps {r = Err OverLimit} h n = record { kept = tt }
+
+-- one of two, whatever is asked
+pub if_keeps : {X : Type 0} (b : Bool) {r r' other other' : Result X Cause} → Keeps r r' → Keeps other other' → Keeps (if b then r else other) (if b then r' else other')
+if_keeps true h o = h
+if_keeps false h o = o
+
+-- a test that still holds
+abbrev pub Holds : Bool → Bool → Type 0
+Holds b b' = b ≡ true → b' ≡ true
+
+-- what may be where there is room
+pub room_keeps : {X : Type 0} (b b' : Bool) {r r' : Result X Cause} → Holds b b' → Keeps r r' → Keeps (if b then r else Err OverLimit) (if b' then r' else Err OverLimit)
+room_keeps true b' h k = rw (h refl) k
+room_keeps false b' h k = record { kept = tt }
+
+pub both_hold : (a a' b b' : Bool) → Holds a a' → Holds b b' → Holds (a && b) (a' && b')
+both_hold true a' true b' p q h = rw (p refl, q refl) refl
+both_hold true a' false b' p q h = absurd cc
+both_hold false a' b b' p q h = absurd cc
+
+-- a number within a limit is within a greater one
+pub at_most_holds : (n a b : ℕ) → a ≤ b → Holds (leb n a) (leb n b)
+at_most_holds n a b w h = let l = leb-true n a h in le-leb n b (omega (arith, l, w))
+
+pub below_holds : (n a b : ℕ) → a ≤ b → Holds (ltb n a) (ltb n b)
+below_holds n a b w h = let l = ltb-true n a h in lt-ltb n b (omega (arith, l, w))
+
+-- ---- answers of commands
+
+-- the second is the first, unless that passed a limit
+abbrev pub IsAnswerKept : Option Answer → Option Answer → Type 0
+IsAnswerKept None answer = answer ≡ None
+IsAnswerKept (Some (Answers code text variables)) answer = answer ≡ Some (Answers code text variables)
+IsAnswerKept (Some PassesLimit) answer = Unit {0}
+
+module _ (limits wider : Limits) (w : Wider limits wider) where
+  pub fits_wider : (text : List ℕ) → Holds (fits limits text) (fits wider text)
+  fits_wider text = at_most_holds (length text) limits.text wider.text w.text
+
+  pub within_keeps : (text : List ℕ) → Keeps (within limits text) (within wider text)
+  within_keeps text = room_keeps _ _ (fits_wider text) (itself (Ok text))
+
+  -- ---- variables
+
+  may_grow_wider : (members : Option ℕ) → Holds (may_grow limits members) (may_grow wider members)
+  may_grow_wider None h = refl
+  may_grow_wider (Some members) h = below_holds members limits.items wider.items w.items h
+
+  pub answers_keep : (variables : Variables) (value : Result (List ℕ) Cause) → Keeps (answers limits variables value) (answers wider variables value)
+  answers_keep variables value = after_keeps (itself value) (λ value. after_keeps (within_keeps value) (λ text. itself (Ok (text, variables))))
+
+  pub stores_keep : (name : List ℕ) (variables : Variables) (value : List ℕ) → Keeps (stores limits name variables value) (stores wider name variables value)
+  stores_keep name variables value =
+      room_keeps _ _ (both_hold _ _ _ _ (fits_wider value) (may_grow_wider (grown_by_value variables name)))
+      (itself (after (value_or_fault (with_value variables name value)) (λ new. Ok (value, new))))
+
+  -- what a command that stores a value comes to
+  stored_keep : (name : List ℕ) (variables : Variables) (value : Result (List ℕ) Cause) → Keeps (after value (stores limits name variables)) (after value (stores wider name variables))
+  stored_keep name variables value = after_keeps (itself value) (stores_keep name variables)
+
+  link_keeps : (name : List ℕ) (variables : Variables) → Keeps (link_within limits name variables) (link_within wider name variables)
+  link_keeps name variables = room_keeps _ _ (may_grow_wider (grown_by_link variables name)) (itself (value_or_fault (linked variables name)))
+
+  links_keep : (names : List (List ℕ)) (variables : Variables) → Keeps (linked_all limits names variables) (linked_all wider names variables)
+  links_keep [] variables = itself (Ok variables)
+  links_keep (name ∷ names) variables = after_keeps (link_keeps name variables) (links_keep names)
+
+  -- ---- commands
+
+  set_keeps : (command : List ℕ) (words : List (List ℕ)) (variables : Variables) → Keeps (set_does limits command words variables) (set_does wider command words variables)
+  set_keeps command [] variables = itself (wrong_words command)
+  set_keeps command (name ∷ []) variables = answers_keep variables (value_in variables name)
+  set_keeps command (name ∷ (value ∷ [])) variables = stores_keep name variables value
+  set_keeps command (name ∷ (value ∷ (more ∷ words))) variables = itself (wrong_words command)
+
+  incr_keeps : (command : List ℕ) (words : List (List ℕ)) (variables : Variables) → Keeps (incr_does limits command words variables) (incr_does wider command words variables)
+  incr_keeps command [] variables = itself (wrong_words command)
+  incr_keeps command (name ∷ []) variables = stored_keep name variables (increased variables name (codes "1"))
+  incr_keeps command (name ∷ (n ∷ [])) variables = stored_keep name variables (increased variables name n)
+  incr_keeps command (name ∷ (n ∷ (more ∷ words))) variables = itself (wrong_words command)
+
+  append_keeps : (command : List ℕ) (words : List (List ℕ)) (variables : Variables) → Keeps (append_does limits command words variables) (append_does wider command words variables)
+  append_keeps command [] variables = itself (wrong_words command)
+  append_keeps command (name ∷ []) variables = itself (wrong_words command)
+  append_keeps command (name ∷ (value ∷ values)) variables = stored_keep name variables (appended variables name (value ∷ values))
+
+  lappend_keeps : (command : List ℕ) (words : List (List ℕ)) (variables : Variables) → Keeps (lappend_does limits command words variables) (lappend_does wider command words variables)
+  lappend_keeps command [] variables = itself (wrong_words command)
+  lappend_keeps command (name ∷ []) variables = itself (wrong_words command)
+  lappend_keeps command (name ∷ (value ∷ values)) variables = stored_keep name variables (list_appended variables name (value ∷ values))
+
+  global_keeps : (command : List ℕ) (words : List (List ℕ)) (variables : Variables) → Keeps (global_does limits command words variables) (global_does wider command words variables)
+  global_keeps command [] variables = itself (wrong_words command)
+  global_keeps command (name ∷ names) variables = after_keeps (links_keep (name ∷ names) variables) (λ new. itself (silent new))
+
+  info_keeps : (command : List ℕ) (words : List (List ℕ)) (variables : Variables) → Keeps (info_does limits command words variables) (info_does wider command words variables)
+  info_keeps command [] variables = itself (wrong_words command)
+  info_keeps command (subcommand ∷ []) variables = itself (wrong_words command)
+  info_keeps command (subcommand ∷ (name ∷ [])) variables =
+      if_keeps (same_text subcommand (codes "exists")) (answers_keep variables (after (value_or_fault (exists variables name)) (λ there. Ok (truth_text there)))) (itself (wrong_words command))
+  info_keeps command (subcommand ∷ (name ∷ (more ∷ words))) variables = itself (wrong_words command)
+
+  variables_keep : (which : VariableCommand) (command : List ℕ) (words : List (List ℕ)) (variables : Variables) → Keeps (variable_does limits which command words variables) (variable_does wider which command words variables)
+  variables_keep variable.Append = append_keeps
+  variables_keep variable.Global = global_keeps
+  variables_keep variable.Incr = incr_keeps
+  variables_keep variable.Info = info_keeps
+  variables_keep variable.Lappend = lappend_keeps
+  variables_keep variable.Set = set_keeps
+  variables_keep variable.Unset = λ command words variables. itself (unset_does command words variables)
+
+  says_keeps : (number : ℕ) (text : List ℕ) → Keeps (says limits number text) (says wider number text)
+  says_keeps number text = after_keeps (within_keeps text) (λ text. itself (Ok (number, text)))
+
+  codes_keep : (which : CodeCommand) (command : List ℕ) (words : List (List ℕ)) → Keeps (code_does limits which command words) (code_does wider which command words)
+  codes_keep code.Break command words = itself (bare_code 3 command words)
+  codes_keep code.Continue command words = itself (bare_code 4 command words)
+  codes_keep code.Error command [] = itself (wrong_words command)
+  codes_keep code.Error command (text ∷ []) = says_keeps 1 text
+  codes_keep code.Error command (text ∷ (more ∷ words)) = itself (wrong_words command)
+  codes_keep code.Return command [] = itself (Ok (2, []))
+  codes_keep code.Return command (value ∷ []) = says_keeps 2 value
+  codes_keep code.Return command (value ∷ (more ∷ words)) = itself (wrong_words command)
+
+  -- a command's answer that leaves the variables as they are
+  answer_keeps : (variables : Variables) (value : Result (List ℕ) Cause) → Keeps (after (answers limits variables value) with_code_0) (after (answers wider variables value) with_code_0)
+  answer_keeps variables value = after_keeps (answers_keep variables value) (λ x. itself (with_code_0 x))
+
+  command_keeps : (which : Command) (name : List ℕ) (words : List (List ℕ)) (variables : Variables) → Keeps (command_does limits which name words variables) (command_does wider which name words variables)
+  command_keeps (OfCode c) name words variables = after_keeps (codes_keep c name words) (λ x. itself (Ok (x, variables)))
+  command_keeps (OfLists c) name words variables = answer_keeps variables (list_does c name words)
+  command_keeps OfStrings name words variables = answer_keeps variables (string_does name words)
+  command_keeps (OfVariables c) name words variables = after_keeps (variables_keep c name words variables) (λ x. itself (with_code_0 x))
+
+  -- ---- answers
+
+  answered_kept : (variables : Variables) (r r' : Result Ending Cause) → Keeps r r' → IsAnswerKept (Some (answered limits variables r)) (Some (answered wider variables r'))
+  answered_kept variables (Ok x) r' h = rw (h.kept) refl
+  answered_kept variables (Err (Fault fault)) r' h = rw (h.kept) (by_size (fits limits (fault_text fault)) (fits wider (fault_text fault)) (fits_wider (fault_text fault)))
+    where
+      by_size : (b b' : Bool) → Holds b b' → IsAnswerKept (Some (if b then Answers 1 (fault_text fault) variables else PassesLimit)) (Some (if b' then Answers 1 (fault_text fault) variables else PassesLimit))
+      by_size true b' g = rw (g refl) refl
+      by_size false b' g = tt
+  answered_kept variables (Err OverLimit) r' h = tt
+
+  named_kept : (which : Option Command) (name : List ℕ) (words : List (List ℕ)) (variables : Variables)
+      → IsAnswerKept (option_map (λ c. answered limits variables (command_does limits c name words variables)) which) (option_map (λ c. answered wider variables (command_does wider c name words variables)) which)
+  named_kept None name words variables = refl
+  named_kept (Some c) name words variables = answered_kept variables _ _ (command_keeps c name words variables)
+
+  pub plain_kept : (words : List (List ℕ)) (variables : Variables) → IsAnswerKept (plain limits words variables) (plain wider words variables)
+  plain_kept [] variables = refl
+  plain_kept (name ∷ words) variables = named_kept (command_named name) name words variables
+
+-- an answer within the limits is the answer within wider ones
+pub answers_stay : (limits wider : Limits) → Wider limits wider → AnswersStay limits wider
+answers_stay limits wider w words variables code text new e = subst (λ answer. IsAnswerKept answer (plain wider words variables)) e (plain_kept limits wider w words variables)
