@@ -1,6 +1,6 @@
 -- Where there is nothing to go on with: a stop passes through every frame, and an error is the end of the
 -- frame on top.
-use Rattle.std.proofs.Common.{◌≡◌, ℕ, zero, suc, List, [], ◌∷◌, Option, Result, Ok, Err, cond, refl, sym, ◌∙◌, ap}
+use Rattle.std.proofs.Common.{◌≡◌, ℕ, Bool, List, [], ◌∷◌, Option, Result, Err, cond, refl, sym, ◌∙◌, ap}
 use Rattle.tks_text.specs.declared.fault.ScriptFault.{ScriptFault}
 use Rattle.tks_text.specs.declared.limits.Limits.{Limits}
 use Rattle.tks_vars.specs.Variables.{Variables}
@@ -10,17 +10,27 @@ use Rattle.tks_tcl.specs.declared.interrupt.Interrupt.{Interrupt}
 use Rattle.tks_tcl.specs.declared.interrupt.Interrupt.TheVariants as interrupt
 use Rattle.tks_tcl.specs.declared.stop.Stop.{Stop}
 use Rattle.tks_tcl.specs.declared.stop.Stop.TheVariants as stop
-use Rattle.tks_eval.specs.Outcome.{Outcome, End, Stopped, Why, Level, Answer, OutOfSteps, TooDeep, TooLarge, Meaning, after_step, fails, given}
-use Rattle.tks_eval.specs.Meets.{AnswersSo, StopsSo, FailsSo, TakesStep, TellsSo, halt_of_interrupt}
-use Rattle.tks_eval.specs.Evaluation.{plain_does, host_does}
+use Rattle.tks_eval.specs.Outcome.{Outcome, End, Stopped, Why, Next, Level, Answer, OutOfSteps, TooDeep, TooLarge, Meaning, after_step, fails, given}
+use Rattle.tks_eval.specs.Meets.{AnswersSo, StopsSo, FailsSo, TakesStep, TellsSo, ReadsSo, halt_of_interrupt, halt_of_failure}
+use Rattle.tks_eval.specs.Evaluation.{plain_does, host_does, evaluate, text_done, and_then, made_text, value_does, chosen, after_truth, tested}
 use Rattle.tks_tcl.specs.Plain as commands
-use Rattle.tks_text.specs.Fault.{fault_text}
+use Rattle.tks_text.specs.Fault.{fault_text, Gives}
+use Rattle.tks_text.specs.declared.fault.Failure.{Failure}
+use Rattle.tks_text.specs.declared.fault.Failure.TheVariants as failure
+use Rattle.tks_tcl.specs.Cause.{value_or_fault}
+use Rattle.tks_expr.specs.Operation.{truth_of}
+use Rattle.tks_expr.specs.Reading.{expr_of}
+use Rattle.tks_expr.specs.Value.{choice}
+use Rattle.tks_expr.specs.declared.tree.Link.{Link}
+use Rattle.tks_eval.specs.Values.{told_text, by_truth, links_do}
 use Rattle.tks_eval.specs.Machine.{resume, GoesSo}
 use Rattle.tks_eval.specs.declared.halt.Halt.{Halt}
 use Rattle.tks_eval.specs.declared.halt.Halt.TheVariants as halt
 use Rattle.tks_eval.specs.declared.machine.Machine.{Machine}
 use Rattle.tks_eval.specs.declared.frame.Frame.{Frame}
 use Rattle.tks_eval.specs.declared.frame.Frame.TheVariants as frame
+use Rattle.tks_eval.specs.declared.loops.Stage.TheVariants as stage
+use Rattle.tks_eval.proofs.Values.{value_stops, links_fail, after_fails}
 
 module _ {S : Type 0} (host : Meaning S) (limits : Limits) where
   pub resume_stopped : (left : ℕ) (stack : List Frame) (why : Why) → resume host limits left stack (Stopped why) ≡ Stopped why
@@ -31,6 +41,13 @@ module _ {S : Type 0} (host : Meaning S) (limits : Limits) where
   resume_stopped left (frame.Element name made parts ∷ below) why = resume_stopped left below why
   resume_stopped left (frame.Catch name ∷ below) why = resume_stopped left below why
   resume_stopped left (frame.Each name body items ∷ below) why = resume_stopped left below why
+  resume_stopped left (frame.Value f ∷ below) why =
+      ap (resume host limits left below) (value_stops limits (evaluate host limits left) f why) ∙ resume_stopped left below why
+  resume_stopped left (frame.Branch body rest ∷ below) why = resume_stopped left below why
+  resume_stopped left (frame.Turns stage.Start loop ∷ below) why = resume_stopped left below why
+  resume_stopped left (frame.Turns stage.Condition loop ∷ below) why = resume_stopped left below why
+  resume_stopped left (frame.Turns stage.Body loop ∷ below) why = resume_stopped left below why
+  resume_stopped left (frame.Turns stage.Next loop ∷ below) why = resume_stopped left below why
   resume_stopped left (frame.Procedure ∷ below) why = resume_stopped left below why
 
   -- a stop on top is a stop of the whole
@@ -48,6 +65,45 @@ module _ {S : Type 0} (host : Meaning S) (limits : Limits) where
     given_halts value next interrupt.TooLarge h =
         ap (λ v. resume host limits m.left m.stack (given limits v state variables m.fuel next)) h ∙ resume_stopped m.left m.stack TooLarge
     given_halts value next interrupt.NoMemory h = tt
+
+    -- a value of an expression's own that isn't there
+    pub fault_halts : {X Y : Type 0} (view : X → Y) (value : Result Y ScriptFault) (next : Y → Outcome S) (why : Failure) → Gives view (Err why) value
+        → GoesSo host limits (resume host limits m.left m.stack (given limits (value_or_fault value) state variables m.fuel next)) (Err (halt_of_failure why)) m state variables
+    fault_halts view value next (failure.Script fault) h = ap (λ v. resume host limits m.left m.stack (given limits (value_or_fault v) state variables m.fuel next)) h
+    fault_halts view value next failure.NoMemory h = tt
+
+    -- the same of the text of an operand, with links behind it
+    pub text_halts : {X : Type 0} (view : X → List ℕ) (links : List Link) (value : Result (List ℕ) ScriptFault) (why : Failure) → Gives view (Err why) value
+        → GoesSo host limits (resume host limits m.left m.stack (links_do limits (evaluate host limits m.left) links (told_text limits (evaluate host limits m.left) value state variables m.fuel)))
+        (Err (halt_of_failure why)) m state variables
+    text_halts view links value (failure.Script fault) h =
+        ap (λ v. resume host limits m.left m.stack (links_do limits (evaluate host limits m.left) links (told_text limits (evaluate host limits m.left) v state variables m.fuel))) h
+        ∙ ap (resume host limits m.left m.stack) (links_fail limits (evaluate host limits m.left) links fault state variables m.fuel)
+    text_halts view links value failure.NoMemory h = tt
+
+    -- the same of its truth
+    pub truth_halts : {X : Type 0} (view : X → Bool) (links : List Link) (text : List ℕ) (first second : Next S) (why : Failure) → Gives view (Err why) (truth_of text)
+        → GoesSo host limits (resume host limits m.left m.stack (links_do limits (evaluate host limits m.left) links (by_truth limits (evaluate host limits m.left) text first second state variables m.fuel)))
+        (Err (halt_of_failure why)) m state variables
+    truth_halts view links text first second (failure.Script fault) h =
+        ap (λ v. resume host limits m.left m.stack (links_do limits (evaluate host limits m.left) links
+        (choice text_done (fails limits) and_then (made_text limits (evaluate host limits m.left)) v first second state variables m.fuel))) h
+        ∙ ap (resume host limits m.left m.stack) (links_fail limits (evaluate host limits m.left) links fault state variables m.fuel)
+    truth_halts view links text first second failure.NoMemory h = tt
+
+    -- a condition that can't be read
+    pub test_halts : (condition : List ℕ) (first second : Next S) (fuel : ℕ) (why : Halt) → ReadsSo (expr_of condition) (Err why) fuel m.fuel
+        → GoesSo host limits (resume host limits m.left m.stack (tested limits (evaluate host limits m.left) condition first second state variables fuel)) (Err why) m state variables
+    test_halts condition first second fuel (halt.Fault fault) h =
+        ap (λ f. resume host limits m.left m.stack (tested limits (evaluate host limits m.left) condition first second state variables f)) h.0
+        ∙ ap (λ v. resume host limits m.left m.stack (after_truth limits (given limits (value_or_fault v) state variables m.fuel (λ e. value_does limits (evaluate host limits m.left) e state variables m.fuel)) first second)) h.1
+        ∙ ap (resume host limits m.left m.stack) (after_fails limits fault state variables m.fuel
+        (λ text state variables fuel. given limits (value_or_fault (truth_of text)) state variables fuel (λ holds. chosen holds first second state variables fuel)))
+    test_halts condition first second fuel (halt.Stop stop.Budget) h =
+        ap (λ f. resume host limits m.left m.stack (tested limits (evaluate host limits m.left) condition first second state variables f)) h.0 ∙ resume_stopped m.left m.stack OutOfSteps
+    test_halts condition first second fuel (halt.Stop stop.NoMemory) h = tt
+    test_halts condition first second fuel (halt.Stop stop.Depth) h = absurd h
+    test_halts condition first second fuel (halt.Stop stop.TooLarge) h = absurd h
 
     -- an error
     pub error_halts : (fault : ScriptFault) (why : Halt) → TellsSo fault why

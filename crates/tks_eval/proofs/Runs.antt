@@ -1,11 +1,11 @@
 -- A run of characters in a word joins what is made of it all at once.
-use Rattle.std.proofs.Common.{◌≡◌, ◌==◌, ◌||◌, suc, rules, ℕ, ◌+◌, ◌<◌, ◌≤◌, Bool, true, false, cond, leb, List, [], ◌∷◌, ◌++◌, length, get_or, drop, Result, Ok, Err, refl, sym, ap, ◌∙◌, arith, append-nil, append_assoc, length-append}
+use Rattle.std.proofs.Common.{◌≡◌, ◌==◌, ◌||◌, suc, rules, ℕ, ◌<◌, ◌≤◌, true, false, cond, leb, List, [], ◌∷◌, ◌++◌, length, get_or, drop, Ok, Err, refl, sym, ap, ◌∙◌, arith, append-nil, append_assoc, length-append}
 use Rattle.std.proofs.lemmas.Bool.{le-leb, leb-true}
 use Rattle.tks_text.specs.declared.limits.Limits.{Limits}
 use Rattle.tks_parse.specs.Tree.{Parts, chars, parts_size}
 use Rattle.tks_vars.specs.Variables.{Variables}
-use Rattle.tks_tcl.specs.Cause.{Cause, OverLimit, fits}
-use Rattle.tks_eval.specs.Outcome.{Outcome, Level, joined, given}
+use Rattle.tks_tcl.specs.Cause.{OverLimit, fits}
+use Rattle.tks_eval.specs.Outcome.{Level, joined, given}
 use Rattle.tks_eval.specs.Evaluation.{parts_do}
 
 -- characters don't count in the size of parts
@@ -17,6 +17,13 @@ chars_weigh (c ∷ t) rest = chars_weigh t rest
 pub first_of : (words : List (List ℕ)) (x : List ℕ) → 1 ≤ length words → x ≡ get_or words 0 x → words ≡ x ∷ drop 1 words
 first_of [] x l f = absurd (omega arith)
 first_of (y ∷ ys) x l f = ap (λ z. z ∷ ys) (sym f)
+
+-- two words, which are all
+pub two_of : (words : List (List ℕ)) (x y : List ℕ) → 2 ≤ length words → length words < 3 → x ≡ get_or words 0 x → y ≡ get_or words 1 y → words ≡ x ∷ y ∷ []
+two_of [] x y l m f g = absurd (omega (arith, l))
+two_of (a ∷ []) x y l m f g = absurd (omega (arith, l))
+two_of (a ∷ b ∷ []) x y l m f g = ap (λ z. z ∷ b ∷ []) (sym f) ∙ ap (λ z. x ∷ z ∷ []) (sym g)
+two_of (a ∷ b ∷ c ∷ words) x y l m f g = absurd (omega (arith, m))
 
 module _ (limits : Limits) where
   -- what joins is not empty

@@ -1,31 +1,35 @@
 -- What a script does (Tcl(n), rules 1, 2, 5, 7 and 8): a recursion on the scripts that may yet be opened in
 -- one another, and in it on the tree. Steps, depth and limits are this project's own rule.
-use Rattle.std.specs.Prelude.{ℕ, zero, suc, Bool, false, ◌||◌, ◌==◌, nat_lt, if◌then◌else◌, codes, List, [], ◌∷◌, ◌++◌, length, Option, Some, None, is_some, Result, Ok, Err}
+use Rattle.std.specs.Prelude.{ℕ, zero, suc, Bool, ◌||◌, ◌==◌, if◌then◌else◌, codes, List, [], ◌∷◌, ◌++◌, Option, Some, None, Result, Ok}
 use Rattle.std.specs.Fmt.{decimal}
 use Rattle.std.specs.FinMap as map
-use Rattle.tks_text.specs.Text.{same_text}
 use Rattle.tks_text.specs.Fault.{fault_about}
-use Rattle.tks_text.specs.declared.fault.ErrorNumber.TheVariants.{NoSuchCommand, WrongWords, NotAList, BadName, OutsideLoop}
-use Rattle.tks_text.specs.declared.fault.ScriptFault.{ScriptFault}
+use Rattle.tks_text.specs.declared.fault.ErrorNumber.TheVariants.{WrongWords, OutsideLoop}
 use Rattle.tks_text.specs.declared.limits.Limits.{Limits}
 use Rattle.tks_parse.specs.Tree.{Script, no_command, faulty, command, Words, no_word, word, Parts, no_part, char, variable, element, nested}
 use Rattle.tks_parse.specs.Reading.{script_of}
-use Rattle.tks_vars.specs.Variables.{Variables, value_of, popped, with_procedure}
+use Rattle.tks_vars.specs.Variables.{Variables, value_of, popped}
 use Rattle.tks_vars.specs.declared.procedure.Procedure.{Procedure}
 use Rattle.tks_tcl.specs.Cause as tcl
 use Rattle.tks_tcl.specs.Cause.{value_or_fault, bare, within}
 use Rattle.tks_tcl.specs.Words.{list_in}
 use Rattle.tks_tcl.specs.Lists.{concatenated, joined_by}
-use Rattle.tks_tcl.specs.Names.{is_built_in}
 use Rattle.tks_tcl.specs.Plain as commands
 use Rattle.tks_tcl.specs.Plain.{plain}
 use Rattle.tks_tcl.specs.Variables.{stores}
-use Rattle.tks_eval.specs.Outcome.{Outcome, End, Stopped, Why, TooDeep, TooLarge, OutOfSteps, Next, Level, Answer, Unknown, Replies, PassesLimit, Meaning, after_step, after, after_body, after_next, caught, joined, fails, given}
+use Rattle.tks_eval.specs.Outcome.{Outcome, End, Stopped, TooDeep, TooLarge, OutOfSteps, Next, Level, Answer, Unknown, Replies, PassesLimit, Meaning, after_step, after, after_body, after_next, caught, joined, fails, given}
 use Rattle.tks_eval.specs.Names.{control_named}
-use Rattle.tks_vars.specs.declared.procedure.Argument.{Argument}
+use Rattle.tks_expr.specs.Tree.{Expr}
+use Rattle.tks_expr.specs.Value.{value}
+use Rattle.tks_expr.specs.Operation.{truth_of, result_of}
+use Rattle.tks_expr.specs.Reading.{expr_of}
+use Rattle.tks_eval.specs.Branches.{Condition, branches}
+use Rattle.tks_eval.specs.declared.branches.Branches.{Branches}
+use Rattle.tks_eval.specs.declared.branches.Test.{Test}
+use Rattle.tks_eval.specs.declared.loops.Loop.{Loop}
 use Rattle.tks_eval.specs.Procedures.{entered, proc_form}
 use Rattle.tks_eval.specs.declared.control.Control.{Control}
-use Rattle.tks_eval.specs.declared.control.Control.TheVariants.{Catch, Eval, Foreach, Proc}
+use Rattle.tks_eval.specs.declared.control.Control.TheVariants as control
 
 -- the name of an element
 abbrev pub element_name : List ℕ → List ℕ → List ℕ
@@ -43,6 +47,37 @@ words_in expand text = if expand then list_in text else Ok (text ∷ [])
 abbrev pub foreach_form : List ℕ → List (List ℕ) → Result (List ℕ × List ℕ × List (List ℕ)) tcl.Cause
 foreach_form first (name ∷ list ∷ body ∷ []) = tcl.after (list_in list) (λ items. Ok (name, body, items))
 foreach_form first words = tcl.wrong_words first
+
+module _ {S : Type 0} where
+  -- a text, as what an expression comes to
+  abbrev pub text_done : List ℕ → Next S
+  text_done text state variables fuel = End 0 text state variables fuel
+
+  -- one thing after the other
+  abbrev pub and_then : Next S → (List ℕ → Next S) → Next S
+  and_then first next state variables fuel = after (first state variables fuel) next
+
+  -- the end with nothing to say
+  abbrev pub done : Next S
+  done state variables fuel = End 0 [] state variables fuel
+
+  -- the first of two things where something holds, else the second
+  abbrev pub chosen : Bool → Next S → Next S → Next S
+  chosen holds first second state variables fuel = if holds then first state variables fuel else second state variables fuel
+
+  -- a script that may be left out
+  abbrev pub script_does : Level S → Option (List ℕ) → Next S
+  script_does inner None state variables fuel = done state variables fuel
+  script_does inner (Some text) state variables fuel = inner (script_of text) state variables fuel
+
+  -- the script that a `for` runs behind its body, and then the next turn
+  abbrev pub behind_body : Level S → Loop → Next S → Next S
+  behind_body inner loop again state variables fuel = after_next (script_does inner loop.next state variables fuel) again
+
+  -- the body of a loop, and what follows it
+  abbrev pub turn_does : Level S → Loop → Next S → Next S
+  turn_does inner loop again state variables fuel =
+      after_body (inner (script_of loop.body) state variables fuel) (behind_body inner loop again)
 
 -- the frame of a procedure ends with it
 abbrev pub without_frame : {S : Type 0} → Outcome S → Outcome S
@@ -67,11 +102,87 @@ module _ {S : Type 0} (limits : Limits) where
       after (inner script state variables fuel) (λ text state variables fuel.
       given limits (joined limits made text) state variables fuel (λ made. parts_do inner rest made state variables fuel))
 
+  -- ---- expressions
+
+  -- the text of an operand that variables and scripts make
+  abbrev pub made_text : Level S → Parts → Next S
+  made_text inner parts = parts_do inner parts []
+
+  -- the value of an expression
+  abbrev pub value_does : Level S → Expr → Next S
+  value_does inner = value text_done (fails limits) and_then (made_text inner)
+
+  -- the value of what a text spells as an expression
+  abbrev pub expression_does : Level S → List ℕ → Next S
+  expression_does inner text state variables fuel =
+      given limits (value_or_fault (expr_of text)) state variables fuel (λ e. value_does inner e state variables fuel)
+
+  -- what goes on where a value holds as a condition, and where it doesn't
+  abbrev pub after_truth : Outcome S → Next S → Next S → Outcome S
+  after_truth outcome first second =
+      after outcome (λ text state variables fuel.
+      given limits (value_or_fault (truth_of text)) state variables fuel (λ holds. chosen holds first second state variables fuel))
+
+  -- a condition takes a step before it is read
+  abbrev pub tested : Level S → List ℕ → Next S → Next S → Next S
+  tested inner condition first second state variables fuel =
+      after_step fuel (λ fuel. after_truth (expression_does inner condition state variables fuel) first second)
+
   -- ---- commands that run scripts
 
   -- the end by a wrong number of words
   abbrev pub wrong_words : List ℕ → Next S
   wrong_words first = fails limits (fault_about WrongWords first)
+
+  -- the result of an expression: an integer is written in decimal
+  abbrev pub result_told : Outcome S → Outcome S
+  result_told outcome =
+      after outcome (λ text state variables fuel.
+      given limits (value_or_fault (result_of text)) state variables fuel (λ result. End 0 result state variables fuel))
+
+  -- expr word ..
+  abbrev pub expr_does : Level S → List ℕ → List (List ℕ) → Next S
+  expr_does inner first [] state variables fuel = wrong_words first state variables fuel
+  expr_does inner first (w ∷ words) state variables fuel =
+      given limits (within limits (joined_by (codes " ") (w ∷ words))) state variables fuel (λ text.
+      result_told (expression_does inner text state variables fuel))
+
+  -- the body of the first condition that holds, or the one behind all of them
+  abbrev pub branches_do : Level S → Option (List ℕ) → List Test → Next S
+  branches_do inner otherwise [] state variables fuel = script_does inner otherwise state variables fuel
+  branches_do inner otherwise (t ∷ tests) state variables fuel =
+      tested inner t.condition (inner (script_of t.body)) (branches_do inner otherwise tests) state variables fuel
+
+  -- the branches of an `if`, where its words are of that form
+  abbrev pub form_does : Level S → List ℕ → Option Branches → Next S
+  form_does inner first None state variables fuel = wrong_words first state variables fuel
+  form_does inner first (Some b) state variables fuel = branches_do inner b.otherwise b.tests state variables fuel
+
+  -- if c ?then? b ?elseif c ?then? b ..? ?else? ?b?
+  abbrev pub if_does : Level S → List ℕ → List (List ℕ) → Next S
+  if_does inner first words = form_does inner first (branches Condition [] words)
+
+  -- the turns of a loop; each tests the condition, which takes a step, so there are no more turns than steps
+  abbrev pub turns : ℕ → Level S → Loop → Next S
+  turns zero inner loop state variables fuel = Stopped OutOfSteps
+  turns (suc more) inner loop state variables fuel =
+      tested inner loop.condition (turn_does inner loop (turns more inner loop)) done state variables fuel
+
+  -- a loop, with the steps that are left
+  abbrev pub loop_does : Level S → Loop → Next S
+  loop_does inner loop state variables fuel = turns fuel inner loop state variables fuel
+
+  -- while c b
+  abbrev pub while_does : Level S → List ℕ → List (List ℕ) → Next S
+  while_does inner first (condition ∷ body ∷ []) state variables fuel =
+      loop_does inner (record { condition = condition; next = None; body = body }) state variables fuel
+  while_does inner first words state variables fuel = wrong_words first state variables fuel
+
+  -- for s c n b
+  abbrev pub for_does : Level S → List ℕ → List (List ℕ) → Next S
+  for_does inner first (start ∷ condition ∷ next ∷ body ∷ []) state variables fuel =
+      after (inner (script_of start) state variables fuel) (λ text. loop_does inner (record { condition = condition; next = Some next; body = body }))
+  for_does inner first words state variables fuel = wrong_words first state variables fuel
 
   -- the code of a script is the result, and its text goes into the variable
   abbrev pub catch_ends : Option (List ℕ) → ℕ → List ℕ → Next S
@@ -127,10 +238,14 @@ module _ {S : Type 0} (host : Meaning S) (limits : Limits) where
 
   -- a command that runs scripts
   abbrev pub control_does : Level S → Control → List ℕ → List (List ℕ) → Next S
-  control_does inner Catch first words = catch_does limits inner first words
-  control_does inner Eval first words = eval_does limits inner words
-  control_does inner Foreach first words = foreach_does limits inner first words
-  control_does inner Proc first words = proc_does first words
+  control_does inner control.Catch first words = catch_does limits inner first words
+  control_does inner control.Eval first words = eval_does limits inner words
+  control_does inner control.Expr first words = expr_does limits inner first words
+  control_does inner control.For first words = for_does limits inner first words
+  control_does inner control.Foreach first words = foreach_does limits inner first words
+  control_does inner control.If first words = if_does limits inner first words
+  control_does inner control.Proc first words = proc_does first words
+  control_does inner control.While first words = while_does limits inner first words
 
   -- a command that the host has, or else a procedure
   abbrev pub host_does : Level S → List ℕ → List (List ℕ) → Answer S → Next S
@@ -149,7 +264,7 @@ module _ {S : Type 0} (host : Meaning S) (limits : Limits) where
   -- a command, whose name is looked up: among those that run scripts, the other built-in ones, those of the
   -- host and the procedures
   abbrev pub command_does : Level S → Option Control → List ℕ → List (List ℕ) → Next S
-  command_does inner (Some control) first words state variables fuel = control_does inner control first words state variables fuel
+  command_does inner (Some c) first words state variables fuel = control_does inner c first words state variables fuel
   command_does inner None first words state variables fuel =
       plain_does inner first words (plain limits (first ∷ words) variables) state variables fuel
 

@@ -1,7 +1,11 @@
 pub mod Outcome
 pub mod Names
 pub mod Procedures
+pub mod Branches
 pub mod Evaluation
+pub mod Values
+pub mod Loops
+pub mod Laws
 pub mod Meets
 pub mod Machine
 pub mod Counter

@@ -1,18 +1,26 @@
 -- What a stack of frames means: each frame is one sequencing of the evaluation, read backwards.
 use Rattle.std.specs.Prelude.{◌≡◌, ℕ, ◌+◌, ◌*◌, ◌≤◌, ◌<◌, List, [], ◌∷◌, ◌++◌, Option, Some, None, Result, Ok, Err}
-use Rattle.tks_text.specs.declared.fault.ScriptFault.{ScriptFault}
 use Rattle.tks_text.specs.declared.limits.Limits.{Limits}
-use Rattle.tks_parse.specs.Tree.{Script, script_size, words_size, parts_size}
+use Rattle.tks_parse.specs.Tree.{script_size, words_size, parts_size}
+use Rattle.tks_parse.specs.Reading.{script_of}
 use Rattle.tks_parse.specs.View.{parts_of, words_of, script_of_commands}
 use Rattle.tks_vars.specs.Variables.{Variables}
-use Rattle.tks_tcl.specs.declared.stop.Stop.{Stop}
-use Rattle.tks_eval.specs.Outcome.{Outcome, End, Stopped, Meaning, Next, after, after_body, caught, joined, fails, given}
-use Rattle.tks_eval.specs.Evaluation.{element_name, with_value, parts_do, words_in, words_do, commands_do, evaluate, catch_ends, each, settled, without_frame}
+use Rattle.tks_eval.specs.Outcome.{Outcome, End, Meaning, Next, after, after_body, caught, joined, fails, given}
+use Rattle.tks_expr.specs.Tree.{Expr, Literal, Made, One, Two, Both, Either, Choice}
+use Rattle.tks_expr.specs.declared.tree.Link.{Link}
+use Rattle.tks_eval.specs.Evaluation.{element_name, with_value, parts_do, words_in, words_do, commands_do, evaluate, value_does, after_truth, branches_do, catch_ends, each, settled, without_frame}
+use Rattle.tks_eval.specs.Values.{after_value}
+use Rattle.tks_eval.specs.Loops.{after_stage}
 use Rattle.tks_eval.specs.Meets.{StopsSo}
 use Rattle.tks_eval.specs.declared.frame.Frame.{Frame}
 use Rattle.tks_eval.specs.declared.frame.Frame.TheVariants as frame
+use Rattle.tks_eval.specs.declared.expressions.ValueFrame.{ValueFrame}
+use Rattle.tks_eval.specs.declared.expressions.ValueFrame.TheVariants as value
+use Rattle.tks_eval.specs.declared.loops.Loop.{Loop}
+use Rattle.tks_eval.specs.declared.loops.Stage.{Stage}
+use Rattle.tks_eval.specs.declared.loops.Stage.TheVariants as stage
 use Rattle.tks_eval.specs.declared.frame.Now.{Now}
-use Rattle.tks_eval.specs.declared.frame.Now.TheVariants.{Open, Fill, At}
+use Rattle.tks_eval.specs.declared.frame.Now.TheVariants.{Open, Fill, Value, At}
 use Rattle.tks_eval.specs.declared.machine.Machine.{Machine}
 use Rattle.tks_eval.specs.declared.halt.Halt.{Halt}
 use Rattle.tks_eval.specs.declared.halt.Halt.TheVariants as halt
@@ -33,6 +41,10 @@ module _ {S : Type 0} (host : Meaning S) (limits : Limits) where
       parts_do limits (evaluate host limits left) (parts_of parts) made state variables fuel))
   after_frame left (frame.Catch name) outcome = caught outcome (catch_ends limits name)
   after_frame left (frame.Each name body elements) outcome = after_body outcome (each limits (evaluate host limits left) name body elements)
+  after_frame left (frame.Value f) outcome = after_value limits (evaluate host limits left) f outcome
+  after_frame left (frame.Branch body rest) outcome =
+      after_truth limits outcome (evaluate host limits left (script_of body)) (branches_do limits (evaluate host limits left) rest.otherwise rest.tests)
+  after_frame left (frame.Turns stage loop) outcome = after_stage limits (evaluate host limits left) stage loop outcome
   after_frame left frame.Procedure outcome = settled limits (without_frame outcome)
 
   -- how many scripts may be opened in one another behind a frame
@@ -49,6 +61,7 @@ module _ {S : Type 0} (host : Meaning S) (limits : Limits) where
   abbrev pub outcome_now : ℕ → Now → Next S
   outcome_now left (Open script) state variables fuel = evaluate host limits left script state variables fuel
   outcome_now left (Fill made parts) state variables fuel = parts_do limits (evaluate host limits left) (parts_of parts) made state variables fuel
+  outcome_now left (Value e) state variables fuel = value_does limits (evaluate host limits left) e state variables fuel
   outcome_now left (At ended) state variables fuel = End ended.code ended.text state variables fuel
 
   -- the machine goes on to this outcome of the whole
@@ -59,7 +72,44 @@ module _ {S : Type 0} (host : Meaning S) (limits : Limits) where
 
 -- ---- what is left to do before the next step
 
+abbrev pub value_weight : Expr → ℕ
+value_weight (Literal text) = 1
+value_weight (Made parts) = 4 * parts_size parts + 2
+value_weight (One op a) = value_weight a + 2
+value_weight (Two op a b) = value_weight a + value_weight b + 5
+value_weight (Both a b) = value_weight a + value_weight b + 5
+value_weight (Either a b) = value_weight a + value_weight b + 5
+value_weight (Choice c a b) = value_weight c + value_weight a + value_weight b + 4
+
+abbrev pub links_weight : List Link → ℕ
+links_weight [] = 1
+links_weight (link ∷ links) = value_weight link.right + 3 + links_weight links
+
+abbrev pub value_frame_weight : ValueFrame → ℕ
+value_frame_weight (value.Links links) = links_weight links
+value_frame_weight (value.Right operator x links) = links_weight links + 1
+value_frame_weight (value.Truth links) = links_weight links + 1
+value_frame_weight (value.Signs signs) = 1
+value_frame_weight (value.Choice a b) = value_weight a + value_weight b + 1
+value_frame_weight value.Whole = 1
+
+abbrev pub text_weight : List ℕ → ℕ
+text_weight text = 4 * script_size (script_of text) + 2
+
+abbrev pub optional_weight : Option (List ℕ) → ℕ
+optional_weight None = 0
+optional_weight (Some text) = text_weight text
+
+abbrev pub loop_weight : Stage → Loop → ℕ
+loop_weight stage.Start loop = 1
+loop_weight stage.Condition loop = text_weight loop.body + optional_weight loop.next + 3
+loop_weight stage.Body loop = optional_weight loop.next + 2
+loop_weight stage.Next loop = 1
+
 abbrev pub frame_weight : Frame → ℕ
+frame_weight (frame.Value f) = value_frame_weight f
+frame_weight (frame.Branch body rest) = text_weight body + optional_weight rest.otherwise + 1
+frame_weight (frame.Turns stage loop) = loop_weight stage loop
 frame_weight (frame.Commands rest fault levels) = 4 * script_size (script_of_commands rest fault) + 1
 frame_weight (frame.Command words expand rest) = 4 * words_size (words_of rest) + 1
 frame_weight (frame.Nested made parts) = 4 * parts_size (parts_of parts) + 2
@@ -75,6 +125,7 @@ stack_weight (frame ∷ below) = frame_weight frame + stack_weight below
 abbrev pub now_weight : Now → ℕ
 now_weight (Open script) = 4 * script_size script + 2
 now_weight (Fill made parts) = 4 * parts_size (parts_of parts) + 1
+now_weight (Value e) = value_weight e
 now_weight (At ended) = 0
 
 abbrev pub result_weight : Result Now Halt → ℕ

@@ -134,8 +134,12 @@ impl Machine {
         match control {
             Control::Catch => self.run_catch(alloc, host, variables, command, words, limits),
             Control::Eval => self.run_eval(alloc, host, variables, words, limits),
+            Control::Expr => self.run_expr(alloc, host, variables, command, words, limits),
+            Control::For => self.run_for(alloc, host, variables, command, words, limits),
             Control::Foreach => self.run_foreach(alloc, host, variables, command, words, limits),
+            Control::If => self.run_if(alloc, host, variables, command, words, limits),
             Control::Proc => self.define(alloc, host, variables, command, words, limits),
+            Control::While => self.run_while(alloc, host, variables, command, words, limits),
         }
     }
 

@@ -3,13 +3,17 @@ ghost use Rattle.tks_eval.specs.Names.{control_named};
 
 use tks_text::Txt;
 
-/// The commands that run scripts, and `proc`, of those that have rules yet.
+/// The commands that run scripts, and `proc`.
 #[derive(Clone, Copy)]
 pub enum Control {
     Catch,
     Eval,
+    Expr,
+    For,
     Foreach,
+    If,
     Proc,
+    While,
 }
 
 impl Control {
@@ -22,10 +26,18 @@ impl Control {
             Some(Control::Catch)
         } else if name == b"eval".as_slice() {
             Some(Control::Eval)
+        } else if name == b"expr".as_slice() {
+            Some(Control::Expr)
+        } else if name == b"for".as_slice() {
+            Some(Control::For)
         } else if name == b"foreach".as_slice() {
             Some(Control::Foreach)
+        } else if name == b"if".as_slice() {
+            Some(Control::If)
         } else if name == b"proc".as_slice() {
             Some(Control::Proc)
+        } else if name == b"while".as_slice() {
+            Some(Control::While)
         } else {
             None
         }

@@ -1,4 +1,8 @@
+use crate::branches::Branches;
+use crate::expressions::ValueFrame;
+use crate::loops::{Loop, Stage};
 use crate::rest::Rest;
+use tks_expr::Expr;
 use tks_parse::{Command, Part, Script, Word};
 use tks_text::{ScriptFault, Seq, Txt};
 
@@ -45,6 +49,15 @@ pub enum Frame {
         body: Txt,
         elements: Rest<Txt>,
     },
+    /// An expression, at an operand.
+    Value(ValueFrame),
+    /// `if`, at a condition, with its body and the branches behind it.
+    Branch {
+        body: Txt,
+        rest: Branches,
+    },
+    /// `while` or `for`.
+    Turns(Stage, Loop),
     /// A procedure.
     Procedure,
 }
@@ -56,6 +69,8 @@ pub enum Now {
     Open(Script),
     /// A word, or an index, to go on with.
     Fill { made: Txt, parts: Rest<Part> },
+    /// An expression, to be evaluated.
+    Value(Expr),
     /// An end, for the frame on top.
     At(Ending),
 }

@@ -1,12 +1,16 @@
 //! What scripts do.
 #![tactic(auto)]
 
+mod branches;
 mod commands;
 mod control;
 mod ended;
+mod expressions;
 mod frame;
 mod halt;
 mod host;
+mod laws;
+mod loops;
 mod machine;
 mod procedures;
 mod rest;
@@ -14,4 +18,5 @@ mod words;
 
 pub use ended::Ended;
 pub use host::{Host, Plan};
+pub use laws::{loops_unroll, script_runs_as_its_halves, wider_limits_keep_ends};
 pub use machine::eval;

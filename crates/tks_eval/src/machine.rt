@@ -57,6 +57,7 @@ pub fn eval<H: Host>(
                     Some(frame) => machine.resume(alloc, host, variables, frame, end, limits),
                 },
                 Now::Open(script) => machine.open(alloc, host, variables, script, limits),
+                Now::Value(expr) => machine.open_value(alloc, host, variables, expr, limits),
                 Now::Fill { made, parts } => {
                     machine.fill(alloc, host, variables, made, parts, limits)
                 }
@@ -161,6 +162,13 @@ impl Machine {
                 body,
                 elements,
             } => self.after_element(alloc, host, variables, name, body, elements, end, limits),
+            Frame::Value(frame) => self.after_value(alloc, host, variables, frame, end, limits),
+            Frame::Branch { body, rest } => {
+                self.after_branch(alloc, host, variables, body, rest, end, limits)
+            }
+            Frame::Turns(stage, turns) => {
+                self.after_stage(alloc, host, variables, stage, turns, end, limits)
+            }
             Frame::Procedure => self.after_procedure(host, variables, end, limits),
         }
     }

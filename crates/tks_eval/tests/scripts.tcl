@@ -50,6 +50,66 @@ set scripts {
     {{*}{}}
     {set a 1; # set a 2
     }
+    {expr 1 + 2 * 3}
+    {expr {(1 + 2) * 3}}
+    {set a 7; expr {$a % 3 - -$a}}
+    {expr {-7 / 2}} 
+    {expr {-~!0}}
+    {expr {1 < 2 && 2 < 3 || [error never]}}
+    {expr {0 && [error never]}}
+    {expr {1 || [error never]}}
+    {expr {1 ? "yes" : [error never]}}
+    {expr {0 ? [error never] : 0x10}}
+    {set n 0; expr {[incr n] + [incr n] * [incr n]}}
+    {set x a; expr {$x eq "a" ? [string length $x] : 0}}
+    {expr {"a b" eq {a b}}}
+    {expr {1 << 4 | 1 << 2 ^ 4}}
+    {set a(k) 5; set k k; expr {$a($k) * $a([set k])}}
+    {catch {expr {[error inner] + 1}} m; set m}
+    {list [catch {expr {[return 3] + 1}} m] $m}
+    {expr {[catch {error x}] == 1}}
+    {if 1 {set r a} else {set r b}}
+    {if 0 {set r a} else {set r b}}
+    {if 0 {set r a} {set r b}}
+    {if 0 {set r a}}
+    {if 0 {set r a} elseif 1 {set r b} else {set r c}}
+    {if 0 then {set r a} elseif 0 then {set r b} else {set r c}}
+    {if 0 {set r a} elseif 0 {set r b} {set r c}}
+    {if {[set n 1]} then {set n 2}; set n}
+    {set n 5; if {$n < 3} {set r small} elseif {$n < 10} {set r middle} else {set r large}}
+    {if yes {list a} else {list b}}
+    {if {" 0x0 "} {list a} else {list b}}
+    {catch {if 1 {error e}} m; set m}
+    {catch {if {[error c]} {error e}} m; set m}
+    {foreach x {1 2 3} {if {$x == 2} continue; lappend r $x}; set r}
+    {foreach x {1 2 3} {if {$x == 2} break; lappend r $x}; set r}
+    {proc f n {if {$n > 0} {return more}; list none}; list [f 0] [f 1]}
+    {set i 0; while {$i < 3} {incr i}; set i}
+    {set i 0; while {$i < 3} {incr i}}
+    {while 0 {error never}}
+    {set i 0; while 1 {if {[incr i] > 4} break}; set i}
+    {set i 0; while {$i < 5} {incr i; if {$i % 2} continue; lappend r $i}; set r}
+    {proc f {} {while 1 {return done}}; f}
+    {list [catch {while 1 {error e}} m] $m}
+    {list [catch {while 1 {return r}} m] $m}
+    {for {set i 0} {$i < 3} {incr i} {lappend r $i}; list $i $r}
+    {for {} 0 {} {error never}}
+    {for {set i 0} {$i < 9} {incr i} {if {$i == 2} continue; if {$i == 4} break; lappend r $i}; list $i $r}
+    {for {set i 0} 1 {if {[incr i] > 3} break} {lappend r $i}; list $i $r}
+    {for {set i 3} {$i} {incr i -1} {for {set j 0} {$j < $i} {incr j} {append r $i$j,}}; set r}
+    {list [catch {for {error s} 1 {} {}} m] $m}
+    {list [catch {for {} 1 {error n} {}} m] $m}
+    {proc f {} {for {set i 0} {$i < 5} {incr i} {if {$i == 3} {return $i}}}; f}
+    {proc fact n {if {$n < 2} {return 1}; expr {$n * [fact [expr {$n - 1}]]}}; fact 10}
+    {proc fib n {if {$n < 2} {return $n}; expr {[fib [expr {$n - 1}]] + [fib [expr {$n - 2}]]}}; fib 8}
+    {proc gcd {a b} {while {$b} {set t $b; set b [expr {$a % $b}]; set a $t}; set a}; gcd 1071 462}
+    {proc rev l {for {set i [llength $l]} {[incr i -1] >= 0} {} {lappend r [lindex $l $i]}; set r}; rev {a {b c} d}}
+    {proc isprime n {for {set i 2} {$i * $i <= $n} {incr i} {if {$n % $i == 0} {return 0}}; return 1}; for {set n 2} {$n < 20} {incr n} {if {[isprime $n]} {lappend r $n}}; set r}
+    {set s ""; foreach c [split hello {}] {set s $c$s}; set s}
+    {foreach w {b a c} {if {![info exists best] || $w < $best} {set best $w}}; set best}
+    {proc count {l x} {set n 0; foreach y $l {if {$x eq $y} {incr n}}; set n}; count {a b a c a} a}
+    {set n 0; foreach {x} {1 2 3} {set n [expr {$n + $x}]}; set n}
+    {set l {3 1 2}; foreach x $l {set i 0; while {$i < [llength $l] && [lindex $l $i] < $x} {incr i}; lappend r $i}; set r}
 }
 foreach script $scripts {
     set script [string map {\n { ; }} [string trim $script]]

@@ -143,6 +143,70 @@ set x a; set $x b; set a => 0 b\n\
 set a 1; # set a 2 => 0 1"
 }
 
+// The same of expressions, branches and loops.
+fn rows_of_control() -> &'static str {
+    "expr 1 + 2 * 3 => 0 7\n\
+expr {(1 + 2) * 3} => 0 9\n\
+set a 7; expr {$a % 3 - -$a} => 0 8\n\
+expr {-7 / 2} => 0 -4\n\
+expr {-~!0} => 0 2\n\
+expr {1 < 2 && 2 < 3 || [error never]} => 0 1\n\
+expr {0 && [error never]} => 0 0\n\
+expr {1 || [error never]} => 0 1\n\
+expr {1 ? \"yes\" : [error never]} => 0 yes\n\
+expr {0 ? [error never] : 0x10} => 0 16\n\
+set n 0; expr {[incr n] + [incr n] * [incr n]} => 0 7\n\
+set x a; expr {$x eq \"a\" ? [string length $x] : 0} => 0 1\n\
+expr {\"a b\" eq {a b}} => 0 1\n\
+expr {1 << 4 | 1 << 2 ^ 4} => 0 16\n\
+set a(k) 5; set k k; expr {$a($k) * $a([set k])} => 0 25\n\
+catch {expr {[error inner] + 1}} m; set m => 0 inner\n\
+list [catch {expr {[return 3] + 1}} m] $m => 0 2 3\n\
+expr {[catch {error x}] == 1} => 0 1\n\
+if 1 {set r a} else {set r b} => 0 a\n\
+if 0 {set r a} else {set r b} => 0 b\n\
+if 0 {set r a} {set r b} => 0 b\n\
+if 0 {set r a} => 0 \n\
+if 0 {set r a} elseif 1 {set r b} else {set r c} => 0 b\n\
+if 0 then {set r a} elseif 0 then {set r b} else {set r c} => 0 c\n\
+if 0 {set r a} elseif 0 {set r b} {set r c} => 0 c\n\
+if {[set n 1]} then {set n 2}; set n => 0 2\n\
+set n 5; if {$n < 3} {set r small} elseif {$n < 10} {set r middle} else {set r large} => 0 middle\n\
+if yes {list a} else {list b} => 0 a\n\
+if {\" 0x0 \"} {list a} else {list b} => 0 b\n\
+catch {if 1 {error e}} m; set m => 0 e\n\
+catch {if {[error c]} {error e}} m; set m => 0 c\n\
+foreach x {1 2 3} {if {$x == 2} continue; lappend r $x}; set r => 0 1 3\n\
+foreach x {1 2 3} {if {$x == 2} break; lappend r $x}; set r => 0 1\n\
+proc f n {if {$n > 0} {return more}; list none}; list [f 0] [f 1] => 0 none more\n\
+set i 0; while {$i < 3} {incr i}; set i => 0 3\n\
+set i 0; while {$i < 3} {incr i} => 0 \n\
+while 0 {error never} => 0 \n\
+set i 0; while 1 {if {[incr i] > 4} break}; set i => 0 5\n\
+set i 0; while {$i < 5} {incr i; if {$i % 2} continue; lappend r $i}; set r => 0 2 4\n\
+proc f {} {while 1 {return done}}; f => 0 done\n\
+list [catch {while 1 {error e}} m] $m => 0 1 e\n\
+list [catch {while 1 {return r}} m] $m => 0 2 r\n\
+for {set i 0} {$i < 3} {incr i} {lappend r $i}; list $i $r => 0 3 {0 1 2}\n\
+for {} 0 {} {error never} => 0 \n\
+for {set i 0} {$i < 9} {incr i} {if {$i == 2} continue; if {$i == 4} break; lappend r $i}; list $i $r => 0 4 {0 1 3}\n\
+for {set i 0} 1 {if {[incr i] > 3} break} {lappend r $i}; list $i $r => 0 4 {0 1 2 3}\n\
+for {set i 3} {$i} {incr i -1} {for {set j 0} {$j < $i} {incr j} {append r $i$j,}}; set r => 0 30,31,32,20,21,10,\n\
+list [catch {for {error s} 1 {} {}} m] $m => 0 1 s\n\
+list [catch {for {} 1 {error n} {}} m] $m => 0 1 n\n\
+proc f {} {for {set i 0} {$i < 5} {incr i} {if {$i == 3} {return $i}}}; f => 0 3\n\
+proc fact n {if {$n < 2} {return 1}; expr {$n * [fact [expr {$n - 1}]]}}; fact 10 => 0 3628800\n\
+proc fib n {if {$n < 2} {return $n}; expr {[fib [expr {$n - 1}]] + [fib [expr {$n - 2}]]}}; fib 8 => 0 21\n\
+proc gcd {a b} {while {$b} {set t $b; set b [expr {$a % $b}]; set a $t}; set a}; gcd 1071 462 => 0 21\n\
+proc rev l {for {set i [llength $l]} {[incr i -1] >= 0} {} {lappend r [lindex $l $i]}; set r}; rev {a {b c} d} => 0 d {b c} a\n\
+proc isprime n {for {set i 2} {$i * $i <= $n} {incr i} {if {$n % $i == 0} {return 0}}; return 1}; for {set n 2} {$n < 20} {incr n} {if {[isprime $n]} {lappend r $n}}; set r => 0 2 3 5 7 11 13 17 19\n\
+set s \"\"; foreach c [split hello {}] {set s $c$s}; set s => 0 olleh\n\
+foreach w {b a c} {if {![info exists best] || $w < $best} {set best $w}}; set best => 0 a\n\
+proc count {l x} {set n 0; foreach y $l {if {$x eq $y} {incr n}}; set n}; count {a b a c a} a => 0 3\n\
+set n 0; foreach {x} {1 2 3} {set n [expr {$n + $x}]}; set n => 0 6\n\
+set l {3 1 2}; foreach x $l {set i 0; while {$i < [llength $l] && [lindex $l $i] < $x} {incr i}; lappend r $i}; set r => 0 0 0 0"
+}
+
 // What this project's own rules make of these.
 fn own_rows() -> &'static str {
     "foo => 1 E09 foo\n\
@@ -171,12 +235,44 @@ proc f {} {break}; catch f m; set m => 0 E18\n\
 proc f {} {set a 1}; f; set a => 1 E11 a\n\
 proc f {} {f}; catch f => scripts too deep in one another\n\
 proc f {} {error [set x]}; catch f m; set m => 0 E11 x\n\
-foreach x {1 2} {return $x} => 2 1"
+foreach x {1 2} {return $x} => 2 1\n\
+expr => 1 E10 expr\n\
+expr 1 + => 1 E20\n\
+expr a => 1 E20\n\
+expr {1 / 0} => 1 E16\n\
+expr 9223372036854775808 => 1 E14\n\
+expr {\"a\" + 1} => 1 E13 a\n\
+expr {!\"a\"} => 1 E13 a\n\
+expr {\"a\" ? 1 : 2} => 1 E13 a\n\
+expr {\"a\" || 1} => 1 E13 a\n\
+expr {1 && \"b\"} => 1 E13 b\n\
+if => 1 E10 if\n\
+if 1 => 1 E10 if\n\
+if 1 then => 1 E10 if\n\
+if 0 a else => 1 E10 if\n\
+if 0 a elseif => 1 E10 if\n\
+if 0 a b c => 1 E10 if\n\
+if 0 a else b c => 1 E10 if\n\
+if then {} => 1 E10 if\n\
+if 1 then else b => 1 E10 if\n\
+if 0 a else then => 1 E10 if\n\
+if + {} => 1 E20\n\
+if {\"a\"} {} => 1 E13 a\n\
+while 1 => 1 E10 while\n\
+for 1 2 3 => 1 E10 for\n\
+while + {} => 1 E20\n\
+while {\"a\"} {} => 1 E13 a\n\
+while {[break]} {} => 3 \n\
+for {break} 1 {} {} => 3 \n\
+for {} 1 {continue} {} => 4 \n\
+while 1 {} => out of steps\n\
+catch {while 1 {}} => out of steps"
 }
 
 #[test]
 fn scripts_end_as_in_tcl(rt: HostRuntime) -> Result<(), Fail> {
-    try_rows(&rt, rt.alloc(), rows_of_tcl(), &Limits::format1())
+    try_rows(&rt, rt.alloc(), rows_of_tcl(), &Limits::format1())?;
+    try_rows(&rt, rt.alloc(), rows_of_control(), &Limits::format1())
 }
 
 #[test]
@@ -207,7 +303,17 @@ eval list 1234567 => 0 1234567\n\
 eval list 12345678 => too large\n\
 set a 1; set b 2; set c 3 => too large\n\
 proc f {} {}; proc g {} {}; proc h {} {} => too large\n\
-proc f {a b c} {}; f 1 2 3 => too large";
+proc f {a b c} {}; f 1 2 3 => too large\n\
+if 1 {up} => 0 \n\
+if 1 {up; up} => out of steps\n\
+if 0 {} elseif 1 {} => 0 \n\
+if 0 {} elseif 1 {up} => out of steps\n\
+up; if + {} => 1 E20\n\
+up; up; if + {} => out of steps\n\
+for {up} 0 {} {} => 0 \n\
+for {up; up} 0 {} {} => out of steps\n\
+expr 1234 + 12345 => 0 13579\n\
+expr 12345 + 12345 => too large";
     try_rows(&rt, rt.alloc(), rows, &limits)
 }
 

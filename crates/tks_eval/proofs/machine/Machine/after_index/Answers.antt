@@ -1,4 +1,4 @@
-use Rattle.std.proofs.Common.{◌≡◌, ℕ, arith, rules, List}
+use Rattle.std.proofs.Common.{◌≡◌, rules}
 use Rattle.tks_parse.specs.View.{parts_of}
 use Rattle.tks_eval.specs.Evaluation.{evaluate, element_name, with_value, parts_do}
 use Rattle.tks_eval.proofs.Halts.{given_halts}

@@ -1,7 +1,5 @@
-use Rattle.std.proofs.Common.{◌≡◌, ℕ, ◌∷◌, List, Ok, sym, ap, ◌∙◌, arith}
-use Rattle.tks_parse.specs.Tree.{Parts}
+use Rattle.std.proofs.Common.{◌≡◌, ◌∷◌, sym, ap, ◌∙◌, arith}
 use Rattle.tks_parse.specs.View.{parts_of}
-use Rattle.tks_parse.specs.declared.tree.Part.{Part}
 use Rattle.tks_parse.specs.declared.tree.Part.TheVariants.{Text}
 use Rattle.tks_eval.specs.Outcome.{given}
 use Rattle.tks_eval.specs.Evaluation.{evaluate, parts_do}

@@ -1,4 +1,4 @@
-use Rattle.std.proofs.Common.{◌≡◌, rules}
+use Rattle.std.proofs.Common.{rules}
 use Rattle.std.specs.FinMap as map
 use Rattle.tks_parse.specs.Reading.{script_of}
 use Rattle.tks_eval.specs.Evaluation.{evaluate, settled, without_frame}

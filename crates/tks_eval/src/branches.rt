@@ -1,0 +1,185 @@
+ghost use Rattle.std.specs.Prelude.{◌≡◌, ◌≤◌, ◌<◌, ◌+◌, ◌||◌, ◌∷◌, List, [], length, IfOk, IfSome, MatchOption};
+ghost use Rattle.tks_eval.specs.Outcome.{End};
+ghost use Rattle.tks_eval.specs.Branches.{Condition, BehindBody, is_keyword, with_last, with_test, branches, no_branches};
+ghost use Rattle.tks_eval.specs.Evaluation.{evaluate, branches_do, if_does};
+ghost use Rattle.tks_eval.specs.Machine.{resume, frame_weight, optional_weight, GoesSo, Falls};
+ghost use Rattle.tks_eval.specs.declared.frame.Frame.TheVariants as frame;
+ghost use Rattle.tks_eval.specs.declared.branches.Test.{Test};
+
+use crate::frame::{Ending, Frame, Now};
+use crate::halt::{Halt, error_about};
+use crate::host::Host;
+use crate::machine::Machine;
+use crate::rest::Rest;
+use std::alloc::{AllocError, Global};
+use tks_expr::truth_of;
+use tks_parse::parse;
+use tks_text::{ErrorNumber, Limits, Txt};
+use tks_vars::Vars;
+
+/// A condition of an `if`, and the body that runs where it is the first that holds.
+#[derive(Drop)]
+pub struct Test {
+    pub condition: Txt,
+    pub body: Txt,
+}
+
+/// What an `if` may yet run: its tests, and the body for where none holds.
+#[derive(Drop)]
+pub struct Branches {
+    pub tests: Rest<Test>,
+    pub otherwise: Option<Txt>,
+}
+
+// Whether a word is one of those that part the others.
+fn is_keyword(word: &Txt) -> bool
+    ensures { result ≡ is_keyword word.now }
+{
+    let word = word.as_bytes();
+    word == b"then".as_slice() || word == b"elseif".as_slice() || word == b"else".as_slice()
+}
+
+// The condition and the body at the front of these words, and the words behind them.
+fn test_at(words: &[Txt]) -> Option<(&Txt, &Txt, &[Txt])>
+    ensures shorter { IfSome result (λ x. length x.2.now < length words.now) }
+    ensures reads { MatchOption result ((tests : List Test) → branches Condition tests words.now ≡ no_branches) (λ x. (tests : List Test) → branches Condition tests words.now ≡ branches BehindBody (with_test tests x.0.now x.1.now) x.2.now) }
+{
+    let (condition, behind) = words.split_first()?;
+    let (word, behind) = behind.split_first()?;
+    if is_keyword(condition) {
+        return None;
+    }
+    if word.as_bytes() == b"then".as_slice() {
+        let (body, behind) = behind.split_first()?;
+        if is_keyword(body) {
+            return None;
+        }
+        return Some((condition, body, behind));
+    }
+    if is_keyword(word) {
+        return None;
+    }
+    Some((condition, word, behind))
+}
+
+// These tests, with the last body that the words are.
+fn with_last(tests: Vec<Test>, words: &[Txt]) -> Result<Option<Branches>, AllocError>
+    ensures { IfOk result (λ b. b ≡ with_last tests.items words.now) }
+{
+    match words {
+        [body] if !is_keyword(body) => Ok(Some(Branches {
+            tests: Rest::of(tests),
+            otherwise: Some(body.try_clone()?),
+        })),
+        _ => Ok(None),
+    }
+}
+
+// What the words of an `if` say.
+fn read_branches(alloc: Global, words: &[Txt]) -> Result<Option<Branches>, AllocError>
+    ensures { IfOk result (λ b. b ≡ branches Condition [] words.now) }
+{
+    let mut tests = Vec::new(alloc);
+    let mut rest = words;
+    'test: loop {
+        let Some((condition, body, behind)) = test_at(rest) else {
+            return Ok(None);
+        };
+        tests.push(Test {
+            condition: condition.try_clone()?,
+            body: body.try_clone()?,
+        })?;
+        let Some((word, more)) = behind.split_first() else {
+            return Ok(Some(Branches {
+                tests: Rest::of(tests),
+                otherwise: None,
+            }));
+        };
+        if word.as_bytes() == b"elseif".as_slice() {
+            rest = more;
+            continue 'test;
+        }
+        if word.as_bytes() == b"else".as_slice() {
+            return with_last(tests, more);
+        }
+        return with_last(tests, behind);
+    }
+}
+
+impl Machine {
+    // if c ?then? b ?elseif c ?then? b ..? ?else? ?b?
+    #[tactic(auto, using(crate::proofs::Halts::error_halts))]
+    pub fn run_if<H: Host>(
+        &mut self,
+        alloc: Global,
+        host: &H,
+        variables: &Vars,
+        command: &Txt,
+        words: &[Txt],
+        limits: &Limits,
+    ) -> Result<Now, Halt>
+        ensures spends { self.new.fuel ≤ self.old.fuel }
+        ensures goes { GoesSo H.meaning limits.now (resume H.meaning limits.now self.old.left self.old.stack (if_does limits.now (evaluate H.meaning limits.now self.old.left) command.now words.now (H.state host.now) variables.now self.old.fuel)) result self.new (H.state host.now) variables.now }
+    {
+        let Some(branches) = read_branches(alloc, words)? else {
+            return Err(error_about(ErrorNumber::WrongWords, command));
+        };
+        self.next_branch(alloc, host, variables, branches, limits)
+    }
+
+    // Goes on with the branches that are left of an `if`.
+    #[tactic(auto, using(crate::proofs::Halts::test_halts))]
+    fn next_branch<H: Host>(
+        &mut self,
+        alloc: Global,
+        host: &H,
+        variables: &Vars,
+        branches: Branches,
+        limits: &Limits,
+    ) -> Result<Now, Halt>
+        ensures falls { Falls result (optional_weight branches.otherwise + 1) self.old self.new }
+        ensures goes { GoesSo H.meaning limits.now (resume H.meaning limits.now self.old.left self.old.stack (branches_do limits.now (evaluate H.meaning limits.now self.old.left) branches.otherwise branches.tests (H.state host.now) variables.now self.old.fuel)) result self.new (H.state host.now) variables.now }
+    {
+        let Branches { tests, otherwise } = branches;
+        let mut tests = tests;
+        match tests.next() {
+            None => match otherwise {
+                None => Ok(Now::At(Ending {
+                    code: 0,
+                    text: Txt::new(alloc),
+                })),
+                Some(body) => Ok(Now::Open(parse(alloc, &body)?)),
+            },
+            Some(Test { condition, body }) => {
+                let expr = self.read_condition(alloc, &condition)?;
+                let rest = Branches { tests, otherwise };
+                self.stack.push(Frame::Branch { body, rest })?;
+                Ok(Now::Value(expr))
+            }
+        }
+    }
+
+    /// Goes on with an `if` behind a condition.
+    #[tactic(auto, using(crate::proofs::Halts::fault_halts))]
+    pub fn after_branch<H: Host>(
+        &mut self,
+        alloc: Global,
+        host: &H,
+        variables: &Vars,
+        body: Txt,
+        rest: Branches,
+        end: Ending,
+        limits: &Limits,
+    ) -> Result<Now, Halt>
+        ensures falls { Falls result (frame_weight (frame.Branch body rest)) self.old self.new }
+        ensures goes { GoesSo H.meaning limits.now (resume H.meaning limits.now self.old.left (frame.Branch body rest ∷ self.old.stack) (End end.code end.text (H.state host.now) variables.now self.old.fuel)) result self.new (H.state host.now) variables.now }
+    {
+        if end.code != 0 {
+            return Ok(Now::At(end));
+        }
+        if truth_of(&end.text)? {
+            return Ok(Now::Open(parse(alloc, &body)?));
+        }
+        self.next_branch(alloc, host, variables, rest, limits)
+    }
+}

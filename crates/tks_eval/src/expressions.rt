@@ -1,0 +1,236 @@
+ghost use Rattle.std.specs.Prelude.{◌≡◌, ◌≤◌, ◌∷◌};
+ghost use Rattle.tks_text.specs.Fault.{Gives};
+ghost use Rattle.tks_expr.specs.Reading.{expr_of};
+ghost use Rattle.tks_eval.specs.Outcome.{End};
+ghost use Rattle.tks_eval.specs.Meets.{ReadsSo};
+ghost use Rattle.tks_eval.specs.Evaluation.{evaluate, value_does, expr_does};
+ghost use Rattle.tks_eval.specs.Values.{signs_applied, truth_shown, links_do};
+ghost use Rattle.tks_eval.specs.Machine.{resume, value_weight, links_weight, value_frame_weight, GoesSo, Falls};
+ghost use Rattle.tks_eval.specs.declared.frame.Frame.TheVariants as frames;
+ghost use Rattle.tks_eval.specs.declared.expressions.ValueFrame.TheVariants as waits;
+
+use crate::frame::{Ending, Frame, Now};
+use crate::halt::{Halt, error_about};
+use crate::host::Host;
+use crate::machine::Machine;
+use crate::rest::Rest;
+use std::alloc::Global;
+use tks_expr::{
+    Binary, Expr, Join, Link, Node, Unary, apply, apply_unary, parse_expr, result_of, truth_of,
+};
+use tks_tcl::{joined_by, within};
+use tks_text::{ErrorNumber, Failure, Limits, Txt};
+use tks_vars::Vars;
+
+/// What waits for the value of an operand.
+#[derive(Drop)]
+pub enum ValueFrame {
+    /// The links of a chain that are left, at the operand before them.
+    Links(Rest<Link>),
+    /// An operator with its left operand, at its right one; and the links behind it.
+    Right(Binary, Txt, Rest<Link>),
+    /// `&&` or `||`, at its right operand; and the links behind it.
+    Truth(Rest<Link>),
+    /// Signs, the innermost first.
+    Signs(Rest<Unary>),
+    /// `?:`, at its condition.
+    Choice(Expr, Expr),
+    /// `expr`, at the whole expression.
+    Whole,
+}
+
+// What signs give for a text, the innermost first.
+fn apply_signs(alloc: Global, signs: Rest<Unary>, text: Txt) -> Result<Txt, Failure>
+    ensures { Gives (λ t. t) result (signs_applied signs text) }
+{
+    let mut signs = signs;
+    let mut text = text;
+    while let Some(sign) = signs.next() {
+        text = apply_unary(alloc, sign, &text)?;
+    }
+    Ok(text)
+}
+
+// Whether a text holds as a condition, as a text.
+fn truth_text(alloc: Global, text: &Txt) -> Result<Txt, Failure>
+    ensures { Gives (λ t. t) result (truth_shown text.now) }
+{
+    if truth_of(text)? {
+        Ok(Txt::from_text(alloc, b"1")?)
+    } else {
+        Ok(Txt::from_text(alloc, b"0")?)
+    }
+}
+
+impl Machine {
+    // expr word ..
+    #[tactic(auto, using(crate::proofs::Halts::given_halts, crate::proofs::Halts::fault_halts, crate::proofs::Halts::error_halts))]
+    pub fn run_expr<H: Host>(
+        &mut self,
+        alloc: Global,
+        host: &H,
+        variables: &Vars,
+        command: &Txt,
+        words: &[Txt],
+        limits: &Limits,
+    ) -> Result<Now, Halt>
+        ensures spends { self.new.fuel ≤ self.old.fuel }
+        ensures goes { GoesSo H.meaning limits.now (resume H.meaning limits.now self.old.left self.old.stack (expr_does limits.now (evaluate H.meaning limits.now self.old.left) command.now words.now (H.state host.now) variables.now self.old.fuel)) result self.new (H.state host.now) variables.now }
+    {
+        if words.is_empty() {
+            return Err(error_about(ErrorNumber::WrongWords, command));
+        }
+        let space = Txt::from_text(alloc, b" ")?;
+        let text = within(joined_by(alloc, words, &space)?, limits)?;
+        let expr = parse_expr(alloc, &text)?;
+        self.stack.push(Frame::Value(ValueFrame::Whole))?;
+        Ok(Now::Value(expr))
+    }
+
+    /// Takes a step, and reads a condition.
+    pub fn read_condition(&mut self, alloc: Global, condition: &Txt) -> Result<Expr, Halt>
+        ensures reads { ReadsSo (expr_of condition.now) result self.old.fuel self.new.fuel }
+        ensures kept { self.new ≡ record self.old { fuel = self.new.fuel } }
+    {
+        self.take_step()?;
+        let expr = parse_expr(alloc, condition)?;
+        Ok(expr)
+    }
+
+    /// Goes on with the value of an expression.
+    #[tactic(auto, using(crate::proofs::Values::value_weighs))]
+    pub fn open_value<H: Host>(
+        &mut self,
+        alloc: Global,
+        host: &H,
+        variables: &Vars,
+        expr: Expr,
+        limits: &Limits,
+    ) -> Result<Now, Halt>
+        ensures falls { Falls result (value_weight expr) self.old self.new }
+        ensures goes { GoesSo H.meaning limits.now (resume H.meaning limits.now self.old.left self.old.stack (value_does limits.now (evaluate H.meaning limits.now self.old.left) expr (H.state host.now) variables.now self.old.fuel)) result self.new (H.state host.now) variables.now }
+    {
+        match expr.into_node() {
+            Node::Literal(text) => Ok(Now::At(Ending { code: 0, text })),
+            Node::Made(parts) => Ok(Now::Fill {
+                made: Txt::new(alloc),
+                parts: Rest::of(parts.into_parts()),
+            }),
+            Node::Signs(outer, last, operand) => {
+                let mut signs = Rest::reversed(outer);
+                signs.push(last)?;
+                self.stack.push(Frame::Value(ValueFrame::Signs(signs)))?;
+                Ok(Now::Value(operand))
+            }
+            Node::Chain(first, link, links) => {
+                let mut links = Rest::of(links);
+                links.push(link)?;
+                self.stack.push(Frame::Value(ValueFrame::Links(links)))?;
+                Ok(Now::Value(first))
+            }
+            Node::Choice(condition, if_true, if_false) => {
+                self.stack
+                    .push(Frame::Value(ValueFrame::Choice(if_true, if_false)))?;
+                Ok(Now::Value(condition))
+            }
+        }
+    }
+
+    /// Goes on with an expression behind an operand.
+    #[tactic(auto, using(crate::proofs::Halts::fault_halts, crate::proofs::Halts::text_halts, crate::proofs::Halts::truth_halts, crate::proofs::Values::frame_weighs))]
+    pub fn after_value<H: Host>(
+        &mut self,
+        alloc: Global,
+        host: &H,
+        variables: &Vars,
+        frame: ValueFrame,
+        end: Ending,
+        limits: &Limits,
+    ) -> Result<Now, Halt>
+        ensures falls { Falls result (value_frame_weight frame) self.old self.new }
+        ensures goes { GoesSo H.meaning limits.now (resume H.meaning limits.now self.old.left (frames.Value frame ∷ self.old.stack) (End end.code end.text (H.state host.now) variables.now self.old.fuel)) result self.new (H.state host.now) variables.now }
+    {
+        if end.code != 0 {
+            return Ok(Now::At(end));
+        }
+        let text = end.text;
+        match frame {
+            ValueFrame::Links(links) => self.next_link(alloc, host, variables, links, text, limits),
+            ValueFrame::Right(operator, left, links) => {
+                let text = apply(alloc, operator, &left, &text)?;
+                self.stack.push(Frame::Value(ValueFrame::Links(links)))?;
+                Ok(Now::At(Ending { code: 0, text }))
+            }
+            ValueFrame::Truth(links) => {
+                let text = truth_text(alloc, &text)?;
+                self.stack.push(Frame::Value(ValueFrame::Links(links)))?;
+                Ok(Now::At(Ending { code: 0, text }))
+            }
+            ValueFrame::Signs(signs) => {
+                let text = apply_signs(alloc, signs, text)?;
+                Ok(Now::At(Ending { code: 0, text }))
+            }
+            ValueFrame::Choice(if_true, if_false) => {
+                if truth_of(&text)? {
+                    Ok(Now::Value(if_true))
+                } else {
+                    Ok(Now::Value(if_false))
+                }
+            }
+            ValueFrame::Whole => {
+                let text = result_of(alloc, &text)?;
+                Ok(Now::At(Ending { code: 0, text }))
+            }
+        }
+    }
+
+    // Goes on with the links of a chain, behind an operand that came to this text.
+    #[tactic(auto, using(crate::proofs::Halts::truth_halts))]
+    fn next_link<H: Host>(
+        &mut self,
+        alloc: Global,
+        host: &H,
+        variables: &Vars,
+        links: Rest<Link>,
+        text: Txt,
+        limits: &Limits,
+    ) -> Result<Now, Halt>
+        ensures falls { Falls result (links_weight links) self.old self.new }
+        ensures goes { GoesSo H.meaning limits.now (resume H.meaning limits.now self.old.left self.old.stack (links_do limits.now (evaluate H.meaning limits.now self.old.left) links (End 0 text (H.state host.now) variables.now self.old.fuel))) result self.new (H.state host.now) variables.now }
+    {
+        let mut links = links;
+        let Some(link) = links.next() else {
+            return Ok(Now::At(Ending { code: 0, text }));
+        };
+        let Link { join, right } = link;
+        match join {
+            Join::Of(operator) => {
+                self.stack
+                    .push(Frame::Value(ValueFrame::Right(operator, text, links)))?;
+                Ok(Now::Value(right))
+            }
+            Join::And => {
+                if truth_of(&text)? {
+                    self.stack.push(Frame::Value(ValueFrame::Truth(links)))?;
+                    return Ok(Now::Value(right));
+                }
+                self.stack.push(Frame::Value(ValueFrame::Links(links)))?;
+                Ok(Now::At(Ending {
+                    code: 0,
+                    text: Txt::from_text(alloc, b"0")?,
+                }))
+            }
+            Join::Or => {
+                if truth_of(&text)? {
+                    self.stack.push(Frame::Value(ValueFrame::Links(links)))?;
+                    return Ok(Now::At(Ending {
+                        code: 0,
+                        text: Txt::from_text(alloc, b"1")?,
+                    }));
+                }
+                self.stack.push(Frame::Value(ValueFrame::Truth(links)))?;
+                Ok(Now::Value(right))
+            }
+        }
+    }
+}

@@ -1,0 +1,21 @@
+ghost use Rattle.tks_eval.specs.Laws.{EndsStay, RunsAsHalves, TextIsOfSecondHalf, Unrolls};
+ghost use Rattle.tks_text.specs.Limits.{Wider};
+ghost use Rattle.tks_text.specs.declared.limits.Limits.{Limits};
+
+use crate::host::Host;
+
+/// A script of two halves runs as the first half, and then, where that ended with code 0, as the second.
+pub fn script_runs_as_its_halves<H: Host>()
+    ensures halves { RunsAsHalves H.meaning }
+    ensures text { TextIsOfSecondHalf H.meaning }
+{}
+
+/// Wider limits, more levels and more fuel keep each end, with so much more fuel left.
+pub fn wider_limits_keep_ends<H: Host>()
+    ensures { (limits wider : Limits) → Wider limits wider → EndsStay H.meaning limits wider }
+{}
+
+/// A loop is a test of its condition and, where that holds, its body, the script behind it, and the loop again.
+pub fn loops_unroll<H: Host>()
+    ensures { Unrolls H.meaning }
+{}

@@ -1,0 +1,183 @@
+ghost use Rattle.std.specs.Prelude.{◌≡◌, ◌≤◌, ◌+◌, ◌∷◌};
+ghost use Rattle.tks_eval.specs.Outcome.{End};
+ghost use Rattle.tks_eval.specs.Evaluation.{evaluate, behind_body, loop_does, while_does, for_does};
+ghost use Rattle.tks_eval.specs.Machine.{resume, loop_weight, optional_weight, GoesSo, Falls};
+ghost use Rattle.tks_eval.specs.declared.frame.Frame.TheVariants as frame;
+ghost use Rattle.tks_eval.specs.declared.loops.Stage.TheVariants as stages;
+
+use crate::frame::{Ending, Frame, Now};
+use crate::halt::{Halt, error_about};
+use crate::host::Host;
+use crate::machine::Machine;
+use std::alloc::Global;
+use tks_expr::truth_of;
+use tks_parse::parse;
+use tks_text::{ErrorNumber, Limits, Txt};
+use tks_vars::Vars;
+
+/// A loop: its condition, its body, and the script that a `for` runs behind that.
+#[derive(Drop)]
+pub struct Loop {
+    pub condition: Txt,
+    pub body: Txt,
+    pub next: Option<Txt>,
+}
+
+/// What a loop waits for.
+#[derive(Clone, Copy)]
+pub enum Stage {
+    /// The script that a `for` runs first.
+    Start,
+    Condition,
+    Body,
+    /// The script behind the body.
+    Next,
+}
+
+impl Machine {
+    // while c b
+    #[tactic(auto, using(crate::proofs::Halts::error_halts))]
+    pub fn run_while<H: Host>(
+        &mut self,
+        alloc: Global,
+        host: &H,
+        variables: &Vars,
+        command: &Txt,
+        words: &[Txt],
+        limits: &Limits,
+    ) -> Result<Now, Halt>
+        ensures spends { self.new.fuel ≤ self.old.fuel }
+        ensures goes { GoesSo H.meaning limits.now (resume H.meaning limits.now self.old.left self.old.stack (while_does limits.now (evaluate H.meaning limits.now self.old.left) command.now words.now (H.state host.now) variables.now self.old.fuel)) result self.new (H.state host.now) variables.now }
+    {
+        let [condition, body] = words else {
+            return Err(error_about(ErrorNumber::WrongWords, command));
+        };
+        let turns = Loop {
+            condition: condition.try_clone()?,
+            body: body.try_clone()?,
+            next: None,
+        };
+        self.next_turn(alloc, host, variables, turns, limits)
+    }
+
+    // for s c n b
+    #[tactic(auto, using(crate::proofs::Halts::error_halts))]
+    pub fn run_for<H: Host>(
+        &mut self,
+        alloc: Global,
+        host: &H,
+        variables: &Vars,
+        command: &Txt,
+        words: &[Txt],
+        limits: &Limits,
+    ) -> Result<Now, Halt>
+        ensures spends { self.new.fuel ≤ self.old.fuel }
+        ensures goes { GoesSo H.meaning limits.now (resume H.meaning limits.now self.old.left self.old.stack (for_does limits.now (evaluate H.meaning limits.now self.old.left) command.now words.now (H.state host.now) variables.now self.old.fuel)) result self.new (H.state host.now) variables.now }
+    {
+        let [start, condition, next, body] = words else {
+            return Err(error_about(ErrorNumber::WrongWords, command));
+        };
+        let start = parse(alloc, start)?;
+        let turns = Loop {
+            condition: condition.try_clone()?,
+            body: body.try_clone()?,
+            next: Some(next.try_clone()?),
+        };
+        self.stack.push(Frame::Turns(Stage::Start, turns))?;
+        Ok(Now::Open(start))
+    }
+
+    // Goes on with the next turn of a loop.
+    #[tactic(auto, using(crate::proofs::Halts::test_halts, crate::proofs::Turns::loop_unrolls))]
+    fn next_turn<H: Host>(
+        &mut self,
+        alloc: Global,
+        host: &H,
+        variables: &Vars,
+        turns: Loop,
+        limits: &Limits,
+    ) -> Result<Now, Halt>
+        ensures falls { Falls result 1 self.old self.new }
+        ensures goes { GoesSo H.meaning limits.now (resume H.meaning limits.now self.old.left self.old.stack (loop_does limits.now (evaluate H.meaning limits.now self.old.left) turns (H.state host.now) variables.now self.old.fuel)) result self.new (H.state host.now) variables.now }
+    {
+        let expr = self.read_condition(alloc, &turns.condition)?;
+        self.stack.push(Frame::Turns(Stage::Condition, turns))?;
+        Ok(Now::Value(expr))
+    }
+
+    /// Goes on with a loop behind what it waited for.
+    pub fn after_stage<H: Host>(
+        &mut self,
+        alloc: Global,
+        host: &H,
+        variables: &Vars,
+        stage: Stage,
+        turns: Loop,
+        end: Ending,
+        limits: &Limits,
+    ) -> Result<Now, Halt>
+        ensures falls { Falls result (loop_weight stage turns) self.old self.new }
+        ensures goes { GoesSo H.meaning limits.now (resume H.meaning limits.now self.old.left (frame.Turns stage turns ∷ self.old.stack) (End end.code end.text (H.state host.now) variables.now self.old.fuel)) result self.new (H.state host.now) variables.now }
+    {
+        match (stage, end.code) {
+            (Stage::Start, 0) => self.next_turn(alloc, host, variables, turns, limits),
+            (Stage::Next, 0) => self.next_turn(alloc, host, variables, turns, limits),
+            (Stage::Condition, 0) => self.open_body(
+                alloc, host, variables, turns, end.text, limits,
+            ),
+            (Stage::Body, 0 | 4) => self.open_next(alloc, host, variables, turns, limits),
+            (Stage::Body | Stage::Next, 3) => Ok(Now::At(Ending {
+                code: 0,
+                text: Txt::new(alloc),
+            })),
+            _ => Ok(Now::At(end)),
+        }
+    }
+
+    // Goes on with a loop, whose condition came to this text.
+    #[tactic(auto, using(crate::proofs::Halts::fault_halts))]
+    fn open_body<H: Host>(
+        &mut self,
+        alloc: Global,
+        host: &H,
+        variables: &Vars,
+        turns: Loop,
+        text: Txt,
+        limits: &Limits,
+    ) -> Result<Now, Halt>
+        ensures falls { Falls result (loop_weight stages.Condition turns) self.old self.new }
+        ensures goes { GoesSo H.meaning limits.now (resume H.meaning limits.now self.old.left (frame.Turns stages.Condition turns ∷ self.old.stack) (End 0 text (H.state host.now) variables.now self.old.fuel)) result self.new (H.state host.now) variables.now }
+    {
+        if !truth_of(&text)? {
+            return Ok(Now::At(Ending {
+                code: 0,
+                text: Txt::new(alloc),
+            }));
+        }
+        let body = parse(alloc, &turns.body)?;
+        self.stack.push(Frame::Turns(Stage::Body, turns))?;
+        Ok(Now::Open(body))
+    }
+
+    // Goes on with a loop behind its body.
+    fn open_next<H: Host>(
+        &mut self,
+        alloc: Global,
+        host: &H,
+        variables: &Vars,
+        turns: Loop,
+        limits: &Limits,
+    ) -> Result<Now, Halt>
+        ensures falls { Falls result (loop_weight stages.Body turns) self.old self.new }
+        ensures goes { GoesSo H.meaning limits.now (resume H.meaning limits.now self.old.left self.old.stack (behind_body (evaluate H.meaning limits.now self.old.left) turns (loop_does limits.now (evaluate H.meaning limits.now self.old.left) turns) (H.state host.now) variables.now self.old.fuel)) result self.new (H.state host.now) variables.now }
+    {
+        match &turns.next {
+            None => self.next_turn(alloc, host, variables, turns, limits),
+            Some(next) => {
+                let next = parse(alloc, next)?;
+                self.stack.push(Frame::Turns(Stage::Next, turns))?;
+                Ok(Now::Open(next))
+            }
+        }
+    }
+}
