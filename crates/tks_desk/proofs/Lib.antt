@@ -1,4 +1,5 @@
 pub mod Lines
+pub mod Loads
 pub mod Writes
 pub mod Asked
 pub mod Talks

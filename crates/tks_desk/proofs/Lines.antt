@@ -1,28 +1,14 @@
 -- Lines of known bytes, and a line that is read in pieces.
-use Rattle.std.proofs.Common.{◌≡◌, ◌≢◌, ◌==◌, ◌+◌, ◌<◌, ◌≤◌, ℕ, Bool, true, false, cond, List, [], ◌∷◌, ◌++◌, All, length, Option, Some, None, IfSome, refl, sym, ap, subst, ◌∙◌, arith, append_assoc, append-nil, length-append, ne_eqb}
+use Rattle.std.proofs.Common.{◌≡◌, ◌≢◌, ◌==◌, ◌+◌, ◌<◌, ◌≤◌, ℕ, false, cond, List, [], ◌∷◌, ◌++◌, All, length, Option, Some, None, IfSome, refl, sym, ap, subst, ◌∙◌, arith, append_assoc, append-nil, length-append, ne_eqb}
 use Rattle.std.proofs.lemmas.List.Elements.{All-head, All-tail, All-append}
 use Rattle.std.proofs.lemmas.Bool.Decides.{nat_tests}
 use Rattle.std.specs.Io.KnownBytes.{Keeps, Consumes, IsAtEnd}
 use Rattle.std.proofs.KnownBytes.{Consumes-trans}
-use Rattle.tks_desk.specs.Lines.{first_line, after_line, lines_of, onto}
+use Rattle.tks_desk.specs.Lines.{first_line, after_line}
 use Rattle.tks_desk.specs.Reading.{ReadsLine, IsLine, LineGrows, TakesPiece, piece_cost, ReadsAtMost, Pays}
 use Rattle.tks_desk.specs.declared.input.Line.{Line}
 use Rattle.tks_desk.specs.declared.input.Piece.{Piece}
 use Rattle.tks_desk.specs.declared.input.Piece.TheVariants.{GoesOn, EndsAtNewline, EndsWithInput}
-
-by_test : (t : Bool) (b : ℕ) (bytes first after : List ℕ) → onto b (lines_of bytes) ≡ (b ∷ first) ∷ lines_of after
-    → cond t ([] ∷ lines_of bytes) (onto b (lines_of bytes)) ≡ cond t [] (b ∷ first) ∷ lines_of (cond t bytes after)
-by_test true b bytes first after at = refl
-by_test false b bytes first after at = at
-
--- the first line, and then those of what stands behind it
-pub lines_first : (b : ℕ) (bytes : List ℕ) → lines_of (b ∷ bytes) ≡ first_line (b ∷ bytes) ∷ lines_of (after_line (b ∷ bytes))
-lines_first b [] = by_test (b == 10) b [] [] [] refl
-lines_first b (c ∷ bytes) = by_test (b == 10) b (c ∷ bytes) (first_line (c ∷ bytes)) (after_line (c ∷ bytes)) (ap (onto b) (lines_first c bytes))
-
-pub lines_next : (bytes : List ℕ) → bytes ≢ [] → lines_of bytes ≡ first_line bytes ∷ lines_of (after_line bytes)
-lines_next [] some = absurd (some refl)
-lines_next (b ∷ bytes) some = lines_first b bytes
 
 abbrev pub NoNewline : List ℕ → Type 0
 NoNewline line = All (λ b. b ≢ 10) line

@@ -88,7 +88,7 @@ answers_of input memory world = (talk (requests_of input) memory world).written
 
 -- ---- what a run did
 
--- the input is answered up to `rest`, which the reader has left: with any answers to the rest from the new
+-- the input is answered up to `rest`, which is still to be read: with any answers to the rest from the new
 -- world, these are the answers to the whole input
 pub record SoFar (input : List ℕ) (left : Option (List ℕ)) (old new : World) (before after : Option (List ℕ)) : Type 0 where
   pub rest : List ℕ

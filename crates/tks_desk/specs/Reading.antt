@@ -1,7 +1,8 @@
--- What reading a line does.
-use Rattle.std.specs.Prelude.{◌≡◌, ◌≢◌, ℕ, ◌+◌, ◌<◌, ◌≤◌, List, [], ◌∷◌, ◌++◌, length, Option, Some, None}
+-- What reading a line, or bytes behind it, does.
+use Rattle.std.specs.Prelude.{◌≡◌, ◌≢◌, ℕ, ◌+◌, ◌<◌, ◌≤◌, Bool, true, false, List, [], ◌∷◌, ◌++◌, take, drop, length, Option, Some, None, IfSome}
+use Rattle.std.specs.Option.{option_map}
 use Rattle.std.specs.Io.KnownBytes.{Keeps, Consumes, IsAtEnd}
-use Rattle.tks_desk.specs.Lines.{first_line, after_line}
+use Rattle.tks_desk.specs.Lines.{first_line, after_line, past_newline}
 use Rattle.tks_desk.specs.declared.input.Line.{Line}
 use Rattle.tks_desk.specs.declared.input.Line.TheVariants.{Held, Overlong}
 use Rattle.tks_desk.specs.declared.input.Piece.{Piece}
@@ -44,3 +45,25 @@ ReadsAtMost most old new = (bytes : List ℕ) × Consumes old new bytes × (leng
 -- a reader loses bytes, and what may still be read falls by one for each, or by more
 abbrev pub Pays : Option (List ℕ) → Option (List ℕ) → ℕ → ℕ → Type 0
 Pays old new before left = (bytes : List ℕ) × Consumes old new bytes × (length bytes + left ≤ before)
+
+-- ---- bytes behind a line
+
+-- what is to be read, where a newline at the front may go with what was read before
+abbrev pub unread : Bool → Option (List ℕ) → Option (List ℕ)
+unread false rest = rest
+unread true rest = option_map past_newline rest
+
+-- bytes are held behind others, and the reader loses them; or none is left
+abbrev pub TakesBytes : Bool → Option (List ℕ) → Option (List ℕ) → List ℕ → List ℕ → Type 0
+TakesBytes true old new held held' = (bytes : List ℕ) × (held' ≡ held ++ bytes) × Consumes old new bytes
+TakesBytes false old new held held' = (held' ≡ held) × IsAtEnd old × Keeps old new
+
+-- so many bytes are held, and the reader loses them; or fewer are there, and it loses those
+abbrev pub HoldsBytes : ℕ → List ℕ → Option (List ℕ) → Option (List ℕ) → Type 0
+HoldsBytes n bytes (Some held) rest = (n ≤ length bytes) × (held ≡ take n bytes) × (rest ≡ Some (drop n bytes))
+HoldsBytes n bytes None rest = (length bytes < n) × (rest ≡ Some [])
+
+-- a newline at the front is passed over, or it wasn't looked at yet
+abbrev pub PassesSo : Bool → Option (List ℕ) → Option (List ℕ) → Type 0
+PassesSo true old new = IfSome old (λ bytes. new ≡ Some (past_newline bytes))
+PassesSo false old new = Keeps old new

@@ -1,3 +1,6 @@
+ghost use Rattle.std.specs.Prelude.{◌≡◌};
+
+use std::alloc::AllocError;
 use thiserror::Error;
 
 /// How a run ended that met no fault.
@@ -21,4 +24,14 @@ pub enum RunFault {
     /// A line could not be held.
     #[error("out of memory")]
     Memory,
+}
+
+impl From<AllocError> for RunFault {
+    ghost use Rattle.tks_desk.specs.declared.ending.RunFault.TheVariants.{Memory};
+
+    ghost from_gives = { λ _ e. e ≡ Memory };
+
+    fn from(_e: AllocError) -> RunFault {
+        RunFault::Memory
+    }
 }

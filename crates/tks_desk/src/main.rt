@@ -5,6 +5,7 @@ mod answer;
 mod arguments;
 mod ending;
 mod input;
+mod loading;
 mod output;
 mod plain;
 mod request;

@@ -1,9 +1,10 @@
 ghost use Rattle.std.specs.Prelude.{◌≡◌, ◌<◌, ◌^◌, IfOk, IfErr, IfSome};
-ghost use Rattle.tks_desk.specs.Reading.{ReadsAtMost, Pays};
+ghost use Rattle.tks_desk.specs.Reading.{ReadsAtMost, Pays, unread};
 ghost use Rattle.tks_desk.specs.Answers.{Answers, CutOff, AnswersInput, TurnsSo};
 
 use crate::answer::{put_refusal, put_reply};
 use crate::ending::{RunEnd, RunFault};
+use crate::loading::Intake;
 use crate::output::put_last;
 use crate::plain::Plain;
 use crate::request::{Request, next_request};
@@ -26,9 +27,12 @@ pub fn run<R: BufRead, W: Write>(
     ensures cut_off { IfErr result (λ why. IfSome (R.remaining reader.old) (λ input. CutOff input session.old session.new (W.contents writer.old) (W.contents writer.new) why)) }
     ensures bound { ReadsAtMost (2 ^ 40) (R.remaining reader.old) (R.remaining reader.new) }
 {
-    let mut left = MAX_READ;
+    let mut intake = Intake {
+        left: MAX_READ,
+        skips_newline: false,
+    };
     'lines: loop {
-        if let Some(end) = answer_line(alloc, reader, writer, session, &mut left)? {
+        if let Some(end) = answer_line(alloc, reader, writer, session, &mut intake)? {
             return Ok(end);
         }
     }
@@ -40,13 +44,13 @@ fn answer_line<R: BufRead, W: Write>(
     reader: &mut R,
     writer: &mut W,
     session: &mut Plain,
-    left: &mut u64,
+    intake: &mut Intake,
 ) -> Result<Option<RunEnd>, RunFault>
-    ensures turn { IfSome (R.remaining reader.old) (λ input. TurnsSo result input (R.remaining reader.new) session.old session.new (W.contents writer.old) (W.contents writer.new)) }
-    ensures spends { result ≡ Ok None → left.new < left.old }
-    ensures pays { Pays (R.remaining reader.old) (R.remaining reader.new) left.old left.new }
+    ensures turn { IfSome (unread intake.old.skips_newline (R.remaining reader.old)) (λ input. TurnsSo result input (unread intake.new.skips_newline (R.remaining reader.new)) session.old session.new (W.contents writer.old) (W.contents writer.new)) }
+    ensures spends { result ≡ Ok None → intake.new.left < intake.old.left }
+    ensures pays { Pays (R.remaining reader.old) (R.remaining reader.new) intake.old.left intake.new.left }
 {
-    let Some(request) = next_request(alloc, reader, left)? else {
+    let Some(request) = next_request(alloc, reader, intake)? else {
         return Ok(Some(RunEnd::EndOfInput));
     };
     match request {

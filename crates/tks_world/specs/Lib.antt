@@ -1,4 +1,4 @@
-pub mod Evaluation
 pub mod World
+pub mod Hosting
 pub mod Step
 pub mod Meets

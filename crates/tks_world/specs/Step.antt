@@ -1,10 +1,14 @@
 -- One step: what an input does to the world (this project's own rule).
 use Rattle.std.specs.Prelude.{ℕ, ◌+◌, ◌^◌, ◌==◌, nat_lt, if◌then◌else◌, List, length}
 use Rattle.tks_text.specs.declared.limits.Limits.{Limits}
+use Rattle.tks_parse.specs.Tree.{Script}
 use Rattle.tks_parse.specs.Reading.{script_of}
 use Rattle.tks_vars.specs.Variables.{Variables}
-use Rattle.tks_world.specs.Evaluation.{Cause, OutOfSteps, TooDeep, OverLimit, NotYet, Outcome, End, Stopped, evaluate}
-use Rattle.tks_world.specs.World.{World}
+use Rattle.tks_eval.specs.Outcome as outcome
+use Rattle.tks_eval.specs.Outcome.{Outcome, End, Stopped, Why, OutOfSteps, TooDeep}
+use Rattle.tks_eval.specs.Evaluation.{evaluate, settled}
+use Rattle.tks_world.specs.World.{World, without_variables}
+use Rattle.tks_world.specs.Hosting.{hosting}
 use Rattle.tks_world.specs.declared.input.Input.{Input}
 use Rattle.tks_world.specs.declared.input.Input.TheVariants as input
 use Rattle.tks_world.specs.declared.input.Reply.{Reply}
@@ -20,11 +24,10 @@ pub data Stepped : Type 0 where
 abbrev pub max_count : ℕ
 max_count = 2 ^ 62
 
-abbrev pub refusal_of : Cause → Refused
+abbrev pub refusal_of : Why → Refused
 refusal_of OutOfSteps = Budget
 refusal_of TooDeep = Depth
-refusal_of OverLimit = TooLarge
-refusal_of NotYet = BadInput
+refusal_of outcome.TooLarge = TooLarge
 
 -- one input more, unless the count is at its greatest
 abbrev pub counted : World → ℕ → List ℕ → Variables → Stepped
@@ -32,12 +35,17 @@ counted world code text variables =
     if world.accepted == max_count then Refuses TooLarge
     else Accepts (record world { accepted = world.accepted + 1; variables = variables }) (record { number = world.accepted + 1; code = code; text = text })
 
-abbrev pub concluded : World → Outcome → Stepped
-concluded world (Stopped why) = Refuses (refusal_of why)
-concluded world (End code text variables fuel) = counted world code text variables
+-- a script's end accepts the input, a stop refuses it
+abbrev pub concluded : Outcome World → Stepped
+concluded (Stopped why) = Refuses (refusal_of why)
+concluded (End code text world variables fuel) = counted world code text variables
+
+-- the input's script, run to its end with all the steps that an input has
+abbrev pub script_ends : Limits → Script → World → Variables → Outcome World
+script_ends limits script world variables = settled limits (evaluate hosting limits limits.depth script world variables limits.fuel)
 
 -- a script over the limit is bad
 abbrev pub step : World → Input → Limits → Stepped
 step world (input.Script text) limits =
     if nat_lt limits.text (length text) then Refuses BadInput
-    else concluded world (evaluate limits limits.depth (script_of text) world.variables limits.fuel)
+    else concluded (script_ends limits (script_of text) (without_variables world) world.variables)

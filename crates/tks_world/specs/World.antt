@@ -20,3 +20,7 @@ world_code =
 -- the world before any input
 abbrev pub first_world : Extent → World
 first_world grid = record { accepted = 0; grid = grid; variables = no_variables }
+
+-- the world while a script runs in it: the variables go beside it
+abbrev pub without_variables : World → World
+without_variables world = record world { variables = no_variables }

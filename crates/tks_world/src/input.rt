@@ -1,8 +1,8 @@
 ghost use Rattle.std.specs.Prelude.{◌≡◌};
 
-use crate::ended::Stop;
 use std::alloc::AllocError;
 use thiserror::Error;
+use tks_tcl::Stop;
 use tks_text::Txt;
 
 /// What happens to a world.
@@ -26,8 +26,7 @@ pub struct Reply {
 /// Why an input was refused. The world is as it was.
 #[derive(Clone, Copy, Debug, Error)]
 pub enum Refused {
-    /// A script over the limit of a text, or, until their rules come, one that runs into an array's
-    /// element, a script in brackets or a word behind `{*}`.
+    /// A script over the limit of a text.
     #[error("bad input")]
     BadInput,
     /// The script would have taken one step too many.
@@ -64,7 +63,6 @@ impl From<Stop> for Refused {
             Stop::Budget => Refused::Budget,
             Stop::Depth => Refused::Depth,
             Stop::TooLarge => Refused::TooLarge,
-            Stop::NotYet => Refused::BadInput,
             Stop::NoMemory => Refused::NoMemory,
         }
     }

@@ -1,8 +1,7 @@
 //! The world, and what an input does to it.
 #![tactic(auto)]
 
-mod ended;
-mod evaluation;
+mod host;
 mod input;
 mod world;
 

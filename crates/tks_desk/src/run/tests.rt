@@ -37,29 +37,78 @@ fn check<R: AllocGlobal + Abort>(rt: &R, input: &[u8], wanted: &str) -> Result<(
     Ok(())
 }
 
-#[test]
-fn answers(rt: HostRuntime) -> Result<(), Fail> {
-    let rows: [(&[u8], &str); 9] = [
-        (b"cmd set x 5\n", "ok 1 5\nend"),
-        (
-            b"cmd set x 5; set y \"$x $x\"\ncmd set z\ncmd foo\ncmd set\ncmd set a [\ncmd set y\n",
-            "ok 1 5 5\nerror 2 E11 z\nerror 3 E09 foo\nerror 4 E10 set\nerror 5 E03\nok 6 5 5\nend",
-        ),
-        (b"", "end"),
-        (b"cmd", "ok 1\nend"),
-        (b"cmd \ncmd set x 5", "ok 1\nok 2 5\nend"),
-        (b"quit\ncmd set x 5\n", "bye\nquit"),
-        (b"cmd set x 5\nquit", "ok 1 5\nbye\nquit"),
-        (b"cmd set a \"x\ty\"\n", "ok 1 x\\ty\nend"),
-        (
-            b"cmd set a 1; set b \"c\"d\ncmd set a\ncmd set b \"c\n",
-            "error 1 E04\nok 2 1\nerror 3 E02\nend",
-        ),
-    ];
-    for (input, wanted) in rows {
-        check(&rt, input, wanted)?;
+// Runs the lines of a row, and compares their answers.
+fn try_row<R: AllocGlobal + Abort>(rt: &R, row: &str) -> Result<(), Fail> {
+    let (given, wanted) = row.split_once(" => ").ok_or("no such row")?;
+    let mut input = String::new(rt.alloc());
+    for line in given.split(" // ") {
+        input.push_str(line)?;
+        input.push_str("\n")?;
+    }
+    let mut answers = String::new(rt.alloc());
+    for line in wanted.split(" // ") {
+        answers.push_str(line)?;
+        answers.push_str("\n")?;
+    }
+    answers.push_str("end")?;
+    check(rt, input.as_bytes(), answers.as_str())
+}
+
+fn try_rows<R: AllocGlobal + Abort>(rt: &R, rows: &str) -> Result<(), Fail> {
+    for row in rows.lines() {
+        try_row(rt, row)?;
     }
     Ok(())
+}
+
+// Lines of one run each, and their answers.
+fn rows() -> &'static str {
+    "cmd set x 5 // cmd set y \"a[set x]b$x\\x41\" => ok 1 5 // ok 2 a5b5A\n\
+cmd set x 5; set y \"$x $x\" // cmd set z // cmd foo // cmd set // cmd set y => ok 1 5 5 // error 2 E11 z // error 3 E09 foo // error 4 E10 set // ok 5 5 5\n\
+cmd set a 1; set b { // cmd set a // cmd set a \"b\"c => error 1 E01 // ok 2 1 // error 3 E04\n\
+cmd list {*}{a {b c}} \"\" #x // cmd catch {incr x 08} m; set m // cmd set e $ => ok 1 a {b c} {} {#x} // ok 2 E13 08 // ok 3 $\n\
+cmd proc f {} {f} // cmd catch f // cmd proc g {} {global n; incr n}; g; g => ok 1 // refused depth // ok 2 2\n\
+cmd // cmd  // cmd set a \"x\ty\" // cmd list \\\\ => ok 1 // ok 2 // ok 3 x\\ty // ok 4 \\\\\\\\\n\
+turn // cmd set x 5 => bad line // ok 1 5\n\
+cmd for {set i 0} {$i < 4998} {incr i} {}; set i => ok 1 4998\n\
+cmd for {set i 0} {$i < 4998} {incr i} {}; set i; set i => refused budget\n\
+cmd catch {while 1 {}} => refused budget\n\
+cmd while 1 {append s 0123456789abcdef} => refused large\n\
+cmd expr {-7 / 2} // cmd expr {-7 % 2} => ok 1 -4 // ok 2 1\n\
+cmd expr {9223372036854775807 + 1} // cmd catch {expr {1 / 0}} m // cmd set m => error 1 E14 // ok 2 1 // ok 3 E16\n\
+cmd proc f {a {b 2} args} {return [expr {$a + $b + [llength $args]}]}; list [f 1] [f 1 5 x y] => ok 1 3 8"
+}
+
+#[test]
+fn answers(rt: HostRuntime) -> Result<(), Fail> {
+    try_rows(&rt, rows())?;
+    check(&rt, b"", "end")?;
+    check(&rt, b"cmd", "ok 1\nend")?;
+    check(&rt, b"quit\ncmd set x 5\n", "bye\nquit")?;
+    check(&rt, b"cmd set x 5\nquit", "ok 1 5\nbye\nquit")
+}
+
+// Scripts that are loaded: with a newline in them, and with and without one behind them.
+fn rows_of_load() -> &'static str {
+    "load 7 // set a 2 // cmd set a => ok 1 2 // ok 2 2\n\
+load 7 // set a 2cmd set a => ok 1 2 // ok 2 2\n\
+load 15 // set a 1 // set b 2 // cmd list $a $b => ok 1 2 // ok 2 1 2\n\
+load 0 //  // cmd => ok 1 // ok 2\n\
+load 0 // cmd => ok 1 // ok 2\n\
+load 0000000000000000007 // set a 2 => ok 1 2\n\
+load 9 // set a 2 => bad line\n\
+load 1048577 // cmd => bad line // ok 1\n\
+load 00000000000000000007 // cmd => bad line // ok 1\n\
+load 9223372036854775807 // cmd => bad line // ok 1\n\
+load // load  // load  7 // load 7  // load +7 // load 0x7 // loads 7 => bad line // bad line // bad line // bad line // bad line // bad line // bad line"
+}
+
+#[test]
+fn loads(rt: HostRuntime) -> Result<(), Fail> {
+    try_rows(&rt, rows_of_load())?;
+    check(&rt, b"load 7\nset a 2", "ok 1 2\nend")?;
+    check(&rt, b"load 7\nset a \x80\ncmd\n", "bad line\nok 1\nend")?;
+    check(&rt, b"load 8\nset a 2\nquit\n", "ok 1 2\nbye\nquit")
 }
 
 #[test]
@@ -80,7 +129,6 @@ fn bad_lines(rt: HostRuntime) -> Result<(), Fail> {
     for line in lines {
         check(&rt, line, "bad line\nend")?;
     }
-    check(&rt, b"turn\ncmd set x 5\n", "bad line\nok 1 5\nend")?;
     Ok(())
 }
 
@@ -121,6 +169,15 @@ fn limits(rt: HostRuntime) -> Result<(), Fail> {
         let input = repeated(alloc, b"cmd set x 5", b" ", count, behind)?;
         check(&rt, input.as_slice(), wanted)?;
     }
+    for (length, count, wanted) in [
+        ("65536", 65_529, "ok 1 5\nok 2 5\nend"),
+        ("65537", 65_530, "refused bad\nerror 1 E11 x\nend"),
+        ("1048576", 1_048_569, "refused bad\nerror 1 E11 x\nend"),
+    ] {
+        let front = format!(in alloc; "load {length}\nset x 5")?;
+        let input = repeated(alloc, front.as_bytes(), b" ", count, behind)?;
+        check(&rt, input.as_slice(), wanted)?;
+    }
     Ok(())
 }
 
@@ -158,6 +215,11 @@ fn a_reader_that_fails(rt: HostRuntime) -> Result<(), Fail> {
     };
     let talked = talk(rt.alloc(), &mut reader)?;
     assert_eq!(rt; talked.as_str(), "ok 1 5\nread fault");
+    let mut reader = Broken {
+        rest: b"load 7\nset a 2\nload 7\nset",
+    };
+    let talked = talk(rt.alloc(), &mut reader)?;
+    assert_eq!(rt; talked.as_str(), "ok 1 2\nread fault");
     Ok(())
 }
 

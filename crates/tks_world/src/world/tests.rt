@@ -23,47 +23,65 @@ fn answer(alloc: Global, world: &mut World, limits: &Limits, script: &str) -> Re
     }
 }
 
-// Runs scripts one after the other, and compares each answer.
-fn compare(
+// Runs the script of a row, and compares its answer.
+fn try_row(
     rt: &impl Abort,
     alloc: Global,
     world: &mut World,
     limits: &Limits,
-    table: &[(&str, &str)],
+    row: &str,
 ) -> Result<(), Fail> {
-    for (script, want) in table {
-        let answer = answer(alloc, world, limits, script)?;
-        assert_eq!(rt; answer.as_str(), *want, "at {script}");
+    let (script, want) = row.split_once(" => ").ok_or("no such row")?;
+    let answer = answer(alloc, world, limits, script)?;
+    assert_eq!(rt; answer.as_str(), want, "at {script}");
+    Ok(())
+}
+
+// Runs the scripts of rows one after the other.
+fn try_rows(
+    rt: &impl Abort,
+    alloc: Global,
+    world: &mut World,
+    limits: &Limits,
+    rows: &str,
+) -> Result<(), Fail> {
+    for row in rows.lines() {
+        try_row(rt, alloc, world, limits, row)?;
     }
     Ok(())
 }
 
+// Scripts of one world, and what they answer.
+fn rows() -> &'static str {
+    "set x 5 => 1 0 5\n\
+set y \"a[set x]b$x\\x41\" => 2 0 a5b5A\n\
+set z => 3 1 E11 z\n\
+foo => 4 1 E09 foo\n\
+set => 5 1 E10 set\n\
+set a 1; set b { => 6 1 E01\n\
+set a => 7 0 1\n\
+set a \"b\"c => 8 1 E04\n\
+list {*}{a {b c}} \"\" #x => 9 0 a {b c} {} {#x}\n\
+catch {incr x 08} m; set m => 10 0 E13 08\n\
+set e $ => 11 0 $\n\
+return $x => 12 0 5\n\
+set x 6; break => 13 1 E18\n\
+eval {continue} => 14 1 E18\n\
+list $x [catch {continue}] => 15 0 6 4\n\
+proc f {} {f} => 16 0 \n\
+set x 7; catch f => scripts too deep in one another\n\
+set x => 17 0 6\n\
+proc g {} {global n; incr n}; g; g => 18 0 2\n\
+foreach i {1 2} {append x $i}; set x => 19 0 612\n\
+proc label {} {} => 20 1 E17 label"
+}
+
 #[test]
 fn scripts_are_answered(rt: HostRuntime) -> Result<(), Fail> {
-    let limits = Limits::format1();
     let mut world = first_world(rt.alloc())?;
     assert_eq!(rt; world.accepted(), 0);
-    let table = [
-        ("set x 5", "1 0 5"),
-        ("set y \"$x $x\"", "2 0 5 5"),
-        ("set z", "3 1 E11 z"),
-        ("foo", "4 1 E09 foo"),
-        ("set", "5 1 E10 set"),
-        ("set a [", "6 1 E03"),
-        ("set a", "7 1 E11 a"),
-        ("", "8 0 "),
-        ("set a 1; set b \"c\"d", "9 1 E04"),
-        ("set a", "10 0 1"),
-        ("set c {d $a}\\x41; # e", "11 1 E05"),
-        ("set {c d} \"e\\\n f\"; # g", "12 0 e f"),
-        ("set c \\x41${c d}", "13 0 Ae f"),
-        ("set a 2; set c [set a]", "bad input"),
-        ("set c $a(1)", "bad input"),
-        ("set {*}{a b}", "bad input"),
-        ("set a", "14 0 1"),
-    ];
-    compare(&rt, rt.alloc(), &mut world, &limits, &table)?;
-    assert_eq!(rt; world.accepted(), 14);
+    try_rows(&rt, rt.alloc(), &mut world, &Limits::format1(), rows())?;
+    assert_eq!(rt; world.accepted(), 20);
     Ok(())
 }
 
@@ -71,72 +89,49 @@ fn scripts_are_answered(rt: HostRuntime) -> Result<(), Fail> {
 fn an_input_has_10_000_steps(rt: HostRuntime) -> Result<(), Fail> {
     let limits = Limits::format1();
     let mut world = first_world(rt.alloc())?;
-    compare(
-        &rt,
-        rt.alloc(),
-        &mut world,
-        &limits,
-        &[("set x 5", "1 0 5")],
-    )?;
     let mut script = String::new(rt.alloc());
     script.push_str("set x 6")?;
     for _ in 1..10_000 {
         script.push_str(";set x")?;
     }
-    let mut longer = script.clone()?;
-    longer.push_str(";set x")?;
-    let table = [
-        (longer.as_str(), "out of steps"),
-        ("set x", "2 0 5"),
-        (script.as_str(), "3 0 6"),
-    ];
-    compare(&rt, rt.alloc(), &mut world, &limits, &table)
+    let answered = answer(rt.alloc(), &mut world, &limits, script.as_str())?;
+    assert_eq!(rt; answered.as_str(), "1 0 6");
+    script.push_str(";set x 7")?;
+    let refused = answer(rt.alloc(), &mut world, &limits, script.as_str())?;
+    assert_eq!(rt; refused.as_str(), "out of steps");
+    try_rows(&rt, rt.alloc(), &mut world, &limits, "set x => 2 0 6")
 }
 
 #[test]
 fn limits_are_kept(rt: HostRuntime) -> Result<(), Fail> {
+    let alloc = rt.alloc();
     let limits = Limits::format1();
-    let mut world = first_world(rt.alloc())?;
-    let table = [("set x 12345", "1 0 12345"), ("$x$x", "2 1 E09 1234512345")];
-    compare(&rt, rt.alloc(), &mut world, &limits, &table)?;
+    let mut world = first_world(alloc)?;
+    let rows = "set x 12345 => 1 0 12345\n$x$x => 2 1 E09 1234512345";
+    try_rows(&rt, alloc, &mut world, &limits, rows)?;
 
     let closed = Limits { depth: 0, ..limits };
-    let table = [("set x", "scripts too deep in one another")];
-    compare(&rt, rt.alloc(), &mut world, &closed, &table)?;
+    let rows = "set x => scripts too deep in one another";
+    try_rows(&rt, alloc, &mut world, &closed, rows)?;
 
     let one_item = Limits { items: 1, ..limits };
-    let table = [("set y 1", "too large"), ("set x 12346", "3 0 12346")];
-    compare(&rt, rt.alloc(), &mut world, &one_item, &table)?;
+    let rows = "set y 1 => too large\nset x 12346 => 3 0 12346";
+    try_rows(&rt, alloc, &mut world, &one_item, rows)?;
 
     let short = Limits { text: 8, ..limits };
-    let table = [
-        ("$x$x", "too large"),
-        ("set x 123", "bad input"),
-        ("set x 12", "4 0 12"),
-    ];
-    compare(&rt, rt.alloc(), &mut world, &short, &table)
+    let rows = "$x$x => too large\nset x 123 => bad input\nset x 12 => 4 0 12";
+    try_rows(&rt, alloc, &mut world, &short, rows)
 }
 
 #[test]
 fn a_clone_is_independent(rt: HostRuntime) -> Result<(), Fail> {
+    let alloc = rt.alloc();
     let limits = Limits::format1();
-    let mut world = first_world(rt.alloc())?;
-    compare(
-        &rt,
-        rt.alloc(),
-        &mut world,
-        &limits,
-        &[("set x 5", "1 0 5")],
-    )?;
+    let mut world = first_world(alloc)?;
+    try_rows(&rt, alloc, &mut world, &limits, "set x 5 => 1 0 5")?;
     let mut copy = world.try_clone()?;
-    compare(
-        &rt,
-        rt.alloc(),
-        &mut world,
-        &limits,
-        &[("set x 6", "2 0 6")],
-    )?;
-    compare(&rt, rt.alloc(), &mut copy, &limits, &[("set x", "2 0 5")])?;
+    try_rows(&rt, alloc, &mut world, &limits, "set x 6 => 2 0 6")?;
+    try_rows(&rt, alloc, &mut copy, &limits, "set x => 2 0 5")?;
     assert_eq!(rt; copy.grid().width(), 20);
     assert_eq!(rt; copy.grid().height(), 3);
     Ok(())

@@ -1,5 +1,6 @@
 use Rattle.std.proofs.Common.{Some, refl}
 use Rattle.std.proofs.lemmas.Result.{err_from_is_err_and}
+use Rattle.tks_desk.specs.Reading.{unread}
 use Rattle.tks_desk.specs.Requests.{ReadsRequest}
 use Rattle.tks_desk.specs.Answers.{CutOff}
 use Rattle.tks_desk.specs.declared.request.Request.TheVariants.{Bad, Quit, Post}
@@ -8,8 +9,8 @@ use Rattle.tks_desk.proofs.run.answer_line.Goals as goal
 
 pub returns-in_err-request-clause-turn : goal.returns-in_err-request-clause-turn
 returns-in_err-request-clause-turn g c =
-    let o = g.R.Read.remaining c.args.reader.now in
-    let left = g.R.Read.remaining c.next_request.new.reader in
+    let o = unread c.args.intake.now.skips_newline (g.R.Read.remaining c.args.reader.now) in
+    let left = unread c.next_request.new.intake.skips_newline (g.R.Read.remaining c.next_request.new.reader) in
     let world = c.args.session.now in
     let before = g.W.Write.contents c.args.writer.now in
     let p = err_from_is_err_and c.from_residual.result c.from_residual.ensures.1 in
@@ -17,8 +18,8 @@ returns-in_err-request-clause-turn g c =
 
 pub returns-in_err-put_last-in-Quit-clause-turn : goal.returns-in_err-put_last-in-Quit-clause-turn
 returns-in_err-put_last-in-Quit-clause-turn g c =
-    let o = g.R.Read.remaining c.args.reader.now in
-    let left = g.R.Read.remaining c.next_request.new.reader in
+    let o = unread c.args.intake.now.skips_newline (g.R.Read.remaining c.args.reader.now) in
+    let left = unread c.next_request.new.intake.skips_newline (g.R.Read.remaining c.next_request.new.reader) in
     let world = c.args.session.now in
     let before = g.W.Write.contents c.args.writer.now in
     let after = g.W.Write.contents c.put_last.new.writer in
@@ -29,8 +30,8 @@ returns-in_err-put_last-in-Quit-clause-turn g c =
 
 pub returns-in_err-put_last-in-Bad-clause-turn : goal.returns-in_err-put_last-in-Bad-clause-turn
 returns-in_err-put_last-in-Bad-clause-turn g c =
-    let o = g.R.Read.remaining c.args.reader.now in
-    let left = g.R.Read.remaining c.next_request.new.reader in
+    let o = unread c.args.intake.now.skips_newline (g.R.Read.remaining c.args.reader.now) in
+    let left = unread c.next_request.new.intake.skips_newline (g.R.Read.remaining c.next_request.new.reader) in
     let world = c.args.session.now in
     let before = g.W.Write.contents c.args.writer.now in
     let after = g.W.Write.contents c.put_last-in-Bad.new.writer in
@@ -41,17 +42,17 @@ returns-in_err-put_last-in-Bad-clause-turn g c =
 
 pub returns-in_ok-put_last-in-Bad-clause-turn : goal.returns-in_ok-put_last-in-Bad-clause-turn
 returns-in_ok-put_last-in-Bad-clause-turn g c =
-    let left = g.R.Read.remaining c.next_request.new.reader in
+    let left = unread c.next_request.new.intake.skips_newline (g.R.Read.remaining c.next_request.new.reader) in
     let world = c.args.session.now in
     let before = g.W.Write.contents c.args.writer.now in
     let after = g.W.Write.contents c.put_last-in-Bad.new.writer in
     let reads = rw (c.in-Some.is, c.in-Bad.is) at c.in_ok-request.ensures.request in
-    where_known (g.R.Read.remaining c.args.reader.now) (λ input. ReadsRequest input (Some Bad) left) _ (λ input h. bad_answered input left world before after h c.in_ok-put_last-in-Bad.ensures) reads
+    where_known (unread c.args.intake.now.skips_newline (g.R.Read.remaining c.args.reader.now)) (λ input. ReadsRequest input (Some Bad) left) _ (λ input h. bad_answered input left world before after h c.in_ok-put_last-in-Bad.ensures) reads
 
 pub returns-in_err-answer_input-in-Post-clause-turn : goal.returns-in_err-answer_input-in-Post-clause-turn
 returns-in_err-answer_input-in-Post-clause-turn g c =
-    let o = g.R.Read.remaining c.args.reader.now in
-    let left = g.R.Read.remaining c.next_request.new.reader in
+    let o = unread c.args.intake.now.skips_newline (g.R.Read.remaining c.args.reader.now) in
+    let left = unread c.next_request.new.intake.skips_newline (g.R.Read.remaining c.next_request.new.reader) in
     let world = c.args.session.now in
     let new = c.answer_input.new.session in
     let before = g.W.Write.contents c.args.writer.now in
