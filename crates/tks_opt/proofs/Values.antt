@@ -1,5 +1,5 @@
 -- The values of options, as the code keeps them.
-use Rattle.std.proofs.Common.{◌≡◌, ℕ, Bool, true, false, cond, List, [], ◌∷◌, Option, Some, None, is_some, Ok, Err, refl, sym, ap, subst, ◌∙◌, true≢false, if◌then◌else◌}
+use Rattle.std.proofs.Common.{◌≡◌, ℕ, Bool, true, false, cond, List, [], ◌∷◌, Option, Some, None, is_some, Result, Ok, Err, refl, sym, ap, subst, ◌∙◌, true≢false, if◌then◌else◌}
 use Rattle.std.specs.Prelude.{map}
 use Rattle.std.specs.List.{AllByRecursion}
 use Rattle.std.specs.Map.{lookup}
@@ -9,6 +9,7 @@ use Rattle.tks_text.specs.declared.class.Class.TheVariants as class
 use Rattle.tks_opt.specs.Table.{options_of, first_value, accepts, option_named}
 use Rattle.tks_text.specs.Fault.{fault_about}
 use Rattle.tks_text.specs.declared.fault.ErrorNumber.TheVariants.{BadValue}
+use Rattle.tks_text.specs.declared.fault.ScriptFault.{ScriptFault}
 use Rattle.tks_opt.specs.Options.{Options, Legal, same_name, value_in, replaced, first_options, had, after as then_set, or_unknown, accepted_as, with_value, configured}
 use Rattle.tks_opt.specs.declared.name.OptionName.{OptionName}
 use Rattle.tks_opt.specs.contracts.name.OptionName.{the_type}
@@ -52,6 +53,24 @@ still_legal t o value legal h = record {
   accepted = still_accepted t.class o value t.values h legal.accepted;
 }
 
+-- a value in the place of one that is looked up, and of none
+pub put_over : (o : OptionName) (value copy : List ℕ) (es after : List (OptionName × List ℕ)) (there : Bool) → there ≡ true → there ≡ is_some (lookup (same_name o) es) → copy ≡ value
+    → after ≡ insert_entry same_name es o copy → after ≡ replaced es o value
+put_over o value copy es after there found h same e =
+    e ∙ ap (insert_entry same_name es o) same ∙ put_there o value es (ap is_some (sym (looked_up o es)) ∙ sym h ∙ found)
+
+nothing_put : (o : OptionName) (value : List ℕ) (es : List (OptionName × List ℕ)) → is_some (value_in es o) ≡ false → replaced es o value ≡ es
+nothing_put o value [] h = refl
+nothing_put o value (e ∷ es) h = by (same_name o e.0) h (nothing_put o value es)
+  where
+    by : (b : Bool) → is_some (if b then Some e.1 else value_in es o) ≡ false → (is_some (value_in es o) ≡ false → replaced es o value ≡ es)
+        → (if b then (e.0, value) ∷ es else e ∷ replaced es o value) ≡ e ∷ es
+    by true h rest = absurd (true≢false h)
+    by false h rest = ap (λ fs. e ∷ fs) (rest h)
+
+pub not_put : (o : OptionName) (value : List ℕ) (es : List (OptionName × List ℕ)) (there : Bool) → there ≡ false → there ≡ is_some (lookup (same_name o) es) → replaced es o value ≡ es
+not_put o value es there absent h = nothing_put o value es (ap is_some (sym (looked_up o es)) ∙ sym h ∙ absent)
+
 -- options put in one after the other, each with its first value
 abbrev pub filled : Class → List ℕ → List (OptionName × List ℕ) → List OptionName → List (OptionName × List ℕ)
 filled c path es [] = es
@@ -74,7 +93,7 @@ names_first c path (o ∷ os) = ap (λ ps. o ∷ ps) (names_first c path os)
 first_accepted : (c : Class) (path : List ℕ) → AllByRecursion (λ e. accepts c e.0 e.1 ≡ true) (first_options c path).values
 first_accepted class.Root path = (refl, (refl, (refl, (refl, (refl, (refl, (refl, (refl, tt))))))))
 first_accepted class.Frame path = (refl, (refl, (refl, (refl, (refl, (refl, (refl, (refl, tt))))))))
-first_accepted class.Label path = (refl, (refl, (refl, (refl, (refl, (refl, (refl, (refl, (refl, (refl, tt))))))))))
+first_accepted class.Label path = (refl, (refl, (refl, (refl, (refl, (refl, (refl, (refl, (refl, tt)))))))))
 first_accepted class.Button path = (refl, (refl, (refl, (refl, (refl, (refl, (refl, (refl, (refl, (refl, (refl, (refl, tt))))))))))))
 first_accepted class.Checkbutton path = (refl, (refl, (refl, (refl, (refl, (refl, (refl, (refl, (refl, (refl, (refl, (refl, (refl, (refl, (refl, tt)))))))))))))))
 first_accepted class.Entry path = (refl, (refl, (refl, (refl, (refl, (refl, (refl, (refl, (refl, (refl, tt))))))))))
@@ -125,3 +144,39 @@ pub one_pair : (t u : Options) (rest behind more : List (List ℕ)) (text value 
     → configured u more ≡ configured t rest
 one_pair t u rest behind more text value r b h =
     sym (ap (configured t) (r ∙ ap (λ ws. text ∷ ws) b) ∙ ap (λ x. then_set x (λ v. configured v more)) h)
+
+-- ---- the class stays
+
+abbrev SameClass : Options → Result Options ScriptFault → Type 0
+SameClass t (Ok u) = u.class ≡ t.class
+SameClass t (Err fault) = Unit {0}
+
+accepted_class : (t : Options) (text value : List ℕ) (o : OptionName) → SameClass t (accepted_as t text value o)
+accepted_class t text value o = by (accepts t.class o value)
+  where
+    by : (b : Bool) → SameClass t (if b then Ok (record t { values = replaced t.values o value }) else Err (fault_about BadValue text))
+    by true = refl
+    by false = tt
+
+value_class : (t : Options) (text value : List ℕ) → SameClass t (with_value t text value)
+value_class t text value = by (had t.values (option_named text))
+  where
+    by : (o : Option OptionName) → SameClass t (then_set (or_unknown text o) (accepted_as t text value))
+    by None = tt
+    by (Some o) = accepted_class t text value o
+
+same_along : (t u : Options) (r : Result Options ScriptFault) → u.class ≡ t.class → SameClass u r → SameClass t r
+same_along t u (Ok v) first next = next ∙ first
+same_along t u (Err fault) first next = tt
+
+configured_class : (t : Options) (pairs : List (List ℕ)) → SameClass t (configured t pairs)
+configured_class t [] = refl
+configured_class t (text ∷ []) = refl
+configured_class t (text ∷ value ∷ pairs) = by (with_value t text value) (value_class t text value) (λ u. configured_class u pairs)
+  where
+    by : (r : Result Options ScriptFault) → SameClass t r → ((u : Options) → SameClass u (configured u pairs)) → SameClass t (then_set r (λ u. configured u pairs))
+    by (Err fault) same rest = tt
+    by (Ok u) same rest = same_along t u (configured u pairs) same (rest u)
+
+pub same_class : (t u : Options) (pairs : List (List ℕ)) → configured t pairs ≡ Ok u → u.class ≡ t.class
+same_class t u pairs h = subst (SameClass t) h (configured_class t pairs)

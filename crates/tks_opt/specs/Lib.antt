@@ -1,4 +1,7 @@
 pub mod Values
+pub mod Alignment
 pub mod Table
 pub mod Options
+pub mod Cells
+pub mod Calls
 pub mod Meets

@@ -1,7 +1,10 @@
 //! The options of windows: which ones a class has, what their values may be, and the values of one window.
 #![tactic(auto)]
 
+mod alignment;
 mod anchor;
+mod calls;
+mod cells;
 mod name;
 mod number;
 mod options;
@@ -9,7 +12,9 @@ mod said;
 mod state;
 mod table;
 
+pub use alignment::Alignment;
 pub use anchor::Anchor;
+pub use cells::{blank_rows, line_row};
 pub use name::OptionName;
 pub use number::{boolean_of, number_within};
 pub use options::Options;

@@ -1,9 +1,9 @@
-ghost use Rattle.std.specs.Prelude.{◌≡◌, IfOk, OnErr, option_map, option_and_then};
+ghost use Rattle.std.specs.Prelude.{◌≡◌, IfOk, OnErr, [], option_map, option_and_then};
 ghost use Rattle.tks_text.specs.Fault.{Gives, fault_about};
 ghost use Rattle.tks_opt.specs.Meets.{TellsSo};
 ghost use Rattle.tks_opt.specs.Table.{option_named, max_size};
 ghost use Rattle.tks_opt.specs.Values.{number_within, anchor_named, state_named};
-ghost use Rattle.tks_opt.specs.Options.{Legal, first_options, had, value_in, value_of, with_value, configured};
+ghost use Rattle.tks_opt.specs.Options.{Legal, first_options, had, value_in, value_of, with_value, configured, replaced};
 
 use crate::anchor::Anchor;
 use crate::name::OptionName;
@@ -154,14 +154,35 @@ impl Options {
     /// Gives options values: words that are names and values in turn, from left to right. A class without such
     /// an option, and a value that the option may not have, are errors about the name. A last name without a
     /// value is passed over.
+    #[tactic(auto, using(crate::proofs::Values::same_class))]
     pub fn configure(&mut self, pairs: &[Txt]) -> Result<(), Failure>
         ensures value { Gives (λ _. self.new) result (configured self.old pairs.now) }
         ensures err { OnErr result (self.new ≡ self.old) }
+        ensures class { self.new.class ≡ self.old.class }
     {
         let mut changed = self.try_clone()?;
         changed.set_all(pairs)?;
         *self = changed;
         Ok(())
+    }
+
+    /// The same options with another text, where the class has `-text`.
+    pub fn with_text(&self, text: &Txt) -> Result<Options, AllocError>
+        ensures { IfOk result (λ t. t ≡ record self.now { values = replaced self.now.values OptionName.Text text.now }) }
+    {
+        let mut options = self.try_clone()?;
+        if !options.values.contains_key(&OptionName::Text) {
+            return Ok(options);
+        }
+        options.values.insert(OptionName::Text, text.try_clone()?)?;
+        Ok(options)
+    }
+
+    /// A text without bytes.
+    pub(crate) fn empty_text(&self) -> Txt
+        ensures { result ≡ [] }
+    {
+        Txt::new(self.alloc)
     }
 
     /// Equal options.

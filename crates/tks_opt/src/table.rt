@@ -32,7 +32,6 @@ const OF_LABEL: &[OptionName] = &[
     OptionName::BorderWidth,
     OptionName::TakeFocus,
     OptionName::Text,
-    OptionName::TextVariable,
     OptionName::Width,
     OptionName::Anchor,
 ];

@@ -2,7 +2,7 @@
 # this project's options agree with Tk's: a class, words, and `ok`, `unknown` or `bad`.
 foreach {class words} {
     frame {-width 5} frame {-width abc} frame {-text x} frame {-height 10000 -width 0x10}
-    label {-text x -anchor nw} label {-anchor north} label {-command x} label {-textvariable v} label {-state}
+    label {-text x -anchor nw} label {-anchor north} label {-command x} button {-textvariable v} label {-state}
     button {-command x} button {-state active} button {-state readonly} button {-onvalue 1}
     button {-width 08}
     checkbutton {-variable v -onvalue a -offvalue b} checkbutton {-show x}

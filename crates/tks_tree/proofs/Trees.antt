@@ -3,6 +3,7 @@ use Rattle.std.proofs.Common.{rules, ◌≡◌, ℕ, ◌+◌, ◌<◌, ◌≤◌
 use Rattle.std.specs.Prelude.{◌⊎◌, ◌==◌}
 use Rattle.std.specs.List.{filter}
 use Rattle.std.specs.Option.{option_map}
+use Rattle.std.specs.Result.{is_ok}
 use Rattle.std.specs.Cmp.Lexicographic.{bytes_decides}
 use Rattle.std.proofs.lemmas.List.{append-nil}
 use Rattle.std.proofs.lemmas.Bool.{eqb-true, eq-eqb}
@@ -10,7 +11,7 @@ use Rattle.tks_text.specs.declared.fault.ErrorNumber.TheVariants.{BadPath, Windo
 use Rattle.tks_text.specs.Text.{same_text}
 use Rattle.tks_text.specs.declared.class.Class.{Class}
 use Rattle.tks_tree.specs.Path.{root_path, is_dot, before_dot, before_last_dot, or_root, parent_of, goes_on, is_within, is_path, are_names_behind_dot}
-use Rattle.tks_tree.specs.Windows.{Window, Windows, root, Refusal, of_path, has_path, max_number, parent_found, after, numbered, created, with_window, refused, OutOfNumbers}
+use Rattle.tks_tree.specs.Windows.{Window, Windows, root, Refusal, of_path, has_path, max_number, parent_found, free_path, after, numbered, created, with_window, refused, OutOfNumbers}
 use Rattle.tks_tree.specs.WellFormed.{Rise, StandsIn, Follows, AllFollow, WellFormed}
 
 -- ---- numbers
@@ -184,13 +185,30 @@ all_end before [] v all f = (subst (λ b. Follows b v) (append-nil before) f, tt
 all_end before (w ∷ ws) v all f =
     (all.0, all_end (before ++ w ∷ []) ws v all.1 (subst (λ b. Follows b v) (sym (append_assoc before (w ∷ []) ws)) f))
 
+-- what a free path has, and has not
+pub record Free (windows : List Window) (path : List ℕ) : Type 0 where
+  pub is_one : is_path path ≡ true
+  pub new : has_path windows path ≡ false
+  pub found : parent_found windows (parent_of path) ≡ Ok (tt {0})
+
+not_free : (why : Refusal) → (Err why) ≡ Ok (tt {0}) → ⊥
+not_free why h = true≢false (sym (ap (is_ok {T = Unit {0}} {E = Refusal}) h))
+
+pub free : (windows : List Window) (path : List ℕ) → free_path windows path ≡ Ok (tt {0}) → Free windows path
+free windows path h = by (is_path path) refl h
+  where
+    go : (b : Bool) → has_path windows path ≡ b → is_path path ≡ true → (if b then refused WindowExists path else parent_found windows (parent_of path)) ≡ Ok (tt {0}) → Free windows path
+    go true e is h = absurd (not_free _ h)
+    go false e is h = record { is_one = is; new = e; found = h }
+
+    by : (b : Bool) → is_path path ≡ b → (if not b then refused BadPath path else (if has_path windows path then refused WindowExists path else parent_found windows (parent_of path))) ≡ Ok (tt {0}) → Free windows path
+    by false e h = absurd (not_free _ h)
+    by true e h = go (has_path windows path) refl e h
+
 -- a window that nothing forbids is made
-pub made : (t : Windows) (path : List ℕ) (class : Class) → is_path path ≡ true → has_path t.windows path ≡ false
-    → parent_found t.windows (parent_of path) ≡ Ok (tt {0}) → t.next < max_number → created t path class ≡ Ok (t.next, with_window t path class)
-made t path class h new found below =
-    ap (λ (b : Bool). if not b then refused BadPath path else (if has_path t.windows path then refused WindowExists path else after (parent_found t.windows (parent_of path)) (λ _. numbered t path class))) h
-    ∙ ap (λ (b : Bool). if b then refused WindowExists path else after (parent_found t.windows (parent_of path)) (λ _. numbered t path class)) new
-    ∙ ap (λ r. after r (λ _. numbered t path class)) found
+pub made : (t : Windows) (path : List ℕ) (class : Class) → free_path t.windows path ≡ Ok (tt {0}) → t.next < max_number → created t path class ≡ Ok (t.next, with_window t path class)
+made t path class h below =
+    ap (λ r. after r (λ _. numbered t path class)) h
     ∙ ap (λ (b : Bool). if b then Ok (t.next, with_window t path class) else Err OutOfNumbers) (lt-ltb t.next max_number below)
 
 pub well_with : (t : Windows) (path : List ℕ) (class : Class) → WellFormed t → is_path path ≡ true → has_path t.windows path ≡ false

@@ -2,6 +2,7 @@
 -- errors there are, are this project's own).
 use Rattle.std.specs.Prelude.{ℕ, suc, ◌+◌, ◌^◌, Bool, not, is_some, ◌==◌, nat_lt, if◌then◌else◌, List, [], ◌∷◌, ◌++◌, map, take, drop, position, ◌≡◌, true, false, ◌⊎◌, Option, Some, None, Result, Ok, Err}
 use Rattle.std.specs.List.{find, filter}
+use Rattle.std.specs.Option.{option_map}
 use Rattle.tks_text.specs.Text.{same_text}
 use Rattle.tks_text.specs.declared.class.Class.{Class}
 use Rattle.tks_text.specs.declared.class.Class.TheVariants.{Root}
@@ -76,13 +77,17 @@ after (Err why) next = Err why
 abbrev pub numbered : Windows → List ℕ → Class → Result (ℕ × Windows) Refusal
 numbered t path class = if nat_lt t.next max_number then Ok (t.next, with_window t path class) else Err OutOfNumbers
 
--- a new window's number, and the windows with it: its path must be one, no window may have it, and the one
--- that it stands in must be there
-abbrev pub created : Windows → List ℕ → Class → Result (ℕ × Windows) Refusal
-created t path class =
+-- whether a window may have a path: it must be one, no window may have it, and the one that it stands in must be
+-- there
+abbrev pub free_path : List Window → List ℕ → Result (Unit {0}) Refusal
+free_path windows path =
     if not (is_path path) then refused BadPath path
-    else (if has_path t.windows path then refused WindowExists path
-    else after (parent_found t.windows (parent_of path)) (λ _. numbered t path class))
+    else (if has_path windows path then refused WindowExists path
+    else parent_found windows (parent_of path))
+
+-- a new window's number, and the windows with it
+abbrev pub created : Windows → List ℕ → Class → Result (ℕ × Windows) Refusal
+created t path class = after (free_path t.windows path) (λ _. numbered t path class)
 
 -- Destroying one.
 
@@ -102,6 +107,14 @@ or_missing path (Some w) = Ok w.number
 -- the number of the window of a path, which must be there
 abbrev pub resolved : Windows → List ℕ → Result ℕ ScriptFault
 resolved t path = or_missing path (of_path t.windows path)
+
+-- the number of the window that one stands in; `.` stands in none
+abbrev pub number_at : List Window → Option (List ℕ) → Option ℕ
+number_at windows None = None
+number_at windows (Some path) = option_map (λ w. w.number) (of_path windows path)
+
+abbrev pub parent : Windows → ℕ → Option ℕ
+parent t number = on_window (of_number t.windows number) None (λ w. number_at t.windows (parent_of w.path))
 
 -- The shape of the tree.
 

@@ -1,7 +1,7 @@
-ghost use Rattle.std.specs.Prelude.{◌≡◌, ◌↔◌, ◌==◌, ℕ, Bool, ◌<◌, not, position, length, reverse, slice_get, IfOk, OnErr, option_map};
+ghost use Rattle.std.specs.Prelude.{◌≡◌, ◌↔◌, ◌==◌, ℕ, Bool, Some, ◌<◌, not, position, length, reverse, slice_get, IfOk, OnErr, option_map};
 ghost use Rattle.tks_tree.specs.Path.{parent_of, is_within};
 ghost use Rattle.tks_text.specs.Fault.{Gives};
-ghost use Rattle.tks_tree.specs.Windows.{first_windows, of_path, has_path, of_number, parent_found, created, destroyed, resolved, children, preorder, others_behind, Chooses};
+ghost use Rattle.tks_tree.specs.Windows.{first_windows, of_path, has_path, of_number, parent_found, free_path, created, destroyed, resolved, number_at, parent, children, preorder, others_behind, Chooses};
 ghost use Rattle.tks_tree.specs.WellFormed.{WellFormed};
 ghost use Rattle.tks_tree.specs.View.{window_seen, window_kept, windows_kept, without_at};
 ghost use Rattle.tks_tree.specs.Meets.{MakesSo, AnswersSo};
@@ -132,11 +132,10 @@ impl Tree {
         }
     }
 
-    /// Makes a window. The text must be a path, no window may have it, and the one that it stands in must be
-    /// there: these errors are about the path, and the last about the parent's.
-    pub fn create(&mut self, path: &Txt, class: Class) -> Result<WindowId, CreateFault>
-        ensures value { MakesSo (λ id. (id, self.new)) result (created self.old path.now class) }
-        ensures err { OnErr result (self.new ≡ self.old) }
+    /// Whether a window may be made under a path. The text must be a path, no window may have it, and the one
+    /// that it stands in must be there: these errors are about the path, and the last about the parent's.
+    pub fn check_path(&self, path: &Txt) -> Result<(), CreateFault>
+        ensures { MakesSo (λ x. x) result (free_path self.now.windows path.now) }
     {
         if !is_path(path.as_bytes()) {
             return Err(error_about(ErrorNumber::BadPath, path));
@@ -145,6 +144,15 @@ impl Tree {
             return Err(error_about(ErrorNumber::WindowExists, path));
         }
         self.check_parent(path)?;
+        Ok(())
+    }
+
+    /// Makes a window, where one may be made under the path.
+    pub fn create(&mut self, path: &Txt, class: Class) -> Result<WindowId, CreateFault>
+        ensures value { MakesSo (λ id. (id, self.new)) result (created self.old path.now class) }
+        ensures err { OnErr result (self.new ≡ self.old) }
+    {
+        self.check_path(path)?;
         if self.next >= MAX_NUMBER {
             return Err(CreateFault::OutOfNumbers);
         }
@@ -171,6 +179,31 @@ impl Tree {
         };
         remove_within(&mut self.windows, place);
         Ok(())
+    }
+
+    // The number of the window that has these bytes as its path.
+    fn number_at(&self, path: &[u8]) -> Option<WindowId>
+        ensures { result ≡ number_at self.now.windows (Some path.now) }
+    {
+        for (other, entry) in &self.windows {
+            if path == other.as_bytes() {
+                return Some(entry.id);
+            }
+        }
+        None
+    }
+
+    /// The number of the window that one stands in; none for `.`, and for a number that no window has.
+    pub fn parent(&self, id: WindowId) -> Option<WindowId>
+        ensures { result ≡ parent self.now id }
+    {
+        let Some(window) = self.window(id) else {
+            return None;
+        };
+        let Some(path) = parent_of(window.path.as_bytes()) else {
+            return None;
+        };
+        self.number_at(path)
     }
 
     /// The windows that stand right in one, in the order in which they were made.

@@ -47,7 +47,7 @@ const VALUES_OF_WISH: &[(Class, &str, &str)] = &[
     (Class::Label, "-text x -anchor nw", ""),
     (Class::Label, "-anchor north", "E35 -anchor"),
     (Class::Label, "-command x", "E34 -command"),
-    (Class::Label, "-textvariable v", ""),
+    (Class::Button, "-textvariable v", ""),
     (Class::Button, "-command x", ""),
     (Class::Button, "-state active", ""),
     (Class::Button, "-state readonly", "E35 -state"),
@@ -75,6 +75,7 @@ const VALUES_OF_WISH: &[(Class, &str, &str)] = &[
 const OWN_VALUES: &[(Class, &str, &str)] = &[
     (Class::Root, "-width 10001", "E35 -width"),
     (Class::Root, "-relief any", ""),
+    (Class::Label, "-textvariable v", "E34 -textvariable"),
     (Class::Text, "-width 0", "E35 -width"),
     (Class::Entry, "-takefocus 2", "E35 -takefocus"),
     (Class::Listbox, "-selectmode none", "E35 -selectmode"),
