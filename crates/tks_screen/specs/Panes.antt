@@ -1,0 +1,26 @@
+-- What the windows show, one over the other: each as its rows of characters, at its place on the grid.
+use Rattle.std.specs.Prelude.{ℕ, ◌-◌, if◌then◌else◌, List, [], ◌∷◌}
+use Rattle.tks_opt.specs.Cells.{space}
+use Rattle.tks_state.specs.Layout.{covers}
+use Rattle.tks_state.specs.declared.kept.Kept.{Kept}
+use Rattle.tks_state.specs.declared.layout.Placed.{Placed}
+use Rattle.tks_screen.specs.Screen.{cell_in, rows_of}
+use Rattle.tks_screen.specs.declared.pane.Pane.{Pane}
+
+abbrev pub pane_of : List Kept → Placed → Pane
+pane_of kept p = record { area = p.area; rows = rows_of kept p }
+
+abbrev pub cell_of : Pane → ℕ → ℕ → ℕ
+cell_of p x y = cell_in p.rows (x - p.area.x) (y - p.area.y)
+
+-- a pane painted over what is below it, cell by cell
+abbrev pub over : Pane → ℕ → ℕ → ℕ → ℕ
+over p below x y = if covers p.area x y then cell_of p x y else below
+
+-- panes painted in order
+abbrev pub painted : ℕ → List Pane → ℕ → ℕ → ℕ
+painted below [] x y = below
+painted below (p ∷ panes) x y = painted (over p below x y) panes x y
+
+abbrev pub drawn : List Pane → ℕ → ℕ → ℕ
+drawn panes x y = painted space panes x y

@@ -1,0 +1,13 @@
+use Rattle.std.proofs.Common.{ap, sym, ◌∙◌, ◌∷◌}
+use Rattle.tks_state.specs.Layout.{sizes_before}
+use Rattle.tks_state.proofs.Layouts.{sizes_last}
+use Rattle.tks_state.proofs.layout.sizes_of.Goals as goal
+
+pub loop-one-preserved : goal.loop-one-preserved
+loop-one-preserved c =
+    let one = c.in-Some.one.now in
+    let before = c.in-Some.before.now in
+    let known = c.loop-one.sizes in
+    ap (sizes_before before) (c.in_ok-push.ensures.ok ∙ ap (λ size. record { window = one.window; size = size } ∷ known) c.size_of-size.ensures)
+    ∙ sym (sizes_last before c.loop-one.rest.now one known c.in-Some.ensures.cases.0)
+    ∙ c.loop-one.invariant

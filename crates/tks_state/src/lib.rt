@@ -1,0 +1,12 @@
+//! The world: what is kept between inputs, and where its windows lie on the grid.
+#![tactic(auto)]
+
+mod kept;
+mod layout;
+mod widget;
+mod world;
+
+pub use kept::Kept;
+pub use layout::{Placed, covers};
+pub use widget::Widget;
+pub use world::World;

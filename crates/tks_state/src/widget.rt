@@ -1,0 +1,116 @@
+ghost use Rattle.std.specs.Prelude.{◌≡◌, IfOk, OnErr};
+ghost use Rattle.tks_text.specs.Fault.{Gives};
+ghost use Rattle.tks_pack.specs.Packing.{capped};
+ghost use Rattle.tks_state.specs.Widget.{options_of, class_of, configured, called, requested, shown};
+
+use std::alloc::AllocError;
+use tks_button::{Frame, Label};
+use tks_opt::{Options, Said};
+use tks_pack::Extent;
+use tks_text::{Failure, Seq, Txt};
+
+/// What a window is, by its class.
+#[derive(Drop)]
+pub enum Widget {
+    /// A frame, or `.`.
+    Frame(Frame),
+    Label(Label),
+}
+
+// So many cells, as far as they are told of.
+fn capped(cells: usize) -> u32
+    ensures { result ≡ capped cells }
+{
+    cells.min(u32::MAX as usize) as u32
+}
+
+impl Widget {
+    /// Its options; they say its class too.
+    pub fn options(&self) -> &Options
+        ensures { result.now ≡ options_of self.now }
+    {
+        match self {
+            Widget::Frame(frame) => frame.options(),
+            Widget::Label(label) => label.options(),
+        }
+    }
+
+    /// Gives options values: words that are names and values in turn. An option that its class lacks, and a value
+    /// that it may not have, are errors about the name, and leave all as it was.
+    pub fn configure(&mut self, pairs: &[Txt]) -> Result<(), Failure>
+        ensures value { Gives (λ _. self.new) result (configured self.old pairs.now) }
+        ensures err { OnErr result (self.new ≡ self.old) }
+        ensures class { class_of self.new ≡ class_of self.old }
+    {
+        match self {
+            Widget::Frame(frame) => {
+                frame.configure(pairs)?;
+                Ok(())
+            }
+            Widget::Label(label) => {
+                label.configure(pairs)?;
+                Ok(())
+            }
+        }
+    }
+
+    /// What the words of a whole command come to, the window's path first.
+    pub fn call(&mut self, words: &[Txt]) -> Result<Said, Failure>
+        ensures value { Gives (λ said. (said, self.new)) result (called self.old words.now) }
+        ensures err { OnErr result (self.new ≡ self.old) }
+        ensures class { class_of self.new ≡ class_of self.old }
+    {
+        match self {
+            Widget::Frame(frame) => {
+                let said = frame.call(words)?;
+                Ok(said)
+            }
+            Widget::Label(label) => {
+                let said = label.call(words)?;
+                Ok(said)
+            }
+        }
+    }
+
+    /// How large it asks to be. No more than 2^32 - 1 cells are told of.
+    pub fn requested(&self) -> Extent
+        ensures { result ≡ requested self.now }
+    {
+        match self {
+            Widget::Frame(frame) => Extent {
+                width: capped(frame.requested_width()),
+                height: capped(frame.requested_height()),
+            },
+            Widget::Label(label) => Extent {
+                width: capped(label.requested_width()),
+                height: capped(label.requested_height()),
+            },
+        }
+    }
+
+    /// The characters that it shows in an area, row by row.
+    pub fn shown(&self, width: usize, height: usize) -> Result<Seq<Seq<u8>>, AllocError>
+        ensures { IfOk result (λ cells. cells ≡ shown self.now width height) }
+    {
+        match self {
+            Widget::Frame(frame) => {
+                let cells = frame.shown(width, height)?;
+                Ok(cells)
+            }
+            Widget::Label(label) => {
+                let cells = label.shown(width, height)?;
+                Ok(cells)
+            }
+        }
+    }
+
+    /// An equal widget.
+    pub fn try_clone(&self) -> Result<Widget, AllocError>
+        ensures { IfOk result (λ w. w ≡ self.now) }
+    {
+        match self {
+            Widget::Frame(frame) => Ok(Widget::Frame(frame.try_clone()?)),
+            Widget::Label(label) => Ok(Widget::Label(label.try_clone()?)),
+        }
+    }
+}
