@@ -2,7 +2,7 @@
 use Rattle.std.proofs.Common.{◌≡◌, ℕ, Bool, true, false, List, [], ◌∷◌, ◌++◌, Option, Some, None, IfSome, Result, Ok, Err, refl, sym, ap, ◌∙◌, subst, append_assoc, append-nil}
 use Rattle.std.specs.Io.KnownBytes.{Appends}
 use Rattle.tks_text.specs.Limits.{format1}
-use Rattle.tks_world.specs.World.{World}
+use Rattle.tks_state.specs.World.{World}
 use Rattle.tks_world.specs.Step.{Accepts, Refuses, step}
 use Rattle.tks_world.specs.Meets.{RefusedSo}
 use Rattle.tks_world.specs.declared.input.Input.{Input}
@@ -11,8 +11,9 @@ use Rattle.tks_world.specs.declared.input.Refused.{Refused}
 use Rattle.tks_world.specs.declared.input.Refused.TheVariants.{BadInput, Budget, Depth, TooLarge, NoMemory}
 use Rattle.tks_desk.specs.Writing.{WritesSo, AppendsFront}
 use Rattle.tks_desk.specs.Requests.{requests_of, ReadsRequest}
-use Rattle.tks_desk.specs.Answers.{Granted, Withheld, Talk, said, answered, talk, bad_line, bye, reply_line, refusal_line, quits, answers_of, SoFar, Answers, CutOff, WrittenUpTo, resumed, AnswersInput, TurnsSo}
-use Rattle.tks_desk.specs.declared.request.Request.TheVariants.{Post, Quit, Bad}
+use Rattle.tks_desk.specs.Answers.{Granted, Withheld, Talk, said, answered, talk, bad_line, bye, reply_line, refusal_line, quits, answers_of, SoFar, Answers, CutOff, WrittenUpTo, resumed, screen_lines, memory_line, AnswersRequest, TurnsSo}
+use Rattle.tks_desk.specs.declared.request.Request.{Request}
+use Rattle.tks_desk.specs.declared.request.Request.TheVariants.{Post, Screen, Quit, Bad}
 use Rattle.tks_desk.specs.declared.ending.RunEnd.{RunEnd}
 use Rattle.tks_desk.specs.declared.ending.RunEnd.TheVariants as end
 use Rattle.tks_desk.specs.declared.ending.RunFault.{RunFault}
@@ -49,7 +50,7 @@ failed_up_to why a b xs h = subst (λ w. WrittenUpTo w a b xs) (sym h.0) h.1
 -- ---- an input
 
 pub input_accepted : (result : Result (Unit {0}) RunFault) (input : Input) (old new : World) (before after : Option (List ℕ)) (reply : Reply)
-    → step old input format1 ≡ Accepts new reply → WritesSo result before after (reply_line reply) → AnswersInput result input old new before after
+    → step old input format1 ≡ Accepts new reply → WritesSo result before after (reply_line reply) → AnswersRequest result (Post input) old new before after
 input_accepted result input old new before after reply is writes = record {
   memory = Granted ∷ [];
   answer = reply_line reply;
@@ -58,7 +59,7 @@ input_accepted result input old new before after reply is writes = record {
 }
 
 refused_so : (result : Result (Unit {0}) RunFault) (input : Input) (old new : World) (before after : Option (List ℕ)) (why : Refused)
-    → step old input format1 ≡ Refuses why → new ≡ old → WritesSo result before after (refusal_line why) → AnswersInput result input old new before after
+    → step old input format1 ≡ Refuses why → new ≡ old → WritesSo result before after (refusal_line why) → AnswersRequest result (Post input) old new before after
 refused_so result input old new before after why is same writes = record {
   memory = Granted ∷ [];
   answer = refusal_line why;
@@ -67,7 +68,7 @@ refused_so result input old new before after why is same writes = record {
 }
 
 pub input_refused : (result : Result (Unit {0}) RunFault) (input : Input) (old new : World) (before after : Option (List ℕ)) (why : Refused)
-    → RefusedSo why (step old input format1) → new ≡ old → WritesSo result before after (refusal_line why) → AnswersInput result input old new before after
+    → RefusedSo why (step old input format1) → new ≡ old → WritesSo result before after (refusal_line why) → AnswersRequest result (Post input) old new before after
 input_refused result input old new before after BadInput is same writes = refused_so result input old new before after BadInput is same writes
 input_refused result input old new before after Budget is same writes = refused_so result input old new before after Budget is same writes
 input_refused result input old new before after Depth is same writes = refused_so result input old new before after Depth is same writes
@@ -76,6 +77,26 @@ input_refused result input old new before after NoMemory is same writes = record
   memory = Withheld ∷ [];
   answer = refusal_line NoMemory;
   goes = λ rest later. ap (λ w. said (refusal_line NoMemory) (talk rest later w)) (sym same);
+  writes = writes;
+}
+
+-- ---- the screen
+
+pub screen_shown : (result : Result (Unit {0}) RunFault) (world : World) (before after : Option (List ℕ))
+    → WritesSo result before after (screen_lines world) → AnswersRequest result Screen world world before after
+screen_shown result world before after writes = record {
+  memory = Granted ∷ [];
+  answer = screen_lines world;
+  goes = λ rest later. refl;
+  writes = writes;
+}
+
+pub screen_not_shown : (result : Result (Unit {0}) RunFault) (world : World) (before after : Option (List ℕ))
+    → WritesSo result before after memory_line → AnswersRequest result Screen world world before after
+screen_not_shown result world before after writes = record {
+  memory = Withheld ∷ [];
+  answer = memory_line;
+  goes = λ rest later. refl;
   writes = writes;
 }
 
@@ -133,9 +154,9 @@ module _ (input : List ℕ) (left : Option (List ℕ)) (old : World) (before aft
     written = failed_up_to why before after bye wrote;
   }
 
-  -- an input
-  pub post_answered : (asked : Input) (new : World) → ReadsRequest input (Some (Post asked)) left → AnswersInput (Ok tt) asked old new before after → SoFar input left old new before after
-  post_answered asked new reads is = record {
+  -- an input, or the screen
+  pub request_answered : (asked : Request) (new : World) → ReadsRequest input (Some asked) left → AnswersRequest (Ok tt) asked old new before after → SoFar input left old new before after
+  request_answered asked new reads is = record {
     rest = reads.0;
     is = reads.1;
     memory = is.memory;
@@ -144,8 +165,8 @@ module _ (input : List ℕ) (left : Option (List ℕ)) (old : World) (before aft
     written = is.writes;
   }
 
-  pub post_cut_off : (asked : Input) (new : World) (why : RunFault) → ReadsRequest input (Some (Post asked)) left → AnswersInput (Err why) asked old new before after → CutOff input old new before after why
-  post_cut_off asked new why reads is = record {
+  pub request_cut_off : (asked : Request) (new : World) (why : RunFault) → ReadsRequest input (Some asked) left → AnswersRequest (Err why) asked old new before after → CutOff input old new before after why
+  request_cut_off asked new why reads is = record {
     rest = Some (requests_of reads.0);
     memory = is.memory;
     answers = is.answer;

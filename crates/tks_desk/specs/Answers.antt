@@ -2,7 +2,8 @@
 use Rattle.std.specs.Prelude.{◌≡◌, ℕ, ◌==◌, if◌then◌else◌, List, [], ◌∷◌, ◌++◌, Option, Some, None, Result, Ok, Err, Bool, true, false, codes, decimal}
 use Rattle.std.specs.Io.KnownBytes.{Appends}
 use Rattle.tks_text.specs.Limits.{format1}
-use Rattle.tks_world.specs.World.{World}
+use Rattle.tks_state.specs.World.{World}
+use Rattle.tks_screen.specs.Screen.{shown}
 use Rattle.tks_world.specs.Step.{Stepped, Accepts, Refuses, step}
 use Rattle.tks_world.specs.declared.input.Input.{Input}
 use Rattle.tks_world.specs.declared.input.Reply.{Reply}
@@ -11,7 +12,7 @@ use Rattle.tks_world.specs.declared.input.Refused.TheVariants.{BadInput, Budget,
 use Rattle.tks_desk.specs.Writing.{joined, escaped, WritesSo, AppendsFront}
 use Rattle.tks_desk.specs.Requests.{requests_of}
 use Rattle.tks_desk.specs.declared.request.Request.{Request}
-use Rattle.tks_desk.specs.declared.request.Request.TheVariants.{Post, Quit, Bad}
+use Rattle.tks_desk.specs.declared.request.Request.TheVariants.{Post, Screen, Quit, Bad}
 use Rattle.tks_desk.specs.declared.ending.RunEnd.{RunEnd}
 use Rattle.tks_desk.specs.declared.ending.RunEnd.TheVariants as end
 use Rattle.tks_desk.specs.declared.ending.RunFault.{RunFault}
@@ -39,6 +40,21 @@ reply_line reply = joined (verdict reply.code ∷ decimal reply.number ∷ after
 
 abbrev pub refusal_line : Refused → List ℕ
 refusal_line why = joined (codes "refused " ∷ refusal_name why ∷ codes "\n" ∷ [])
+
+-- a row of the screen between bars
+abbrev pub row_line : List ℕ → List ℕ
+row_line row = joined (codes "|" ∷ row ∷ codes "|\n" ∷ [])
+
+abbrev pub rows_lines : List (List ℕ) → List ℕ
+rows_lines [] = []
+rows_lines (row ∷ rows) = row_line row ++ rows_lines rows
+
+-- what the screen shows, row by row
+abbrev pub screen_lines : World → List ℕ
+screen_lines world = rows_lines (shown world)
+
+abbrev pub memory_line : List ℕ
+memory_line = codes "fault memory\n"
 
 abbrev pub bad_line : List ℕ
 bad_line = codes "bad line\n"
@@ -73,11 +89,15 @@ answered (Accepts new reply) world next = said (reply_line reply) (next new)
 answered (Refuses why) world next = said (refusal_line why) (next world)
 
 -- the answers to requests, up to `quit`. Where memory was withheld from an input it is refused for that,
--- and the world stays; the list says so of the inputs in order, and where it ends memory was there
+-- and the world stays, and where it was withheld from the screen this isn't shown; the list says so of inputs and
+-- screens in order, and where it ends memory was there
 abbrev pub talk : List Request → List Memory → World → Talk
 talk [] memory world = record { written = []; world = world; has_quit = false }
 talk (Quit ∷ rest) memory world = said bye (over world)
 talk (Bad ∷ rest) memory world = said bad_line (talk rest memory world)
+talk (Screen ∷ rest) [] world = said (screen_lines world) (talk rest [] world)
+talk (Screen ∷ rest) (Granted ∷ memory) world = said (screen_lines world) (talk rest memory world)
+talk (Screen ∷ rest) (Withheld ∷ memory) world = said memory_line (talk rest memory world)
 talk (Post input ∷ rest) [] world = answered (step world input format1) world (talk rest [])
 talk (Post input ∷ rest) (Granted ∷ memory) world = answered (step world input format1) world (talk rest memory)
 talk (Post input ∷ rest) (Withheld ∷ memory) world = said (refusal_line NoMemory) (talk rest memory world)
@@ -130,11 +150,11 @@ pub record CutOff (input : List ℕ) (old new : World) (before after : Option (L
 
 -- ---- one turn of a run
 
--- an input is answered: the text, and how the answers to it and to any requests behind it go on
-pub record AnswersInput (result : Result (Unit {0}) RunFault) (input : Input) (old new : World) (before after : Option (List ℕ)) : Type 0 where
+-- a request is answered: the text, and how the answers to it and to any requests behind it go on
+pub record AnswersRequest (result : Result (Unit {0}) RunFault) (request : Request) (old new : World) (before after : Option (List ℕ)) : Type 0 where
   pub memory : List Memory
   pub answer : List ℕ
-  pub goes : (rest : List Request) (later : List Memory) → talk (Post input ∷ rest) (memory ++ later) old ≡ said answer (talk rest later new)
+  pub goes : (rest : List Request) (later : List Memory) → talk (request ∷ rest) (memory ++ later) old ≡ said answer (talk rest later new)
   pub writes : WritesSo result before after answer
 
 -- a run goes on, came to its end, or is cut off

@@ -8,7 +8,7 @@ use Rattle.tks_world.specs.declared.input.Input.TheVariants.{Script}
 use Rattle.tks_desk.specs.Lines.{first_line, after_line, past_newline}
 use Rattle.tks_desk.specs.Reading.{max_line}
 use Rattle.tks_desk.specs.declared.request.Request.{Request}
-use Rattle.tks_desk.specs.declared.request.Request.TheVariants.{Post, Quit, Bad}
+use Rattle.tks_desk.specs.declared.request.Request.TheVariants.{Post, Screen, Quit, Bad}
 use Rattle.tks_desk.specs.declared.request.Asked.{Asked}
 use Rattle.tks_desk.specs.declared.request.Asked.TheVariants.{Alone, Load}
 
@@ -30,15 +30,16 @@ abbrev pub loads : Option ℕ → Asked
 loads None = Alone Bad
 loads (Some n) = if nat_le n max_load then Load n else Alone Bad
 
--- a line that is a text: `quit`, `cmd` for the empty script, `cmd` with a space and a script, `load` with a
+-- a line that is a text: `quit`, `screen`, `cmd` for the empty script, `cmd` with a space and a script, `load` with a
 -- space and a number, or another
 abbrev pub asked_of_text : List ℕ → Asked
 asked_of_text line =
     if same_text line (codes "quit") then Alone Quit
+    else (if same_text line (codes "screen") then Alone Screen
     else (if same_text line (codes "cmd") then Alone (Post (Script []))
     else (if same_text (take 4 line) (codes "cmd ") then Alone (Post (Script (drop 4 line)))
     else (if same_text (take 5 line) (codes "load ") then loads (number_in (drop 5 line))
-    else Alone Bad)))
+    else Alone Bad))))
 
 -- a line over the limit, or with a byte that stands in no text, asks for nothing
 abbrev pub asked_of : List ℕ → Asked

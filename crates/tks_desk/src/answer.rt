@@ -1,11 +1,13 @@
 ghost use Rattle.std.specs.Prelude.{◌≡◌, codes};
 ghost use Rattle.tks_desk.specs.Writing.{WritesSo};
-ghost use Rattle.tks_desk.specs.Answers.{after_space, refusal_line, refusal_name, reply_line, verdict};
+ghost use Rattle.tks_desk.specs.Answers.{after_space, refusal_line, refusal_name, reply_line, row_line, rows_lines, verdict};
 
 use crate::ending::RunFault;
 use crate::output::{put, put_escaped, put_last};
 use itoa::Buffer;
 use std::io::Write;
+use tks_screen::Grid;
+use tks_text::Seq;
 use tks_world::{Refused, Reply};
 
 #[tactic(auto, using(crate::proofs::Writes::joined_writes))]
@@ -54,4 +56,32 @@ fn name_of(why: Refused) -> &'static str
         Refused::TooLarge => "large",
         Refused::NoMemory => "memory",
     }
+}
+
+/// Writes the rows of the screen, each between bars.
+pub fn put_screen<W: Write>(writer: &mut W, grid: &Grid) -> Result<(), RunFault>
+    ensures { WritesSo result (W.contents writer.old) (W.contents writer.new) (rows_lines grid.now.rows) }
+{
+    put_rows(writer, grid.rows())?;
+    put_last(writer, b"")
+}
+
+// Writes rows, each between bars.
+fn put_rows<W: Write>(writer: &mut W, rows: &[Seq<u8>]) -> Result<(), RunFault>
+    ensures { WritesSo result (W.contents writer.old) (W.contents writer.new) (rows_lines rows.now) }
+{
+    for row in rows {
+        put_row(writer, row)?;
+    }
+    Ok(())
+}
+
+// Writes a row of the screen.
+#[tactic(auto, using(crate::proofs::Writes::joined_writes))]
+fn put_row<W: Write>(writer: &mut W, row: &Seq<u8>) -> Result<(), RunFault>
+    ensures { WritesSo result (W.contents writer.old) (W.contents writer.new) (row_line row.now) }
+{
+    put(writer, b"|")?;
+    put(writer, row.as_slice())?;
+    put(writer, b"|\n")
 }

@@ -43,7 +43,10 @@ fn serve(rt: HostRuntime, size: Size) -> ExitCode {
     let Ok(mut writer) = BufWriter::new(alloc, rt.stdout()) else {
         return ExitCode::from(NO_MEMORY);
     };
-    let mut session = Plain::new(alloc, World::first(alloc, size));
+    let Ok(world) = World::first(alloc, size) else {
+        return ExitCode::from(NO_MEMORY);
+    };
+    let mut session = Plain::new(alloc, world);
     match run(alloc, &mut reader, &mut writer, &mut session) {
         Ok(_) => ExitCode::SUCCESS,
         Err(RunFault::Read | RunFault::Write) => ExitCode::from(BAD_STREAM),

@@ -16,11 +16,12 @@ pub struct Plain {
 }
 
 impl Model for Plain {
-    ghost use Rattle.tks_world.specs.World.{World, world_code};
+    ghost use Rattle.tks_state.specs.World.{World};
+    ghost use Rattle.tks_state.specs.contracts.world.World as state;
 
     ghost Value = { World };
 
-    ghost coded = { world_code };
+    ghost coded = { state.the_row.coded };
 
     ghost view = { λ p. p.world };
 }

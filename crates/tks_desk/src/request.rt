@@ -16,6 +16,8 @@ use tks_world::Input;
 pub enum Request {
     /// An input for the world.
     Post(Input),
+    /// What the screen shows.
+    Screen,
     /// The end.
     Quit,
     /// Nothing that is known.
@@ -130,6 +132,9 @@ fn text_asks(alloc: Global, line: &[u8]) -> Result<Asked, AllocError>
 {
     if line == b"quit".as_slice() {
         return Ok(Asked::Alone(Request::Quit));
+    }
+    if line == b"screen".as_slice() {
+        return Ok(Asked::Alone(Request::Screen));
     }
     if line == b"cmd".as_slice() {
         return Ok(Asked::Alone(Request::Post(Input::Script(Txt::new(alloc)))));

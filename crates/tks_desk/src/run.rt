@@ -1,16 +1,19 @@
 ghost use Rattle.std.specs.Prelude.{◌≡◌, ◌<◌, ◌^◌, IfOk, IfErr, IfSome};
+ghost use Rattle.tks_screen.specs.Screen.{shown};
+ghost use Rattle.tks_desk.specs.declared.request.Request.TheVariants.{Post, Screen};
 ghost use Rattle.tks_desk.specs.Reading.{ReadsAtMost, Pays, unread};
-ghost use Rattle.tks_desk.specs.Answers.{Answers, CutOff, AnswersInput, TurnsSo};
+ghost use Rattle.tks_desk.specs.Answers.{Answers, CutOff, AnswersRequest, TurnsSo};
 
-use crate::answer::{put_refusal, put_reply};
+use crate::answer::{put_refusal, put_reply, put_screen};
 use crate::ending::{RunEnd, RunFault};
 use crate::loading::Intake;
 use crate::output::put_last;
 use crate::plain::Plain;
 use crate::request::{Request, next_request};
-use std::alloc::Global;
+use std::alloc::{AllocError, Global};
 use std::io::{BufRead, Write};
-use tks_world::Input;
+use tks_screen::{Grid, dump};
+use tks_world::{Input, World};
 
 /// The most bytes that a run reads.
 const MAX_READ: u64 = 1 << 40;
@@ -62,11 +65,34 @@ fn answer_line<R: BufRead, W: Write>(
             put_last(writer, b"bad line\n")?;
             Ok(None)
         }
+        Request::Screen => {
+            answer_screen(alloc, writer, session)?;
+            Ok(None)
+        }
         Request::Post(input) => {
             answer_input(writer, session, &input)?;
             Ok(None)
         }
     }
+}
+
+// Writes what the screen shows, or that memory was refused.
+fn answer_screen<W: Write>(alloc: Global, writer: &mut W, session: &Plain) -> Result<(), RunFault>
+    ensures { AnswersRequest result Screen session.now session.now (W.contents writer.old) (W.contents writer.new) }
+{
+    match picture(alloc, session.world()) {
+        Ok(grid) => put_screen(writer, &grid),
+        Err(_) => put_last(writer, b"fault memory\n"),
+    }
+}
+
+// What the screen shows.
+fn picture(alloc: Global, world: &World) -> Result<Grid, AllocError>
+    ensures { IfOk result (λ grid. grid.rows ≡ shown world.now) }
+{
+    let mut grid = Grid::new(alloc, world.grid())?;
+    dump(alloc, world, &mut grid)?;
+    Ok(grid)
 }
 
 // Gives an input to the session and writes its answer.
@@ -75,7 +101,7 @@ fn answer_input<W: Write>(
     session: &mut Plain,
     input: &Input,
 ) -> Result<(), RunFault>
-    ensures { AnswersInput result input.now session.old session.new (W.contents writer.old) (W.contents writer.new) }
+    ensures { AnswersRequest result (Post input.now) session.old session.new (W.contents writer.old) (W.contents writer.new) }
 {
     match session.post(input) {
         Ok(reply) => put_reply(writer, &reply),

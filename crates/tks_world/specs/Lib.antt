@@ -1,4 +1,3 @@
-pub mod World
 pub mod Hosting
 pub mod Step
 pub mod Meets

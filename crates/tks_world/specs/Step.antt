@@ -7,8 +7,9 @@ use Rattle.tks_vars.specs.Variables.{Variables}
 use Rattle.tks_eval.specs.Outcome as outcome
 use Rattle.tks_eval.specs.Outcome.{Outcome, End, Stopped, Why, OutOfSteps, TooDeep}
 use Rattle.tks_eval.specs.Evaluation.{evaluate, settled}
-use Rattle.tks_world.specs.World.{World, without_variables}
-use Rattle.tks_world.specs.Hosting.{hosting}
+use Rattle.tks_state.specs.World.{World}
+use Rattle.tks_world.specs.Hosting.{hosting, without_variables}
+use Rattle.tks_world.specs.declared.host.Setting.{Setting}
 use Rattle.tks_world.specs.declared.input.Input.{Input}
 use Rattle.tks_world.specs.declared.input.Input.TheVariants as input
 use Rattle.tks_world.specs.declared.input.Reply.{Reply}
@@ -36,16 +37,16 @@ counted world code text variables =
     else Accepts (record world { accepted = world.accepted + 1; variables = variables }) (record { number = world.accepted + 1; code = code; text = text })
 
 -- a script's end accepts the input, a stop refuses it
-abbrev pub concluded : Outcome World → Stepped
+abbrev pub concluded : Outcome Setting → Stepped
 concluded (Stopped why) = Refuses (refusal_of why)
-concluded (End code text world variables fuel) = counted world code text variables
+concluded (End code text setting variables fuel) = counted setting.world code text variables
 
 -- the input's script, run to its end with all the steps that an input has
-abbrev pub script_ends : Limits → Script → World → Variables → Outcome World
-script_ends limits script world variables = settled limits (evaluate hosting limits limits.depth script world variables limits.fuel)
+abbrev pub script_ends : Limits → Script → Setting → Variables → Outcome Setting
+script_ends limits script setting variables = settled limits (evaluate hosting limits limits.depth script setting variables limits.fuel)
 
 -- a script over the limit is bad
 abbrev pub step : World → Input → Limits → Stepped
 step world (input.Script text) limits =
     if nat_lt limits.text (length text) then Refuses BadInput
-    else concluded (script_ends limits (script_of text) (without_variables world) world.variables)
+    else concluded (script_ends limits (script_of text) (record { world = without_variables world; limits = limits }) world.variables)

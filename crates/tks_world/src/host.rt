@@ -1,37 +1,49 @@
 ghost use Rattle.std.specs.Prelude.{◌≡◌};
 ghost use Rattle.tks_world.specs.Hosting.{hosting};
 
-use crate::world::World;
+use std::alloc::Global;
+use tks_cmd::command;
 use tks_eval::{Host, Plan};
+use tks_state::World;
 use tks_tcl::Stop;
-use tks_text::Txt;
+use tks_text::{Limits, Txt};
+use tks_tree::WindowId;
 use tks_vars::Vars;
 
-/// The world while a script runs in it. Its variables go beside it: those in it are none.
+/// What scripts change and look at beside variables: the world, whose variables are none meanwhile, and the limits
+/// that its commands keep.
+#[derive(Drop)]
+pub struct Setting {
+    pub world: World,
+    pub limits: Limits,
+}
+
+/// The world while a script runs in it.
 #[derive(Drop)]
 pub struct WorldHost {
-    pub world: World,
+    pub alloc: Global,
+    pub setting: Setting,
 }
 
 impl Host for WorldHost {
-    ghost use Rattle.tks_world.specs.World.{World};
+    type State = Setting;
 
-    type State = World;
-
-    ghost state = { λ h. h.world };
+    ghost state = { λ h. h.setting };
 
     ghost meaning = { hosting };
 
-    fn call(&mut self, _variables: &mut Vars, _words: &[Txt]) -> Result<Option<Plan>, Stop> {
-        Ok(None)
+    #[tactic(auto, using(crate::proofs::Answers::answers_within))]
+    fn call(&mut self, variables: &mut Vars, words: &[Txt]) -> Result<Option<Plan>, Stop> {
+        let Setting { world, limits } = &mut self.setting;
+        command(self.alloc, world, variables, words, limits)
     }
 
     fn owns(&self, _name: &Txt) -> bool {
         false
     }
 
-    fn alive(&self, _window: u64) -> bool {
-        false
+    fn alive(&self, window: u64) -> bool {
+        self.setting.world.kept(WindowId::of(window)).is_some()
     }
 
     fn fault(&mut self, _text: &Txt) -> Result<(), Stop> {

@@ -3,7 +3,8 @@
 
 mod host;
 mod input;
-mod world;
+mod steps;
 
 pub use input::{Input, Refused, Reply};
-pub use world::{World, step};
+pub use steps::step;
+pub use tks_state::World;

@@ -1,11 +1,11 @@
 use super::*;
 use std::process::Abort;
 use std::test::Fail;
-use tks_text::Txt;
+use tks_text::{Size, Txt};
 
 // The world before any input, on a grid of 20 by 3.
 fn first_world(alloc: Global) -> Result<World, Fail> {
-    Ok(World::first(alloc, Size::new(20, 3).ok_or("no such grid")?))
+    Ok(World::first(alloc, Size::new(20, 3).ok_or("no such grid")?)?)
 }
 
 // What a script does to a world: the reply's number, code and text, or why it is refused.

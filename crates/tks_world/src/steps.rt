@@ -2,92 +2,21 @@ ghost use Rattle.std.specs.Prelude.{◌≡◌, IfOk, IfErr, OnErr};
 ghost use Rattle.tks_text.specs.declared.fault.ErrorNumber.TheVariants.{OutsideLoop};
 ghost use Rattle.tks_tcl.specs.Cause.{bare};
 ghost use Rattle.tks_eval.specs.Meets.{EndsSo};
-ghost use Rattle.tks_world.specs.World.{first_world, without_variables};
 ghost use Rattle.tks_world.specs.Step.{script_ends, step, Accepts};
 ghost use Rattle.tks_world.specs.Meets.{FailsSo, RefusedSo};
 
-use crate::host::WorldHost;
+use crate::host::{Setting, WorldHost};
 use crate::input::{Input, Refused, Reply};
-use std::alloc::{AllocError, Global};
-use std::marker::Model;
+use std::alloc::Global;
 use tks_eval::{Ended, eval};
 use tks_parse::{Script, parse};
+use tks_state::World;
 use tks_tcl::{Stop, fits};
-use tks_text::{ErrorNumber, Limits, ScriptFault, Size};
+use tks_text::{ErrorNumber, Limits, ScriptFault};
 use tks_vars::Vars;
-
-/// What is kept between inputs.
-#[derive(Drop)]
-pub struct World {
-    accepted: u64,
-    grid: Size,
-    variables: Vars,
-}
 
 /// The greatest count of inputs.
 const MAX_COUNT: u64 = 1 << 62;
-
-impl Model for World {
-    ghost use Rattle.std.specs.Prelude.{◌≤◌, ◌^◌};
-    ghost use Rattle.tks_world.specs.World.{World, world_code};
-
-    ghost Value = { World };
-
-    ghost coded = { world_code };
-
-    ghost view = { λ w. record { accepted = w.accepted; grid = w.grid; variables = w.variables } };
-
-    ghost invariant = { λ w. w.accepted ≤ 2 ^ 62 };
-}
-
-impl World {
-    /// The world before any input, with a grid of this size.
-    pub fn first(alloc: Global, grid: Size) -> World
-        ensures { result ≡ first_world grid }
-    {
-        World {
-            accepted: 0,
-            grid,
-            variables: Vars::new(alloc),
-        }
-    }
-
-    /// How many inputs were accepted.
-    pub fn accepted(&self) -> u64
-        ensures { result ≡ self.now.accepted }
-    {
-        self.accepted
-    }
-
-    /// The grid's size.
-    pub fn grid(&self) -> Size
-        ensures { result ≡ self.now.grid }
-    {
-        self.grid
-    }
-
-    /// An equal world.
-    pub fn try_clone(&self) -> Result<World, AllocError>
-        ensures { IfOk result (λ w. w ≡ self.now) }
-    {
-        Ok(World {
-            accepted: self.accepted,
-            grid: self.grid,
-            variables: self.variables.try_clone()?,
-        })
-    }
-
-    // The world while a script runs in it.
-    fn without_variables(&self, alloc: Global) -> World
-        ensures { result ≡ without_variables self.now }
-    {
-        World {
-            accepted: self.accepted,
-            grid: self.grid,
-            variables: Vars::new(alloc),
-        }
-    }
-}
 
 /// What an input does to the world: it is accepted as a whole, with a reply, or refused, and then the
 /// world is as it was. The script runs in a copy until it is accepted.
@@ -106,20 +35,25 @@ pub fn step(
         return Err(Refused::BadInput);
     }
     let script = parse(alloc, text)?;
-    let mut variables = world.variables.try_clone()?;
+    let mut copy = world.try_clone()?;
+    let mut variables = copy.replace_variables(Vars::new(alloc));
     let mut host = WorldHost {
-        world: world.without_variables(alloc),
+        alloc,
+        setting: Setting {
+            world: copy,
+            limits: *limits,
+        },
     };
     let ended = run_script(alloc, &mut host, &mut variables, script, limits)?;
-    let mut next = host.world;
-    if next.accepted == MAX_COUNT {
+    let mut next = host.setting.world;
+    if next.accepted() == MAX_COUNT {
         return Err(Refused::TooLarge);
     }
-    next.accepted += 1;
-    next.variables = variables;
+    next.count_input();
+    next.replace_variables(variables);
     *world = next;
     Ok(Reply {
-        number: world.accepted,
+        number: world.accepted(),
         code: ended.code,
         text: ended.text,
     })
@@ -133,7 +67,7 @@ fn run_script(
     script: Script,
     limits: &Limits,
 ) -> Result<Ended, Stop>
-    ensures { EndsSo (script_ends limits.now script host.old.world variables.old) result host.new.world variables.new }
+    ensures { EndsSo (script_ends limits.now script host.old.setting variables.old) result host.new.setting variables.new }
 {
     let ended = eval(alloc, host, variables, script, limits)?;
     match ended.code {

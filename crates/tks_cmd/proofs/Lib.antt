@@ -1,0 +1,4 @@
+pub mod Each
+pub mod Errors
+pub mod Packs
+pub mod Results

@@ -1,0 +1,8 @@
+use Rattle.std.proofs.Common.{◌≡◌, drop}
+use Rattle.tks_cmd.specs.Packing.{window_of, windows_of}
+use Rattle.tks_cmd.specs.Changes.{each}
+use Rattle.tks_cmd.proofs.Each.{behind}
+use Rattle.tks_cmd.proofs.packing.windows_of.Given as goal
+
+abbrev pub invariant-loop-path : goal.invariant-loop-path
+invariant-loop-path l = behind l.ids (each (window_of l.world) (drop l.path-index l.paths)) ≡ windows_of l.world l.paths

@@ -1,0 +1,13 @@
+-- What holds of every command on windows (this project's own rule).
+use Rattle.std.specs.Prelude.{◌≡◌, ℕ, List}
+use Rattle.tks_text.specs.declared.limits.Limits.{Limits}
+use Rattle.tks_vars.specs.Variables.{Variables}
+use Rattle.tks_state.specs.World.{World}
+use Rattle.tks_eval.specs.Outcome.{Replies}
+use Rattle.tks_cmd.specs.Commands.{does}
+
+-- a command that ends in an error of its own has changed nothing
+abbrev pub ErrorsChangeNothing : Type 0
+ErrorsChangeNothing =
+    (limits : Limits) (w w' : World) (variables variables' : Variables) (words : List (List ℕ)) (text : List ℕ)
+    → does limits w variables words ≡ Replies 1 text w' variables' → (w' ≡ w) × (variables' ≡ variables)

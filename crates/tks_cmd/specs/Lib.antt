@@ -1,0 +1,7 @@
+pub mod Changes
+pub mod Windows
+pub mod Widgets
+pub mod Packing
+pub mod Commands
+pub mod Meets
+pub mod Laws

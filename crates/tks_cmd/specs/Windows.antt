@@ -1,0 +1,81 @@
+-- Making and destroying windows (frame(n), label(n), destroy(n); which errors there are, their order and the limits
+-- are this project's own).
+use Rattle.std.specs.Prelude.{ℕ, Bool, not, ◌==◌, ◌%◌, nat_lt, if◌then◌else◌, List, [], ◌∷◌, length, Result, Ok, Err}
+use Rattle.std.specs.List.{list_all}
+use Rattle.tks_text.specs.Text.{same_text}
+use Rattle.tks_text.specs.declared.class.Class.TheVariants as class
+use Rattle.tks_text.specs.declared.fault.ScriptFault.{ScriptFault}
+use Rattle.tks_text.specs.declared.limits.Limits.{Limits}
+use Rattle.tks_tcl.specs.Cause.{Cause, OverLimit, after, value_or_fault, wrong_words}
+use Rattle.tks_opt.specs.Options.{first_options}
+use Rattle.tks_tree.specs.Path.{root_path}
+use Rattle.tks_tree.specs.Windows.{of_path, on_window, free_path}
+use Rattle.tks_state.specs.World.{World, with_window, destroyed}
+use Rattle.tks_state.specs.Widget.{configured}
+use Rattle.tks_state.specs.declared.widget.Widget.{Widget}
+use Rattle.tks_state.specs.declared.widget.Widget.TheVariants as widget
+use Rattle.tks_cmd.specs.Changes.{Changed, silent, not_on_root, creation}
+use Rattle.tks_cmd.specs.declared.windows.WindowKind.{WindowKind}
+use Rattle.tks_cmd.specs.declared.windows.WindowKind.TheVariants as kind
+
+-- options that each have a value (options(n))
+abbrev pub are_paired : List (List ℕ) → Bool
+are_paired options = length options % 2 == 0
+
+-- ---- frame, label: path ?option value ..?
+
+-- a window of a kind as it is at first
+abbrev pub first_widget : WindowKind → List ℕ → Widget
+first_widget kind.Frame path = widget.Frame (first_options class.Frame path)
+first_widget kind.Label path = widget.Label (first_options class.Label path)
+
+-- the same with these options
+abbrev pub new_widget : WindowKind → List ℕ → List (List ℕ) → Result Widget Cause
+new_widget kind path options = value_or_fault (configured (first_widget kind path) options)
+
+-- the world with a window more
+abbrev pub added : World → List ℕ → Widget → Result World Cause
+added w path v = after (creation (with_window w path v)) (λ x. Ok x.1)
+
+module _ (limits : Limits) where
+  -- a window more passes no limit
+  abbrev pub room : World → Result (Unit {0}) Cause
+  room w = if nat_lt (length w.tree.windows) limits.items then Ok tt else Err OverLimit
+
+  -- a window made under a path: the path is looked at first, then the options, then the limit; the answer is the path
+  abbrev pub made : WindowKind → List ℕ → List (List ℕ) → World → Result Changed Cause
+  made kind path options w =
+      after (creation (free_path w.tree.windows path)) (λ _.
+      after (new_widget kind path options) (λ v.
+      after (room w) (λ _.
+      after (added w path v) (λ u. Ok (path, u)))))
+
+  -- the command with the words behind its name
+  abbrev pub make_does : WindowKind → List ℕ → List (List ℕ) → World → Result Changed Cause
+  make_does kind command [] w = wrong_words command
+  make_does kind command (path ∷ options) w = if are_paired options then made kind path options w else wrong_words command
+
+-- ---- destroy path ..
+
+-- whether a text is not the path of `.`
+abbrev pub is_other : List ℕ → Bool
+is_other path = not (same_text path root_path)
+
+-- a world changed, or as it was where the change is an error
+abbrev pub or_same : World → Result World ScriptFault → World
+or_same w (Ok v) = v
+or_same w (Err fault) = w
+
+-- a world without the window of a path, and without those in it; `.` stays
+abbrev pub without : World → List ℕ → World
+without w path = on_window (of_path w.tree.windows path) w (λ v. or_same w (destroyed w v.number))
+
+-- a world without the windows of these paths, taken out one after the other
+abbrev pub without_all : World → List (List ℕ) → World
+without_all w [] = w
+without_all w (path ∷ paths) = without_all (without w path) paths
+
+-- the command with the words behind its name: where `.` is among them, nothing is destroyed
+abbrev pub destroy_does : List ℕ → List (List ℕ) → World → Result Changed Cause
+destroy_does command [] w = wrong_words command
+destroy_does command (path ∷ paths) w = if list_all is_other (path ∷ paths) then silent (without_all w (path ∷ paths)) else not_on_root

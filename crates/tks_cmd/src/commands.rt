@@ -1,0 +1,59 @@
+ghost use Rattle.std.specs.Prelude.{◌≡◌};
+ghost use Rattle.tks_tcl.specs.Meets.{GivesSo};
+ghost use Rattle.tks_cmd.specs.Commands.{command_named, command_does};
+ghost use Rattle.tks_cmd.specs.Meets.{KeepsSo};
+
+use crate::packing::run_pack;
+use crate::windows::{WindowKind, run_destroy, run_make};
+use std::alloc::Global;
+use tks_state::World;
+use tks_tcl::Interrupt;
+use tks_text::{Limits, Txt};
+
+/// The commands on windows that have a name.
+#[derive(Clone, Copy)]
+pub enum Command {
+    /// The one that makes windows of a kind.
+    Make(WindowKind),
+    Destroy,
+    Pack,
+}
+
+impl Command {
+    /// The command of this name.
+    pub fn named(name: &Txt) -> Option<Command>
+        ensures { result ≡ command_named name.now }
+    {
+        let name = name.as_bytes();
+        if name == b"frame".as_slice() {
+            Some(Command::Make(WindowKind::Frame))
+        } else if name == b"label".as_slice() {
+            Some(Command::Make(WindowKind::Label))
+        } else if name == b"destroy".as_slice() {
+            Some(Command::Destroy)
+        } else if name == b"pack".as_slice() {
+            Some(Command::Pack)
+        } else {
+            None
+        }
+    }
+
+    /// What the command answers, given its first word and the others.
+    pub fn run(
+        self,
+        alloc: Global,
+        name: &Txt,
+        words: &[Txt],
+        world: &mut World,
+        limits: &Limits,
+    ) -> Result<Txt, Interrupt>
+        ensures value { GivesSo (λ t. (t, world.new)) result (command_does limits.now self name.now words.now world.old) }
+        ensures kept { KeepsSo result world.old world.new }
+    {
+        match self {
+            Command::Make(kind) => run_make(alloc, kind, name, words, world, limits),
+            Command::Destroy => run_destroy(alloc, name, words, world),
+            Command::Pack => run_pack(alloc, name, words, world),
+        }
+    }
+}
