@@ -5,3 +5,4 @@ pub mod Integers
 pub mod Prefixes
 pub mod Spelled
 pub mod Backslashes
+pub mod Escaped

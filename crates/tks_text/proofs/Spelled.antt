@@ -12,9 +12,10 @@ use Rattle.std.specs.List.{prefix_len, list_all}
 use Rattle.std.specs.Option.{option_map}
 use Rattle.std.specs.Str.Parse.{AllDigits, digits_value}
 use Rattle.tks_text.specs.Integer.{is_space, AreSpaces, AreDigits, BeginsOtherThan, Numeral, hex, octal, decimal, Signed, bare, plus, minus, SpellsInteger, number_in, number_behind_zero, unsigned_value, with_sign, signed_value, integer_value, fits_i64, integer_of}
+use Rattle.tks_text.specs.Text.{BeginsNot}
 use Rattle.tks_text.proofs.Tests.{or_case, neither}
 use Rattle.tks_text.proofs.Texts.{both}
-use Rattle.tks_text.proofs.Prefixes.{FailsFirst, prefix_passes, prefix_of, all_pass, passing_all}
+use Rattle.tks_text.proofs.Prefixes.{prefix_passes, prefix_of, all_pass, passing_all}
 
 -- ---- what is spelled is read
 
@@ -33,7 +34,7 @@ space_is_no_digit base c h e = rw (space_value c e) (grind (arith, common_steps)
 digit_is_no_space : (base c : ℕ) → base ≤ 36 → is_digit c base ≡ true → is_space c ≡ false
 digit_is_no_space base c h e = false_from_ne_true (is_space c) (λ s. let n = space_is_no_digit base c h s in absurd cc)
 
-spaces_fail : (base : ℕ) (y : List ℕ) → base ≤ 36 → AreSpaces y → FailsFirst (digit_in base) y
+spaces_fail : (base : ℕ) (y : List ℕ) → base ≤ 36 → AreSpaces y → BeginsNot (digit_in base) y
 spaces_fail base [] h s = tt
 spaces_fail base (c ∷ y) h s = space_is_no_digit base c h s.0
 
@@ -91,7 +92,7 @@ signed_is (c ∷ t) y _ (bare _ n h) s =
 numeral_no_space : (c : ℕ) → is_no_first c ≡ false → is_space c ≡ false
 numeral_no_space c e = (neither (is_space c) (c == 43) (neither (is_space c || (c == 43)) (c == 45) e).0).0
 
-signed_fails : (t y : List ℕ) (z : ℤ) → Signed t z → FailsFirst is_space (t ++ y)
+signed_fails : (t y : List ℕ) (z : ℤ) → Signed t z → BeginsNot is_space (t ++ y)
 signed_fails _ y _ (plus t n h) = refl
 signed_fails _ y _ (minus t n h) = refl
 signed_fails [] y _ (bare _ n h) = absurd (numeral_begins [] n h)

@@ -1,5 +1,5 @@
 -- Texts (this project's own rule): which bytes stand in one.
-use Rattle.std.specs.Prelude.{◌≡◌, ℕ, List, Bool, true, ◌||◌, ◌&&◌, ◌==◌, nat_le, nat_eq}
+use Rattle.std.specs.Prelude.{◌≡◌, ℕ, List, [], ◌∷◌, Bool, true, false, ◌||◌, ◌&&◌, ◌==◌, nat_le, nat_eq}
 use Rattle.std.specs.List.{AllByRecursion, list_all}
 use Rattle.std.specs.Cmp.Lexicographic.{pointwise}
 
@@ -20,3 +20,8 @@ is_text bytes = list_all is_text_byte bytes
 -- whether two texts are the same
 abbrev pub same_text : List ℕ → List ℕ → Bool
 same_text = pointwise nat_eq
+
+-- a text at its end, or that begins with a byte for which p fails
+abbrev pub BeginsNot : (ℕ → Bool) → List ℕ → Type 0
+BeginsNot p [] = Unit {0}
+BeginsNot p (c ∷ t) = p c ≡ false

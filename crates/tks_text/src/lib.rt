@@ -16,7 +16,7 @@ pub use backslash::escape;
 pub use class::Class;
 pub use fault::{ErrorNumber, Failure, ScriptFault};
 pub use integer::{Range, decimal_of, digits_len, integer_of, is_space, space_len, value_of};
-pub use laws::{decimal_reads_back, one_integer};
+pub use laws::{decimal_reads_back, one_escape, one_integer};
 pub use limits::Limits;
 pub use list::Seq;
 pub use size::Size;
