@@ -3,7 +3,8 @@ use Rattle.std.proofs.Common.{◌≡◌, ◌||◌, ◌==◌, ℕ, zero, suc, ◌
 use Rattle.std.specs.List.{list_all}
 use Rattle.std.specs.Prelude.{not}
 use Rattle.std.proofs.lemmas.Bool.{cond_both, eqb-true, false_from_ne_true}
-use Rattle.tks_text.specs.Backslash.{escape}
+use Rattle.tks_text.specs.Backslash.{has_meaning, n_newline, t_tab, control, itself}
+use Rattle.tks_text.specs.Text.{is_text_byte}
 use Rattle.tks_text.specs.Integer.{is_space}
 use Rattle.tks_text.proofs.Texts.{both}
 use Rattle.tks_list.specs.ListText.{nothing, CharsThen, no_char, char, escaped, begins_no_bare, BeginsOther, AtEndOrSpace, ElementThen, braced, bare, Splits}
@@ -68,37 +69,28 @@ braces_stand e y h =
 
 -- ---- elements in backslash form
 
-sign_escape : (c d : ℕ) (u : List ℕ) → escape (d ∷ u) ≡ Some (d, 1) → c == d ≡ true → escape (c ∷ u) ≡ Some (c, 1)
-sign_escape c d u e k = subst (λ x. escape (x ∷ u) ≡ Some (x, 1)) (sym (eqb-true c d k)) e
+-- c stands for itself behind a backslash
+abbrev StandsForItself : ℕ → Type 0
+StandsForItself c = (has_meaning c ≡ false) × (is_text_byte c ≡ true)
 
-escaped_sign : (c : ℕ) (u : List ℕ) → (c == 32) || is_sign c ≡ true → escape (c ∷ u) ≡ Some (c, 1)
-unfolding escape
-escaped_sign c u h =
-    or_case (c == 32) (is_sign c) h (sign_escape c 32 u refl)
+same_sign : (c d : ℕ) → StandsForItself d → c == d ≡ true → StandsForItself c
+same_sign c d s k = subst StandsForItself (sym (eqb-true c d k)) s
+
+sign_stands : (c : ℕ) → (c == 32) || is_sign c ≡ true → StandsForItself c
+sign_stands c h =
+    or_case (c == 32) (is_sign c) h (same_sign c 32 (refl, refl))
     (λ g. or_case _ (c == 125) g (λ f. or_case _ (c == 123) f (λ e. or_case _ (c == 92) e (λ d. or_case _ (c == 93) d (λ b. or_case _ (c == 91) b
-    (λ a. or_case _ (c == 59) a (λ k. or_case (c == 34) (c == 36) k (sign_escape c 34 u refl) (sign_escape c 36 u refl))
-    (sign_escape c 59 u refl)) (sign_escape c 91 u refl)) (sign_escape c 93 u refl)) (sign_escape c 92 u refl)) (sign_escape c 123 u refl)) (sign_escape c 125 u refl))
-
-hash_escape : (u : List ℕ) → escape (35 ∷ u) ≡ Some (35, 1)
-unfolding escape
-hash_escape u = refl
-
-newline_escape : (u : List ℕ) → escape (110 ∷ u) ≡ Some (10, 1)
-unfolding escape
-newline_escape u = refl
-
-tab_escape : (u : List ℕ) → escape (116 ∷ u) ≡ Some (9, 1)
-unfolding escape
-tab_escape u = refl
+    (λ a. or_case _ (c == 59) a (λ k. or_case (c == 34) (c == 36) k (same_sign c 34 (refl, refl)) (same_sign c 36 (refl, refl)))
+    (same_sign c 59 (refl, refl))) (same_sign c 91 (refl, refl))) (same_sign c 93 (refl, refl))) (same_sign c 92 (refl, refl))) (same_sign c 123 (refl, refl))) (same_sign c 125 (refl, refl)))
 
 char_stands : (c : ℕ) (e u y : List ℕ) → CharsThen Space y e u → CharsThen Space y (c ∷ e) (backslashed_char c ++ u)
 char_stands c e u y h =
     cond_both (c == 10) (92 ∷ 110 ∷ []) _ (λ t. CharsThen Space y (c ∷ e) (t ++ u))
-    (λ k. subst (λ x. CharsThen Space y (x ∷ e) (92 ∷ 110 ∷ u)) (sym (eqb-true c 10 k)) (escaped 10 1 e (110 ∷ u) (newline_escape u) h))
+    (λ k. subst (λ x. CharsThen Space y (x ∷ e) (92 ∷ 110 ∷ u)) (sym (eqb-true c 10 k)) (escaped 10 1 e (110 ∷ u) (control 110 10 u n_newline) refl h))
     (λ k. cond_both (c == 9) (92 ∷ 116 ∷ []) _ (λ t. CharsThen Space y (c ∷ e) (t ++ u))
-    (λ i. subst (λ x. CharsThen Space y (x ∷ e) (92 ∷ 116 ∷ u)) (sym (eqb-true c 9 i)) (escaped 9 1 e (116 ∷ u) (tab_escape u) h))
+    (λ i. subst (λ x. CharsThen Space y (x ∷ e) (92 ∷ 116 ∷ u)) (sym (eqb-true c 9 i)) (escaped 9 1 e (116 ∷ u) (control 116 9 u t_tab) refl h))
     (λ i. cond_both ((c == 32) || is_sign c) (92 ∷ c ∷ []) (c ∷ []) (λ t. CharsThen Space y (c ∷ e) (t ++ u))
-    (λ s. escaped c 1 e (c ∷ u) (escaped_sign c u s) h)
+    (λ s. let i = sign_stands c s in escaped c 1 e (c ∷ u) (itself c u i.0) i.1 h)
     (λ s. let n = neither (c == 32) (is_sign c) s in char c e u (rw (n.0, i, k) refl) (no_backslash c n.1) h)))
 
 chars_stand : (e y : List ℕ) → CharsThen Space y e (backslashed_chars e ++ y)
@@ -118,7 +110,7 @@ backslashed_stands [] y = braced [] nothing
 backslashed_stands (c ∷ e) y =
     cond_both (c == 35) (92 ∷ 35 ∷ backslashed_chars e) (backslashed_chars (c ∷ e)) (λ t. ElementThen y (c ∷ e) (t ++ y))
     (λ k. subst (λ x. ElementThen y (x ∷ e) (92 ∷ 35 ∷ backslashed_chars e ++ y)) (sym (eqb-true c 35 k))
-    (bare (35 ∷ e) (92 ∷ 35 ∷ backslashed_chars e ++ y) refl (escaped 35 1 e (35 ∷ (backslashed_chars e ++ y)) (hash_escape (backslashed_chars e ++ y)) (chars_stand e y))))
+    (bare (35 ∷ e) (92 ∷ 35 ∷ backslashed_chars e ++ y) refl (escaped 35 1 e (35 ∷ (backslashed_chars e ++ y)) (itself 35 (backslashed_chars e ++ y) refl) refl (chars_stand e y))))
     (λ k. bare (c ∷ e) (backslashed_chars (c ∷ e) ++ y)
     (subst (BeginsOther begins_no_bare) (sym (append_assoc (backslashed_char c) (backslashed_chars e) y)) (char_begins c (backslashed_chars e ++ y)))
     (chars_stand (c ∷ e) y))

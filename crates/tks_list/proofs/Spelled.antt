@@ -5,6 +5,7 @@ use Rattle.std.proofs.lemmas.List.{length-drop, drop-drop, append-nil}
 use Rattle.tks_text.specs.Integer.{is_space, AreSpaces}
 use Rattle.tks_text.specs.Run.{takes, Run, on_run}
 use Rattle.tks_text.proofs.Backslashes.{escape_within}
+use Rattle.tks_text.proofs.Escaped.{escape_in_text}
 use Rattle.tks_text.proofs.Runs.{behind, run_stops, run_takes, run_taken}
 use Rattle.tks_list.specs.ListText.{Matched, ends_at, CharsThen, no_char, char, escaped, begins_no_bare, AtEndOrSpace, ElementThen, braced, in_quotes, bare, Splits}
 use Rattle.tks_list.specs.Reading.{no_braces, closing_brace, char_step, chars_at, escape_step, behind_close, braced_element, quoted_element, quoted_step, bare_step, element_step, elements_at, list_of}
@@ -48,7 +49,8 @@ chars_read : (ends : Ends) (v e u : List ℕ) → CharsThen ends v e u → Stops
 unfolding char_step
 chars_read ends v _ _ no_char s = chars_end ends v s
 chars_read ends v _ _ (char c e u i b h) s = chars_step ends c 0 e (c ∷ u) v (rw (i, b) refl) (omega arith) (chars_read ends v e u h s)
-chars_read ends v _ _ (escaped c n e u x h) s =
+chars_read ends v _ _ (escaped c n e u b i h) s =
+    let x = escape_in_text u c n b i in
     let step : char_step ends (92 ∷ u) ≡ takes (λ y. c ∷ y) n = rw (backslash_inside ends) (ap escape_step x) in
     let one : suc n ≡ 1 + n = omega arith in
     chars_step ends c n e (92 ∷ u) v step (omega (arith, escape_within u c n x)) (subst (λ k. Reads ends e (drop k (92 ∷ u)) v) one (chars_read ends v e (drop n u) h s))

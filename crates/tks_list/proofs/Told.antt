@@ -2,6 +2,7 @@
 use Rattle.std.proofs.Common.{◌≡◌, ◌↔◌, ◌==◌, ℕ, zero, suc, ◌+◌, ◌-◌, true, false, List, [], ◌∷◌, ◌++◌, length, take, drop, Option, Some, None, Result, Ok, Err, refl, sym, ap, ◌∙◌, subst, arith}
 use Rattle.std.proofs.Math.Seq.{take-append_seam, drop-append-add}
 use Rattle.std.proofs.lemmas.Bool.{cond_both, eqb-true}
+use Rattle.tks_text.proofs.Escaped.{some_escape}
 use Rattle.tks_text.specs.Backslash.{escape}
 use Rattle.tks_text.specs.Integer.{is_space}
 use Rattle.tks_text.specs.Run.{Step, stop, fails, takes, Run, run, after_step, on_run}
@@ -46,7 +47,7 @@ char_outcome ends c u None e v i b h = (char c e u i b h.0, h.1)
 char_outcome ends c u (Some f) e v i b h = tt
 
 escape_outcome : (ends : Ends) (c d n : ℕ) (u : List ℕ) (o : Option ListFault) (e v : List ℕ) → c ≡ 92 → escape u ≡ Some (d, n) → CharsOutcome ends (drop n u) o e v → CharsOutcome ends (c ∷ u) o (d ∷ e) v
-escape_outcome ends c d n u None e v is x h = (subst (λ b. CharsThen ends v (d ∷ e) (b ∷ u)) (sym is) (escaped d n e u x h.0), h.1)
+escape_outcome ends c d n u None e v is x h = let s = some_escape u d n x in (subst (λ b. CharsThen ends v (d ∷ e) (b ∷ u)) (sym is) (escaped d n e u s.0 s.1 h.0), h.1)
 escape_outcome ends c d n u (Some f) e v is x h = tt
 
 abbrev CharsTold : Ends → List ℕ → List ℕ → Run ListFault (List ℕ) → Type 0

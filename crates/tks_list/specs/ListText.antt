@@ -1,9 +1,10 @@
 -- The list that a text splits into, by cases on the list: the rules of lindex(n) and Tcl(n) for lists.
 --
 -- "t is X, then v" says that X stands at the front of t, and v behind it.
-use Rattle.std.specs.Prelude.{◌≡◌, ℕ, Bool, true, false, ◌||◌, ◌==◌, List, [], ◌∷◌, ◌++◌, drop, Some}
-use Rattle.tks_text.specs.Backslash.{escape}
+use Rattle.std.specs.Prelude.{◌≡◌, ℕ, Bool, true, false, ◌||◌, ◌==◌, List, [], ◌∷◌, ◌++◌, drop}
+use Rattle.tks_text.specs.Backslash.{Escapes}
 use Rattle.tks_text.specs.Integer.{is_space, AreSpaces}
+use Rattle.tks_text.specs.Text.{is_text_byte}
 use Rattle.tks_list.specs.declared.ends.Ends.{Ends}
 use Rattle.tks_list.specs.declared.ends.Ends.TheVariants.{Space, Quote}
 
@@ -27,11 +28,12 @@ abbrev pub ends_at : Ends → ℕ → Bool
 ends_at Space c = is_space c
 ends_at Quote c = c == 34
 
--- t is characters and escapes that stand for e, then v
+-- t is characters and escapes that stand for e, then v. That no escape stands for a byte outside the texts is this
+-- project's own rule
 pub data CharsThen (ends : Ends) (v : List ℕ) : List ℕ → List ℕ → Type 0 where
   no_char : CharsThen ends v [] v
   char : (c : ℕ) (e u : List ℕ) → ends_at ends c ≡ false → c == 92 ≡ false → CharsThen ends v e u → CharsThen ends v (c ∷ e) (c ∷ u)
-  escaped : (c n : ℕ) (e u : List ℕ) → escape u ≡ Some (c, n) → CharsThen ends v e (drop n u) → CharsThen ends v (c ∷ e) (92 ∷ u)
+  escaped : (c n : ℕ) (e u : List ℕ) → Escapes u c n → is_text_byte c ≡ true → CharsThen ends v e (drop n u) → CharsThen ends v (c ∷ e) (92 ∷ u)
 
 -- ---- lists
 
