@@ -2,13 +2,13 @@
 use Rattle.std.proofs.Common.{◌≡◌, ℕ, suc, ◌+◌, ◌<◌, Bool, true, false, cond, eqb, List, [], ◌∷◌, ◌++◌, length, take, drop, refl, sym, ap, ◌∙◌, subst, arith, inl, inr}
 use Rattle.std.specs.Char.{is_digit}
 use Rattle.std.specs.List.{prefix_len}
-use Rattle.std.specs.Prelude.{codes, ◌||◌}
+use Rattle.std.specs.Prelude.{codes, ◌||◌, Option, Some, None, is_some}
 use Rattle.std.proofs.lemmas.Bool.{eqb-true, eqb-false, false_from_ne_true}
 use Rattle.std.proofs.lemmas.List.{take_at, drop_at, take-append-drop, length-take}
 use Rattle.std.proofs.lemmas.List.Sums.{prefix_len-le-length}
 use Rattle.tks_text.specs.Integer.{AreDigits, BeginsOtherThan}
-use Rattle.tks_text.specs.Text.{same_text}
-use Rattle.tks_parse.specs.Script.{BeginsNot}
+use Rattle.tks_text.specs.Text.{same_text, BeginsNot}
+use Rattle.tks_text.specs.Truth.{is_true_word, is_false_word}
 use Rattle.tks_parse.proofs.Tests.{if_case, and_cases, or_cases, prefix_none, prefix_all, prefix_name}
 use Rattle.tks_expr.specs.Expression.{LiteralThen}
 use Rattle.tks_expr.specs.Literal.{digits_len, behind_zero_len, numeral_len, is_truth_word, word_len, literal_len}
@@ -80,22 +80,24 @@ word_is_long w v e b =
     let long = words_len v b in
     let same : (s : List ℕ) → same_text w s ≡ true → IsLong v s → IsLong v w = λ s k h. subst (IsLong v) (sym (same_is w s k)) h in
     let is : List ℕ → Bool = same_text w in
-    elim (or_cases (is (codes "true") || is (codes "yes") || is (codes "on") || is (codes "false") || is (codes "no")) (is (codes "off")) e) [
-      | inr k ↦ same (codes "off") k long.5
-      | inl e ↦ elim (or_cases (is (codes "true") || is (codes "yes") || is (codes "on") || is (codes "false")) (is (codes "no")) e) [
-        | inr k ↦ same (codes "no") k long.4
-        | inl e ↦ elim (or_cases (is (codes "true") || is (codes "yes") || is (codes "on")) (is (codes "false")) e) [
-          | inr k ↦ same (codes "false") k long.3
-          | inl e ↦ elim (or_cases (is (codes "true") || is (codes "yes")) (is (codes "on")) e) [
-            | inr k ↦ same (codes "on") k long.2
-            | inl e ↦ elim (or_cases (is (codes "true")) (is (codes "yes")) e) [
-              | inr k ↦ same (codes "yes") k long.1
-              | inl k ↦ same (codes "true") k long.0
-            ]
-          ]
-        ]
+    let Is : Option Bool → Type 0 = λ o. is_some o ≡ true → IsLong v w in
+    if_case Is (is_true_word w) (Some true) _
+    (λ t s. elim (or_cases (is (codes "true") || is (codes "yes")) (is (codes "on")) t) [
+      | inr k ↦ same (codes "on") k long.2
+      | inl u ↦ elim (or_cases (is (codes "true")) (is (codes "yes")) u) [
+        | inr k ↦ same (codes "yes") k long.1
+        | inl k ↦ same (codes "true") k long.0
       ]
-    ]
+    ])
+    (λ n. if_case Is (is_false_word w) (Some false) None
+    (λ f s. elim (or_cases (is (codes "false") || is (codes "no")) (is (codes "off")) f) [
+      | inr k ↦ same (codes "off") k long.5
+      | inl u ↦ elim (or_cases (is (codes "false")) (is (codes "no")) u) [
+        | inr k ↦ same (codes "no") k long.4
+        | inl k ↦ same (codes "false") k long.3
+      ]
+    ])
+    (λ f s. absurd cc)) e
 
 pub literal_reads : (text t v : List ℕ) → LiteralThen text t v → LiteralAt text t v
 literal_reads _ _ _ (LiteralThen.hex ds v p q b) = literal_by (48 ∷ 120 ∷ ds) v (numeral_by (48 ∷ 120 ∷ ds ++ v) (suc (suc (length ds))) (hex_len ds v p q b) (omega arith)) (omega arith)

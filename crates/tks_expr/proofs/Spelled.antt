@@ -11,7 +11,8 @@ use Rattle.tks_parse.specs.Braces.{verbatim}
 use Rattle.tks_parse.specs.Class.{is_name_char}
 use Rattle.tks_parse.specs.Fault.{expression_syntax}
 use Rattle.tks_parse.specs.Reading as script
-use Rattle.tks_parse.specs.Script.{BeginsNot, NameThen, BracedNameThen, PartsThen, Fails, PartFails, BracketsFail, IndexFails}
+use Rattle.tks_text.specs.Text.{BeginsNot}
+use Rattle.tks_parse.specs.Script.{NameThen, BracedNameThen, PartsThen, Fails, PartFails, BracketsFail, IndexFails}
 use Rattle.tks_parse.specs.Tree.{Parts, no_part, variable, element, nested, chars}
 use Rattle.tks_parse.specs.declared.mode.Mode.TheVariants.{Quoted, Index}
 use Rattle.tks_parse.specs.declared.mode.Place.TheVariants.{Brackets}
@@ -186,7 +187,7 @@ module _ (d : ℕ) where
       part_fails _ _ (PartFails.name_unclosed name each) =
           operand_dollar (123 ∷ name) refl
           ∙ ap (made (123 ∷ name)) (sym (variable_at (script.nest d) (script.index d) (Quoted Expressions) (123 ∷ name)) ∙ part_fault d (Quoted Expressions) (36 ∷ 123 ∷ name) expression_syntax (brackets_fault d) (indexes_fault d) (PartFails.name_unclosed name each))
-      part_fails _ _ (PartFails.outside_texts u s h) = operand_escape u
+      part_fails _ _ (PartFails.outside_texts u c n s h e) = operand_escape u
 
       none_read : (t : List ℕ) → ((text v : List ℕ) → LiteralThen text t v → ⊥) → literal t ≡ bad_syntax
       unfolding literal

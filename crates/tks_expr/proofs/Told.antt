@@ -11,7 +11,8 @@ use Rattle.tks_parse.specs.Braces.{braced_len, verbatim}
 use Rattle.tks_parse.specs.Class.{is_name_char}
 use Rattle.tks_parse.specs.Fault.{expression_syntax}
 use Rattle.tks_parse.specs.Reading as script
-use Rattle.tks_parse.specs.Script.{BeginsNot, NameThen, BracedThen, PartsThen, Fails, PartFails, BracketsFail, IndexFails}
+use Rattle.tks_text.specs.Text.{BeginsNot}
+use Rattle.tks_parse.specs.Script.{NameThen, BracedThen, PartsThen, Fails, PartFails, BracketsFail, IndexFails}
 use Rattle.tks_parse.specs.Tree.{Parts, no_part, variable, element, nested, chars}
 use Rattle.tks_parse.specs.declared.mode.Mode.TheVariants.{Quoted}
 use Rattle.tks_parse.specs.declared.syntax.Syntax.TheVariants.{Expressions}

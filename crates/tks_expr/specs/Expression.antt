@@ -8,7 +8,8 @@ use Rattle.tks_text.specs.Integer.{is_space, AreSpaces, AreDigits, BeginsOtherTh
 use Rattle.tks_text.specs.declared.fault.ScriptFault.{ScriptFault}
 use Rattle.tks_parse.specs.Class.{is_name_char}
 use Rattle.tks_parse.specs.Fault.{expression_syntax, too_deeply_nested}
-use Rattle.tks_parse.specs.Script.{BeginsNot, BracedThen, Verbatim, PartsThen, Fails, PartFails, PartsFail, BracketsFail, IndexFails}
+use Rattle.tks_text.specs.Text.{BeginsNot}
+use Rattle.tks_parse.specs.Script.{BracedThen, Verbatim, PartsThen, Fails, PartFails, PartsFail, BracketsFail, IndexFails}
 use Rattle.tks_parse.specs.Tree.{Script, Parts, no_part, variable, element, nested, chars}
 use Rattle.tks_parse.specs.declared.mode.Mode.TheVariants.{Quoted}
 use Rattle.tks_parse.specs.declared.syntax.Syntax.TheVariants.{Expressions}

@@ -1,9 +1,8 @@
--- Operands that stand for themselves (expr(n), "Operands"): integers and truth words. Truth words in full and without capitals
--- are this project's own rule.
-use Rattle.std.specs.Prelude.{ℕ, ◌+◌, Bool, ◌||◌, ◌==◌, List, [], ◌∷◌, codes, take, if◌then◌else◌}
+-- Operands that stand for themselves (expr(n), "Operands"): integers and truth words.
+use Rattle.std.specs.Prelude.{ℕ, ◌+◌, Bool, ◌==◌, List, [], ◌∷◌, is_some, take, if◌then◌else◌}
 use Rattle.std.specs.Char.{is_digit}
 use Rattle.std.specs.List.{prefix_len}
-use Rattle.tks_text.specs.Text.{same_text}
+use Rattle.tks_text.specs.Truth.{truth_of_word}
 use Rattle.tks_expr.specs.Sign.{is_letter}
 
 -- how many digits of a base a text begins with
@@ -21,9 +20,7 @@ numeral_len [] = 0
 numeral_len (c ∷ u) = if c == 48 then behind_zero_len u else digits_len 10 (c ∷ u)
 
 abbrev pub is_truth_word : List ℕ → Bool
-is_truth_word t =
-    same_text t (codes "true") || same_text t (codes "yes") || same_text t (codes "on")
-    || same_text t (codes "false") || same_text t (codes "no") || same_text t (codes "off")
+is_truth_word t = is_some (truth_of_word t)
 
 -- how many bytes the truth word takes that a text begins with
 unfoldable pub word_len : List ℕ → ℕ

@@ -1,6 +1,6 @@
 -- What operators give for texts (expr(n), "OPERATORS"). That integers are those of 64 bits, and the
 -- errors, are this project's own rules.
-use Rattle.std.specs.Prelude.{ℕ, ◌^◌, Bool, true, false, not, ◌||◌, if◌then◌else◌, List, codes, ℤ, pos, negsuc, neg_ℤ, ◌+ℤ◌, ◌-ℤ◌, ◌*ℤ◌, Option, Some, None, Result, Ok, Err}
+use Rattle.std.specs.Prelude.{ℕ, ◌^◌, Bool, not, if◌then◌else◌, List, ℤ, pos, negsuc, neg_ℤ, ◌+ℤ◌, ◌-ℤ◌, ◌*ℤ◌, Option, Some, None, Result, Ok, Err}
 use Rattle.std.specs.declared.cmp.Ordering.{Ordering}
 use Rattle.std.specs.Ordering.{int_cmp, int_eq, nat_cmp, is_eq, is_lt, is_le, is_gt, is_ge}
 use Rattle.std.specs.Cmp.Lexicographic.{slice_cmp}
@@ -12,6 +12,7 @@ use Rattle.tks_text.specs.declared.fault.ErrorNumber.TheVariants.{NotAnInteger, 
 use Rattle.tks_text.specs.declared.fault.ScriptFault.{ScriptFault}
 use Rattle.tks_text.specs.declared.integer.Range.{Range}
 use Rattle.tks_text.specs.Fault.{fault_about}
+use Rattle.tks_text.specs.Truth.{truth_of_word}
 use Rattle.tks_expr.specs.Arithmetic.{quotient, remainder, complement, bits_of_both, bits_of_any, bits_of_one}
 use Rattle.tks_expr.specs.declared.operator.Binary.{Binary}
 use Rattle.tks_expr.specs.declared.operator.Binary.TheVariants as binary
@@ -39,12 +40,14 @@ integer_read text (Err range) = Err (fault_of OutOfRange)
 abbrev pub integer_in : List ℕ → Result ℤ ScriptFault
 integer_in text = integer_read text (integer_of text)
 
--- the truth that a word stands for (Tcl_GetBoolean(3), without short forms and capitals)
+-- what a text comes to as a condition, when it was read as a truth word
+abbrev pub word_read : List ℕ → Option Bool → Result Bool ScriptFault
+word_read text (Some holds) = Ok holds
+word_read text None = Err (fault_about NotAnInteger text)
+
+-- the truth that a word stands for
 abbrev pub truth_in_word : List ℕ → Result Bool ScriptFault
-truth_in_word text =
-    if same_text text (codes "true") || same_text text (codes "yes") || same_text text (codes "on") then Ok true
-    else (if same_text text (codes "false") || same_text text (codes "no") || same_text text (codes "off") then Ok false
-    else Err (fault_about NotAnInteger text))
+truth_in_word text = word_read text (truth_of_word text)
 
 -- what a text comes to as a condition, when it was read as an integer
 abbrev pub truth_read : List ℕ → Result (Option ℤ) Range → Result Bool ScriptFault

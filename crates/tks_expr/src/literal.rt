@@ -1,11 +1,11 @@
 //! Operands that stand for themselves: integers and truth words.
 ghost use Rattle.std.specs.Prelude.{◌≡◌, ◌≤◌, length};
 ghost use Rattle.std.specs.List.{prefix_len};
-ghost use Rattle.tks_expr.specs.Literal.{numeral_len, is_truth_word, word_len, literal_len};
+ghost use Rattle.tks_expr.specs.Literal.{numeral_len, word_len, literal_len};
 ghost use Rattle.tks_expr.specs.Sign.{is_letter};
 
 use crate::sign::is_letter;
-use tks_text::digits_len;
+use tks_text::{digits_len, truth_of_word};
 
 // How many bytes the integer at the front takes: `0x` and hex digits, `0` and octal digits, or decimal digits.
 #[tactic(auto, unfolding(crate::specs::Literal::numeral_len))]
@@ -33,17 +33,6 @@ fn letters_len(text: &[u8]) -> usize
     text.iter().take_while(|c| is_letter(**c)).count()
 }
 
-fn is_truth_word(text: &[u8]) -> bool
-    ensures { result ≡ is_truth_word text.now }
-{
-    text == b"true".as_slice()
-        || text == b"yes".as_slice()
-        || text == b"on".as_slice()
-        || text == b"false".as_slice()
-        || text == b"no".as_slice()
-        || text == b"off".as_slice()
-}
-
 // How many bytes the truth word at the front takes.
 #[tactic(auto, unfolding(crate::specs::Literal::word_len))]
 fn word_len(text: &[u8]) -> usize
@@ -51,7 +40,7 @@ fn word_len(text: &[u8]) -> usize
     ensures bound { result ≤ length text.now }
 {
     let len = letters_len(text);
-    if is_truth_word(text.split_at(len).0) {
+    if truth_of_word(text.split_at(len).0).is_some() {
         len
     } else {
         0

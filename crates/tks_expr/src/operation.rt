@@ -6,7 +6,7 @@ use crate::arithmetic::{Integers, fault_of, in_range};
 use crate::operator::{Binary, Unary};
 use std::alloc::Global;
 use std::cmp::Ordering;
-use tks_text::{ErrorNumber, Failure, ScriptFault, Txt, decimal_of, integer_of};
+use tks_text::{ErrorNumber, Failure, ScriptFault, Txt, decimal_of, integer_of, truth_of_word};
 
 // The integer that a text spells.
 fn integer_in(text: &Txt) -> Result<i64, Failure>
@@ -23,13 +23,9 @@ fn integer_in(text: &Txt) -> Result<i64, Failure>
 fn truth_in_word(text: &Txt) -> Result<bool, Failure>
     ensures { Gives (λ b. b) result (truth_in_word text.now) }
 {
-    let word = text.as_bytes();
-    if word == b"true".as_slice() || word == b"yes".as_slice() || word == b"on".as_slice() {
-        Ok(true)
-    } else if word == b"false".as_slice() || word == b"no".as_slice() || word == b"off".as_slice() {
-        Ok(false)
-    } else {
-        Err(Failure::Script(ScriptFault::about(ErrorNumber::NotAnInteger, text)?))
+    match truth_of_word(text.as_bytes()) {
+        Some(holds) => Ok(holds),
+        None => Err(Failure::Script(ScriptFault::about(ErrorNumber::NotAnInteger, text)?)),
     }
 }
 

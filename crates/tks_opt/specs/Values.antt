@@ -1,8 +1,9 @@
 -- What values of options spell (options(n), pack(n)); sizes, and what is told of no value, are this
 -- project's own.
-use Rattle.std.specs.Prelude.{ℕ, Bool, true, false, ◌&&◌, ◌==◌, not, nat_le, if◌then◌else◌, List, [], ◌∷◌, ℤ, pos, negsuc, Option, Some, None, Result, Ok, Err, codes}
+use Rattle.std.specs.Prelude.{ℕ, Bool, true, ◌&&◌, ◌==◌, not, nat_le, if◌then◌else◌, List, [], ◌∷◌, ℤ, pos, negsuc, Option, Some, None, Result, Ok, Err, codes}
 use Rattle.tks_text.specs.Text.{same_text}
 use Rattle.tks_text.specs.Integer.{integer_of}
+use Rattle.tks_text.specs.Truth.{truth_of_word}
 use Rattle.tks_text.specs.declared.integer.Range.{Range}
 use Rattle.tks_opt.specs.declared.anchor.Anchor.{Anchor}
 use Rattle.tks_opt.specs.declared.anchor.Anchor.TheVariants as anchor
@@ -36,12 +37,9 @@ abbrev pub or_else : {X : Type 0} → Option X → Option X → Option X
 or_else None other = other
 or_else (Some x) other = Some x
 
-abbrev pub truth_words : List (List ℕ × Bool)
-truth_words = (codes "true", true) ∷ (codes "yes", true) ∷ (codes "on", true) ∷ (codes "false", false) ∷ (codes "no", false) ∷ (codes "off", false) ∷ []
-
 -- the truth value that a text spells: one of six words, or an integer
 abbrev pub boolean : List ℕ → Option Bool
-boolean text = or_else (named_in truth_words text) (truth_of_integer (integer_of text))
+boolean text = or_else (truth_of_word text) (truth_of_integer (integer_of text))
 
 -- where something is put in what is larger
 abbrev pub anchors : List (List ℕ × Anchor)

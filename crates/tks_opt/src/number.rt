@@ -1,7 +1,7 @@
 ghost use Rattle.std.specs.Prelude.{◌≡◌};
-ghost use Rattle.tks_opt.specs.Values.{number_within, named_in, truth_words, boolean};
+ghost use Rattle.tks_opt.specs.Values.{number_within, boolean};
 
-use tks_text::{Txt, integer_of};
+use tks_text::{Txt, integer_of, truth_of_word};
 
 /// The integer that a text spells, where it lies from least to most.
 pub fn number_within(least: u16, most: u16, text: &Txt) -> Option<u16>
@@ -12,27 +12,6 @@ pub fn number_within(least: u16, most: u16, text: &Txt) -> Option<u16>
             Some(number as u16)
         }
         _ => None,
-    }
-}
-
-// The truth value of one of six words.
-fn truth_of_word(text: &[u8]) -> Option<bool>
-    ensures { result ≡ named_in truth_words text.now }
-{
-    if text == b"true".as_slice() {
-        Some(true)
-    } else if text == b"yes".as_slice() {
-        Some(true)
-    } else if text == b"on".as_slice() {
-        Some(true)
-    } else if text == b"false".as_slice() {
-        Some(false)
-    } else if text == b"no".as_slice() {
-        Some(false)
-    } else if text == b"off".as_slice() {
-        Some(false)
-    } else {
-        None
     }
 }
 

@@ -4,16 +4,17 @@ use Rattle.std.specs.Prelude.{◌||◌}
 use Rattle.std.specs.List.{AllByRecursion, prefix_len}
 use Rattle.std.proofs.Math.Dec.{eqb-suc-zero}
 use Rattle.std.proofs.lemmas.Bool.{eqb-true}
-use Rattle.std.proofs.lemmas.List.{length-take, take-append-drop, take_at, drop_at}
+use Rattle.std.proofs.lemmas.List.{take-append-drop, take_at, drop_at}
 use Rattle.std.proofs.lemmas.List.Sums.{prefix_len-le-length}
 use Rattle.tks_text.specs.Run.{Step, takes, Run, run, after_step}
 use Rattle.tks_text.specs.declared.fault.ScriptFault.{ScriptFault}
 use Rattle.tks_text.proofs.Runs.{run_takes}
 use Rattle.tks_parse.specs.Tree.{no_part, chars}
-use Rattle.tks_parse.specs.Class.{is_blank}
+use Rattle.tks_text.specs.Backslash.{is_blank}
 use Rattle.tks_parse.specs.Reading.{braced_at}
 use Rattle.tks_parse.specs.Braces.{quotes, ends_comment, comment_len, ends_braces, held_behind, braced_len, braced_escape, verbatim_step, verbatim}
-use Rattle.tks_parse.specs.Script.{BeginsNot, CommentThen, Nests, BracedThen, Verbatim}
+use Rattle.tks_text.specs.Text.{BeginsNot}
+use Rattle.tks_parse.specs.Script.{CommentThen, Nests, BracedThen, Verbatim}
 use Rattle.tks_parse.specs.declared.syntax.Syntax.{Syntax}
 use Rattle.tks_parse.proofs.Tests.{if_case, or_left, or_right, and_cases, drop_one, prefix_all, prefix_name}
 

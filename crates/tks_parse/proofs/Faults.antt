@@ -10,7 +10,9 @@ use Rattle.tks_parse.specs.Class.{is_no_close_brace, ends_word_at, is_expanded}
 use Rattle.tks_parse.specs.Fault.{missing_close_brace, missing_close_quote, text_after_close_quote, text_after_close_brace, missing_close_of_variable, told, syntax_of}
 use Rattle.tks_parse.specs.Braces.{braced_len, verbatim}
 use Rattle.tks_parse.specs.Reading.{close_name, braced_name_step, close_index, close_script, close_text, close_parts, braced_at, ended_word, closed_word, behind_bytes, nested_step, index_step, named_step, variable_step, part_step, parts_at, quoted_at, bare_word, plain_word, prefixed_word, word_step, words_at, words_command, command_step, commands_at, nest, index, closed, script_of}
-use Rattle.tks_parse.specs.Script.{BeginsNot, BeginsCommand, BracedThen, word_start, PartsThen, PartFails, PartsFail, WordFails, WordsFail, ScriptFails, BracketsFail, IndexFails, Spells}
+use Rattle.tks_text.proofs.Escaped.{escape_outside}
+use Rattle.tks_text.specs.Text.{BeginsNot}
+use Rattle.tks_parse.specs.Script.{BeginsCommand, BracedThen, word_start, PartsThen, PartFails, PartsFail, WordFails, WordsFail, ScriptFails, BracketsFail, IndexFails, Spells}
 use Rattle.tks_parse.specs.declared.mode.Place.{Place}
 use Rattle.tks_parse.specs.declared.mode.Place.TheVariants.{Alone, Brackets}
 use Rattle.tks_parse.specs.declared.mode.Mode.{Mode}
@@ -50,7 +52,7 @@ unfolding part_step named_step
 part_fault d m _ _ b i (PartFails.in_brackets s f h) = bracket_at (nest d) (index d) m s ∙ b s f h
 part_fault d m _ _ b i (PartFails.in_index name u s f n h) = variable_at (nest d) (index d) m u ∙ name_at (nest d) (index d) (syntax_of m) name u (40 ∷ s) n ∙ i (syntax_of m) name (length name) s f h
 part_fault d m _ _ b i (PartFails.name_unclosed name each) = variable_at (nest d) (index d) m (123 ∷ name) ∙ unclosed_at d (syntax_of m) name each
-part_fault d m _ _ b i (PartFails.outside_texts u s h) = rw (s, h) refl
+part_fault d m _ _ b i (PartFails.outside_texts u c n s h e) = rw (s, escape_outside u c n h e) refl
 
 pub parts_fault : (d : ℕ) (m : Mode) (t : List ℕ) (f : ScriptFault) → BracketsRead d → IndexesRead d → PartsFail (BracketsFail d) (IndexFails d) d m t f → (parts_at (nest d) (index d) m t).fault ≡ Some f
 unfolding parts_at part_step

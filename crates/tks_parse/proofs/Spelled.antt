@@ -11,9 +11,11 @@ use Rattle.tks_parse.specs.Tree.{Script, no_command, faulty, command, Words, no_
 use Rattle.tks_parse.specs.Class.{is_name_char, is_no_close_brace, ends_word_at, ends_command_at, is_expanded}
 use Rattle.tks_parse.specs.Fault.{missing_close_quote, text_after_close_brace, text_after_close_quote, told, syntax_of}
 use Rattle.tks_text.proofs.Backslashes.{escape_within}
+use Rattle.tks_text.proofs.Escaped.{escape_in_text}
 use Rattle.tks_parse.specs.Braces.{comment_len, verbatim}
 use Rattle.tks_parse.specs.Reading.{braced_name_step, close_index, close_script, close_text, close_parts, ended_word, closed_word, behind_bytes, nested_step, index_step, named_step, variable_step, part_step, parts_at, quoted_at, bare_word, plain_word, prefixed_word, word_step, words_at, words_command, command_step, commands_at, nest, index}
-use Rattle.tks_parse.specs.Script.{BeginsNot, BlanksThen, GapThen, BeginsCommand, NameThen, BracedNameThen, BracedThen, StandsForItself, EscapeThen, word_start, ScriptThen, WordsThen, PartsThen}
+use Rattle.tks_text.specs.Text.{BeginsNot}
+use Rattle.tks_parse.specs.Script.{BlanksThen, GapThen, BeginsCommand, NameThen, BracedNameThen, BracedThen, StandsForItself, EscapeThen, word_start, ScriptThen, WordsThen, PartsThen}
 use Rattle.tks_parse.specs.declared.mode.Place.{Place}
 use Rattle.tks_parse.specs.declared.mode.Place.TheVariants.{Brackets}
 use Rattle.tks_parse.specs.declared.mode.Mode.{Mode}
@@ -69,7 +71,7 @@ module _ (nest : List ℕ → Run ScriptFault Script) (index : Syntax → List �
 
   escape_at : (m : Mode) (c : ℕ) (u w : List ℕ) (h : EscapeThen m c u w) → part_step nest index m (92 ∷ u) ≡ takes (char c) h.taken
   unfolding part_step
-  escape_at m c u w h = rw (h.inside, h.is) refl
+  escape_at m c u w h = rw (h.inside, escape_in_text u c h.taken h.is h.text) refl
 
   -- a name, and what follows it
   pub name_at : (syntax : Syntax) (name u w : List ℕ) → NameThen name u w → variable_step index syntax u ≡ named_step index syntax name (length name) w
@@ -102,7 +104,7 @@ module _ (nest : List ℕ → Run ScriptFault Script) (index : Syntax → List �
 
   escape_read : (m : Mode) (c : ℕ) (u w : List ℕ) → EscapeThen m c u w → Reads (char c) (parts_at nest index m) (92 ∷ u) w
   unfolding parts_at part_step
-  escape_read m c u w h = reads_step no_part (part_step nest index m) (char c) h.taken 92 u w refl (escape_at m c u w h) (escape_within u c h.taken h.is) h.rest
+  escape_read m c u w h = reads_step no_part (part_step nest index m) (char c) h.taken 92 u w refl (escape_at m c u w h) (escape_within u c h.taken (escape_in_text u c h.taken h.is h.text)) h.rest
 
   scalar_read : (m : Mode) (name u w : List ℕ) → NameThen name u w → BeginsNot (λ c. eqb c 40) w → Reads (variable name) (parts_at nest index m) (36 ∷ u) w
   unfolding parts_at part_step

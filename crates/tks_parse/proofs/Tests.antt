@@ -4,8 +4,10 @@ use Rattle.std.specs.Prelude.{◌||◌, ◌&&◌, ◌⊎◌, not}
 use Rattle.std.specs.List.{AllByRecursion, prefix_len}
 use Rattle.std.proofs.lemmas.Bool.{eqb-true}
 use Rattle.std.proofs.lemmas.List.{drop-drop, length-drop}
-use Rattle.tks_parse.specs.Class.{is_blank, is_separator, ends_script, ends_word, is_fold, ends_word_at, ends_command_at, ends_parts, is_expanded}
-use Rattle.tks_parse.specs.Script.{BeginsNot, word_start}
+use Rattle.tks_text.specs.Backslash.{is_blank}
+use Rattle.tks_parse.specs.Class.{is_separator, ends_script, ends_word, is_fold, ends_word_at, ends_command_at, ends_parts, is_expanded}
+use Rattle.tks_text.specs.Text.{BeginsNot}
+use Rattle.tks_parse.specs.Script.{word_start}
 use Rattle.tks_parse.specs.declared.mode.Place.{Place}
 use Rattle.tks_parse.specs.declared.mode.Place.TheVariants.{Alone, Brackets}
 use Rattle.tks_parse.specs.declared.mode.Mode.{Mode}

@@ -8,12 +8,14 @@ use Rattle.std.proofs.lemmas.List.Folds.{length-prefix_len}
 use Rattle.tks_text.specs.Run.{Step, stop, fails, takes, Run, ended, run, after_step}
 use Rattle.tks_text.specs.declared.fault.ScriptFault.{ScriptFault}
 use Rattle.tks_parse.specs.Tree.{Script, no_command, faulty, command, Words, no_word, word, Parts, no_part, char, variable, element, nested, chars}
-use Rattle.tks_parse.specs.Class.{is_blank, is_separator, is_name_char, is_no_close_brace, is_fold, ends_script, ends_word, ends_word_at, ends_command_at, ends_parts, is_expanded}
+use Rattle.tks_parse.specs.Class.{is_separator, is_name_char, is_no_close_brace, is_fold, ends_script, ends_word, ends_word_at, ends_command_at, ends_parts, is_expanded}
 use Rattle.tks_parse.specs.Fault.{missing_close_brace, missing_close_quote, missing_close_bracket, text_after_close_quote, text_after_close_brace, bad_escape, too_deeply_nested, missing_close_of_variable, told, syntax_of}
-use Rattle.tks_text.specs.Backslash.{escape}
+use Rattle.tks_text.proofs.Escaped.{some_escape, no_escape}
+use Rattle.tks_text.specs.Backslash.{escape, is_blank}
 use Rattle.tks_parse.specs.Braces.{comment_len, braced_len, verbatim}
 use Rattle.tks_parse.specs.Reading.{escape_step, close_name, braced_name_step, close_index, close_script, close_text, braced_at, ended_word, closed_word, behind_bytes, nested_step, index_step, named_step, variable_step, part_step, parts_at, quoted_at, bare_word, plain_word, prefixed_word, word_step, words_at, words_command, command_step, commands_at, nest, index, closed, script_of}
-use Rattle.tks_parse.specs.Script.{BeginsNot, BlanksThen, GapThen, BeginsCommand, NameThen, BracedNameThen, BracedThen, StandsForItself, EscapeThen, word_start, WordThen, ScriptThen, WordsThen, PartsThen, PartFails, PartsFail, WordFails, WordsFail, ScriptFails, BracketsFail, IndexFails, Spells}
+use Rattle.tks_text.specs.Text.{BeginsNot}
+use Rattle.tks_parse.specs.Script.{BlanksThen, GapThen, BeginsCommand, NameThen, BracedNameThen, BracedThen, StandsForItself, EscapeThen, word_start, WordThen, ScriptThen, WordsThen, PartsThen, PartFails, PartsFail, WordFails, WordsFail, ScriptFails, BracketsFail, IndexFails, Spells}
 use Rattle.tks_parse.specs.declared.mode.Place.{Place}
 use Rattle.tks_parse.specs.declared.mode.Place.TheVariants.{Alone, Brackets}
 use Rattle.tks_parse.specs.declared.mode.Mode.{Mode}
@@ -91,8 +93,8 @@ variable_case d m u i =
     (record { some = omega (arith, length-prefix_len is_name_char u, eqb-false n 0 e); each = told.0; is = sym (take-append-drop n u); longest = told.1 }) refl)
 
 escape_case_of : (d : ℕ) (m : Mode) (u : List ℕ) (o : Option (ℕ × ℕ)) → ends_parts m 92 u ≡ false → escape u ≡ o → PartCase d m 92 u (escape_step (syntax_of m) o)
-escape_case_of d m u None s e = at_fault (told (syntax_of m) bad_escape) (PartFails.outside_texts u s e)
-escape_case_of d m u (Some x) s e = at_escape x.0 x.1 (drop x.1 u) refl (record { inside = s; taken = x.1; is = e; rest = refl }) refl
+escape_case_of d m u None s e = let h = no_escape u e in at_fault (told (syntax_of m) bad_escape) (PartFails.outside_texts u h.c h.n s h.is h.no_text)
+escape_case_of d m u (Some x) s e = at_escape x.0 x.1 (drop x.1 u) refl (let h = some_escape u x.0 x.1 e in record { inside = s; taken = x.1; is = h.0; text = h.1; rest = refl }) refl
 
 escape_case : (d : ℕ) (m : Mode) (u : List ℕ) → ends_parts m 92 u ≡ false → PartCase d m 92 u (escape_step (syntax_of m) (escape u))
 escape_case d m u s = escape_case_of d m u (escape u) s refl

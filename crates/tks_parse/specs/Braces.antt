@@ -4,7 +4,7 @@ use Rattle.std.specs.Prelude.{ℕ, suc, ◌+◌, ◌-◌, Bool, ◌&&◌, ◌==�
 use Rattle.std.specs.List.{prefix_len}
 use Rattle.tks_text.specs.Run.{Step, stop, takes, run}
 use Rattle.tks_text.specs.declared.fault.ScriptFault.{ScriptFault}
-use Rattle.tks_parse.specs.Class.{is_blank}
+use Rattle.tks_text.specs.Backslash.{is_blank}
 
 -- whether c is a backslash that quotes what follows, where `quoted` says whether c itself is quoted
 abbrev pub quotes : Bool → ℕ → Bool

@@ -1,13 +1,10 @@
 -- Kinds of characters, and what ends words, commands and scripts (Tcl(n), rules 1 to 3, and 7 to 10).
 use Rattle.std.specs.Prelude.{ℕ, Bool, true, false, ◌||◌, ◌&&◌, ◌==◌, nat_le, not, List, [], ◌∷◌}
+use Rattle.tks_text.specs.Backslash.{is_blank}
 use Rattle.tks_parse.specs.declared.mode.Place.{Place}
 use Rattle.tks_parse.specs.declared.mode.Place.TheVariants.{Alone, Brackets}
 use Rattle.tks_parse.specs.declared.mode.Mode.{Mode}
 use Rattle.tks_parse.specs.declared.mode.Mode.TheVariants.{Bare, Quoted, Index}
-
--- white space that separates words: space and tab
-abbrev pub is_blank : ℕ → Bool
-is_blank c = (c == 32) || (c == 9)
 
 -- what separates commands: newline and semicolon
 abbrev pub is_separator : ℕ → Bool

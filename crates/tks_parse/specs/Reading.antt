@@ -1,11 +1,11 @@
 -- The script that a text spells, read from left to right.
 use Rattle.std.specs.Prelude.{ℕ, zero, suc, ◌+◌, ◌-◌, Bool, true, false, ◌||◌, ◌==◌, List, [], ◌∷◌, take, drop, Option, Some, None, if◌then◌else◌}
 use Rattle.std.specs.List.{prefix_len}
-use Rattle.tks_text.specs.Backslash.{escape}
+use Rattle.tks_text.specs.Backslash.{escape, is_blank}
 use Rattle.tks_text.specs.Run.{Step, stop, fails, takes, Run, ended, run, on_run}
 use Rattle.tks_text.specs.declared.fault.ScriptFault.{ScriptFault}
 use Rattle.tks_parse.specs.Tree.{Script, no_command, faulty, command, Words, no_word, word, Parts, no_part, char, variable, element, nested, chars, join_scripts, join_words}
-use Rattle.tks_parse.specs.Class.{is_blank, is_separator, is_name_char, is_no_close_brace, is_fold, ends_script, ends_word, ends_word_at, ends_parts, is_expanded}
+use Rattle.tks_parse.specs.Class.{is_separator, is_name_char, is_no_close_brace, is_fold, ends_script, ends_word, ends_word_at, ends_parts, is_expanded}
 use Rattle.tks_parse.specs.Fault.{missing_close_brace, missing_close_quote, missing_close_bracket, text_after_close_quote, text_after_close_brace, bad_escape, too_deeply_nested, missing_close_of_variable, told, syntax_of}
 use Rattle.tks_parse.specs.Braces.{comment_len, braced_len, verbatim}
 use Rattle.tks_parse.specs.declared.mode.Place.{Place}

@@ -2,12 +2,13 @@
 -- bytes outside the texts, of a depth of 32 and of a backslash at the end is this project's own.
 --
 -- "t is X, then v" says that X stands at the front of t, and v behind it.
-use Rattle.std.specs.Prelude.{◌≡◌, ℕ, zero, suc, ◌<◌, Bool, true, false, ◌||◌, ◌==◌, List, [], ◌∷◌, ◌++◌, length, drop, ◌⊎◌, if◌then◌else◌, Some, None}
+use Rattle.std.specs.Prelude.{◌≡◌, ℕ, zero, suc, ◌<◌, true, false, ◌||◌, ◌==◌, List, [], ◌∷◌, ◌++◌, length, drop, ◌⊎◌, if◌then◌else◌}
 use Rattle.std.specs.List.{AllByRecursion}
-use Rattle.tks_text.specs.Backslash.{escape}
+use Rattle.tks_text.specs.Backslash.{Escapes, is_blank}
+use Rattle.tks_text.specs.Text.{is_text_byte, BeginsNot}
 use Rattle.tks_text.specs.declared.fault.ScriptFault.{ScriptFault}
 use Rattle.tks_parse.specs.Tree.{Script, no_command, faulty, command, Words, no_word, word, Parts, no_part, char, variable, element, nested, chars, join_scripts}
-use Rattle.tks_parse.specs.Class.{is_blank, is_separator, is_name_char, is_no_close_brace, ends_word_at, ends_command_at, ends_parts, is_expanded}
+use Rattle.tks_parse.specs.Class.{is_separator, is_name_char, is_no_close_brace, ends_word_at, ends_command_at, ends_parts, is_expanded}
 use Rattle.tks_parse.specs.Fault.{missing_close_brace, missing_close_quote, missing_close_bracket, text_after_close_quote, text_after_close_brace, bad_escape, too_deeply_nested, missing_close_of_variable, told, syntax_of}
 use Rattle.tks_parse.specs.declared.mode.Place.{Place}
 use Rattle.tks_parse.specs.declared.mode.Place.TheVariants.{Alone, Brackets}
@@ -15,11 +16,6 @@ use Rattle.tks_parse.specs.declared.mode.Mode.{Mode}
 use Rattle.tks_parse.specs.declared.mode.Mode.TheVariants.{Bare, Quoted, Index}
 use Rattle.tks_parse.specs.declared.syntax.Syntax.{Syntax}
 use Rattle.tks_parse.specs.declared.syntax.Syntax.TheVariants.{Scripts}
-
--- a text that begins with no such character
-abbrev pub BeginsNot : (ℕ → Bool) → List ℕ → Type 0
-BeginsNot p [] = Unit {0}
-BeginsNot p (c ∷ u) = p c ≡ false
 
 -- ---- what stands between words and commands
 
@@ -92,11 +88,12 @@ pub record StandsForItself (m : Mode) (c : ℕ) (u : List ℕ) : Type 0 where
   pub plain : ((c == 91) || (c == 92)) ≡ false
   pub no_variable : c ≡ 36 → BeginsNot (λ d. is_name_char d || (d == 123)) u
 
--- 9: behind a backslash, an escape for the character c, then v
+-- 9: behind a backslash, an escape for the character c, which stands in texts, then v
 pub record EscapeThen (m : Mode) (c : ℕ) (t v : List ℕ) : Type 0 where
   pub inside : ends_parts m 92 t ≡ false
   pub taken : ℕ
-  pub is : escape t ≡ Some (c, taken)
+  pub is : Escapes t c taken
+  pub text : is_text_byte c ≡ true
   pub rest : drop taken t ≡ v
 
 -- ---- scripts
@@ -155,7 +152,7 @@ pub data PartFails (InBrackets : Fails) (InIndex : Syntax → Fails) (m : Mode) 
   in_brackets : (s : List ℕ) (fault : ScriptFault) → InBrackets s fault → PartFails InBrackets InIndex m (91 ∷ s) fault
   in_index : (name u s : List ℕ) (fault : ScriptFault) → NameThen name u (40 ∷ s) → InIndex (syntax_of m) s fault → PartFails InBrackets InIndex m (36 ∷ u) fault
   name_unclosed : (name : List ℕ) → AllByRecursion (λ c. is_no_close_brace c ≡ true) name → PartFails InBrackets InIndex m (36 ∷ 123 ∷ name) (told (syntax_of m) missing_close_of_variable)
-  outside_texts : (u : List ℕ) → ends_parts m 92 u ≡ false → escape u ≡ None → PartFails InBrackets InIndex m (92 ∷ u) (told (syntax_of m) bad_escape)
+  outside_texts : (u : List ℕ) (c n : ℕ) → ends_parts m 92 u ≡ false → Escapes u c n → is_text_byte c ≡ false → PartFails InBrackets InIndex m (92 ∷ u) (told (syntax_of m) bad_escape)
 
 -- t is parts, and then one with a fault
 abbrev pub PartsFail : Fails → (Syntax → Fails) → ℕ → Mode → List ℕ → ScriptFault → Type 0

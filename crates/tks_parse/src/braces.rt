@@ -5,11 +5,10 @@ ghost use Rattle.tks_parse.specs.Braces.{quotes, ends_comment, comment_len, ends
 ghost use Rattle.tks_parse.specs.Gives.{GivesRun, run_of_parts, GivesVerbatim, IsTextVerbatim, text_of_verbatim};
 ghost use Rattle.tks_parse.specs.Reading.{braced_at};
 
-use crate::class::blank_len;
 use crate::syntax::Syntax;
 use crate::tree::{Part, Parts};
 use std::alloc::{AllocError, Global};
-use tks_text::{ErrorNumber, Failure, Txt};
+use tks_text::{ErrorNumber, Failure, Txt, blank_len};
 
 // Whether a character is a backslash that quotes what follows.
 fn quotes(quoted: bool, c: u8) -> bool

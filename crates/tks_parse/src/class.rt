@@ -1,13 +1,6 @@
 ghost use Rattle.std.specs.Prelude.{◌≡◌, ◌≤◌, length};
 ghost use Rattle.std.specs.List.{prefix_len};
-ghost use Rattle.tks_parse.specs.Class.{is_blank, is_separator, is_name_char, is_no_close_brace, begins_newline, is_fold};
-
-/// White space that separates words.
-pub fn is_blank(c: u8) -> bool
-    ensures { result ≡ is_blank c }
-{
-    c == b' ' || c == b'\t'
-}
+ghost use Rattle.tks_parse.specs.Class.{is_separator, is_name_char, is_no_close_brace, begins_newline, is_fold};
 
 /// What separates commands.
 pub fn is_separator(c: u8) -> bool
@@ -21,14 +14,6 @@ pub fn is_name_char(c: u8) -> bool
     ensures { result ≡ is_name_char c }
 {
     (b'0' <= c && c <= b'9') || (b'A' <= c && c <= b'Z') || (b'a' <= c && c <= b'z') || c == b'_'
-}
-
-/// How many blanks a text begins with.
-pub fn blank_len(text: &[u8]) -> usize
-    ensures value { result ≡ prefix_len is_blank text.now }
-    ensures bound { result ≤ length text.now }
-{
-    text.iter().take_while(|c| is_blank(**c)).count()
 }
 
 /// How many characters of a name a text begins with.

@@ -2,8 +2,9 @@ ghost use Rattle.std.specs.Prelude.{◌≡◌};
 ghost use Rattle.tks_parse.specs.Class.{ends_script, ends_word, ends_word_at, ends_parts};
 ghost use Rattle.tks_parse.specs.Fault.{syntax_of};
 
-use crate::class::{is_blank, is_fold, is_separator};
+use crate::class::{is_fold, is_separator};
 use crate::syntax::Syntax;
+use tks_text::is_blank;
 
 /// Where a script stands.
 #[derive(Clone, Copy)]

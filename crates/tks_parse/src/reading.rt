@@ -13,7 +13,7 @@ mod tests;
 
 use crate::braces::{comment_len, read_braced};
 use crate::builder::{Builder, Piece};
-use crate::class::{braced_name_len, is_blank, is_fold, is_separator, name_len};
+use crate::class::{braced_name_len, is_fold, is_separator, name_len};
 use crate::commands::{Found, add_command};
 use crate::fault::fault;
 use crate::mode::{Mode, Place};
@@ -21,7 +21,7 @@ use crate::syntax::Syntax;
 use crate::tree::{Command, Part, Parts, Script, Word};
 use crate::words::{add_word, end_word, is_expanded};
 use std::alloc::{AllocError, Global};
-use tks_text::{ErrorNumber, Failure, Txt, escape};
+use tks_text::{ErrorNumber, Failure, Txt, escape, is_blank};
 
 /// How many brackets and parentheses may be open in one another.
 pub const MAX_DEPTH: u32 = 32;

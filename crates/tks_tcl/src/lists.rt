@@ -10,7 +10,7 @@ use crate::interrupt::{Interrupt, error_about, wrong_words};
 use crate::words::{count_text, list_in};
 use std::alloc::{AllocError, Global};
 use tks_list::join;
-use tks_text::{ErrorNumber, Seq, Txt, is_space};
+use tks_text::{ErrorNumber, Seq, Txt, is_space, space_len};
 
 /// The commands on lists.
 #[derive(Clone, Copy)]
@@ -201,14 +201,6 @@ fn without_end(text: &[u8]) -> &[u8]
         rest = front;
     }
     rest
-}
-
-// How many bytes of white space the text begins with.
-fn space_len(text: &[u8]) -> usize
-    ensures value { result ≡ prefix_len is_space text.now }
-    ensures bound { result ≤ length text.now }
-{
-    text.iter().take_while(|byte| is_space(**byte)).count()
 }
 
 // A text without the white space around it.

@@ -6,3 +6,4 @@ pub mod Run
 pub mod Integer
 pub mod Backslash
 pub mod Class
+pub mod Truth

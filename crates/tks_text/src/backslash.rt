@@ -6,15 +6,15 @@ ghost use Rattle.tks_text.specs.Text.{is_text_byte, IsText};
 use crate::integer::{digits_len, value_of};
 use crate::text::is_text_byte;
 
-// Whether a byte is white space that doesn't end a line: a space or a tab.
-fn is_blank(byte: u8) -> bool
+/// Whether a byte is white space that doesn't end a line: a space or a tab.
+pub fn is_blank(byte: u8) -> bool
     ensures { result ≡ is_blank byte }
 {
     byte == b' ' || byte == b'\t'
 }
 
-// How many blanks the text begins with.
-fn blank_len(text: &[u8]) -> usize
+/// How many blanks the text begins with.
+pub fn blank_len(text: &[u8]) -> usize
     ensures value { result ≡ prefix_len is_blank text.now }
     ensures bound { result ≤ length text.now }
 {

@@ -24,7 +24,7 @@ pub fn is_space(byte: u8) -> bool
 }
 
 // Whether there is nothing but white space.
-fn is_blank(text: &[u8]) -> bool
+fn is_all_space(text: &[u8]) -> bool
     ensures { result ≡ list_all is_space text.now }
 {
     text.iter().all(|byte| is_space(*byte))
@@ -84,7 +84,7 @@ fn number_in(base: u64, text: &[u8]) -> Result<Option<u64>, Range>
 {
     let len = digits_len(base, text);
     let (digits, behind) = text.split_at(len);
-    if len == 0 || !is_blank(behind) {
+    if len == 0 || !is_all_space(behind) {
         return Ok(None);
     }
     match value_of(base, digits) {

@@ -11,8 +11,9 @@ mod limits;
 mod list;
 mod size;
 mod text;
+mod truth;
 
-pub use backslash::escape;
+pub use backslash::{blank_len, escape, is_blank};
 pub use class::Class;
 pub use fault::{ErrorNumber, Failure, ScriptFault};
 pub use integer::{Range, decimal_of, digits_len, integer_of, is_space, space_len, value_of};
@@ -21,3 +22,4 @@ pub use limits::Limits;
 pub use list::Seq;
 pub use size::Size;
 pub use text::{Txt, TxtFault, is_text, is_text_byte};
+pub use truth::truth_of_word;

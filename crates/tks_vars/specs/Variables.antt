@@ -5,6 +5,7 @@ use Rattle.std.specs.FinMap as map
 use Rattle.tks_text.specs.declared.fault.ErrorNumber.{ErrorNumber}
 use Rattle.tks_text.specs.declared.fault.ErrorNumber.TheVariants.{NoSuchVariable, WrongKindOfVariable, BadName}
 use Rattle.tks_text.specs.declared.fault.ScriptFault.{ScriptFault}
+use Rattle.tks_text.specs.Fault.{fault_about}
 use Rattle.tks_vars.specs.Table.{Map}
 use Rattle.tks_vars.specs.Names.{Name, named}
 use Rattle.tks_vars.specs.declared.content.Content.{Content}
@@ -127,13 +128,9 @@ without_content variables variable =
 
 -- The calls. A fault names the variable as it was given.
 
--- the error about a name
-abbrev pub fault : ErrorNumber → List ℕ → ScriptFault
-fault number name = record { number = number; subject = Some name }
-
 abbrev pub about : {X : Type 0} → List ℕ → Result X ErrorNumber → Result X ScriptFault
 about name (Ok x) = Ok x
-about name (Err number) = Err (fault number name)
+about name (Err number) = Err (fault_about number name)
 
 -- what comes of a name that is one
 abbrev pub on_name : {X : Type 0} → Option Name → (Name → Result X ErrorNumber) → Result X ErrorNumber

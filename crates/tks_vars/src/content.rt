@@ -1,7 +1,7 @@
 ghost use Rattle.std.specs.Prelude.{◌≡◌, IfOk, OnErr, None, Some, Ok, false};
-ghost use Rattle.tks_text.specs.Fault.{Gives};
+ghost use Rattle.tks_text.specs.Fault.{Gives, fault_about};
 ghost use Rattle.tks_vars.specs.Meets.{AnswersSo, TellsSo, index_seen};
-ghost use Rattle.tks_vars.specs.Variables.{fault, about, after, value_in, written, taken, without_element, is_there, grown_inside, is_link};
+ghost use Rattle.tks_vars.specs.Variables.{about, after, value_in, written, taken, without_element, is_there, grown_inside, is_link};
 ghost use Rattle.tks_vars.specs.Parts.{own};
 
 use crate::clones::CloneIn;
@@ -27,7 +27,7 @@ pub enum Local {
 
 /// The error about a variable.
 pub fn fault(number: ErrorNumber, name: &Txt) -> Failure
-    ensures { TellsSo (fault number name.now) result }
+    ensures { TellsSo (fault_about number name.now) result }
 {
     match name.try_clone() {
         Ok(name) => Failure::Script(ScriptFault {
