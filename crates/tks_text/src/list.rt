@@ -38,7 +38,7 @@ impl<T> Seq<T> {
     pub fn is_empty(&self) -> bool
         ensures { result ≡ (length self.now == 0) }
     {
-        self.items.is_empty()
+        self.len() == 0
     }
 
     /// The items, in order, as a vector.

@@ -78,8 +78,8 @@ impl Txt {
         if let Some(place) = first_bad(bytes) {
             return Err(TxtFault::Byte(place));
         }
-        match Vec::from_slice(alloc, bytes) {
-            Ok(bytes) => Ok(Txt { bytes }),
+        match Txt::from_text(alloc, bytes) {
+            Ok(text) => Ok(text),
             Err(_) => Err(TxtFault::NoMemory),
         }
     }
@@ -104,7 +104,7 @@ impl Txt {
         if !is_text_byte(byte) {
             return Err(TxtFault::Byte(self.bytes.len()));
         }
-        match self.bytes.push(byte) {
+        match self.push_byte(byte) {
             Ok(()) => Ok(()),
             Err(_) => Err(TxtFault::NoMemory),
         }
@@ -162,7 +162,7 @@ impl Txt {
     pub fn is_empty(&self) -> bool
         ensures { result ≡ (length self.now == 0) }
     {
-        self.bytes.is_empty()
+        self.len() == 0
     }
 
     /// An equal text.
