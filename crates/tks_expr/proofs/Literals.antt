@@ -9,7 +9,8 @@ use Rattle.std.proofs.lemmas.List.Sums.{prefix_len-le-length}
 use Rattle.tks_text.specs.Integer.{AreDigits, BeginsOtherThan}
 use Rattle.tks_text.specs.Text.{same_text, BeginsNot}
 use Rattle.tks_text.specs.Truth.{is_true_word, is_false_word}
-use Rattle.tks_parse.proofs.Tests.{if_case, and_cases, or_cases, prefix_none, prefix_all, prefix_name}
+use Rattle.tks_text.proofs.Prefixes.{prefix_of, prefix_passes}
+use Rattle.tks_parse.proofs.Tests.{if_case, and_cases, or_cases}
 use Rattle.tks_expr.specs.Expression.{LiteralThen}
 use Rattle.tks_expr.specs.Literal.{digits_len, behind_zero_len, numeral_len, is_truth_word, word_len, literal_len}
 use Rattle.tks_expr.specs.Sign.{is_letter}
@@ -40,7 +41,7 @@ hex_len : (ds v : List ℕ) → 0 < length ds → AreDigits 16 ds → BeginsNot 
 unfolding numeral_len
 hex_len ds v p q b =
     let two : 2 + length ds ≡ suc (suc (length ds)) = omega arith in
-    ap (λ k. cond (eqb k 0) 0 (2 + k)) (prefix_all (λ c. is_digit c 16) ds v q b) ∙ ap (λ (x : Bool). cond x 0 (2 + length ds)) (not_zero (length ds) p) ∙ two
+    ap (λ k. cond (eqb k 0) 0 (2 + k)) (prefix_of (λ c. is_digit c 16) ds v q b) ∙ ap (λ (x : Bool). cond x 0 (2 + length ds)) (not_zero (length ds) p) ∙ two
 
 zero_len : (u : List ℕ) → BeginsNot (λ c. eqb c 120) u → behind_zero_len u ≡ 1 + digits_len 8 u
 zero_len [] h = refl
@@ -50,12 +51,12 @@ octal_len : (ds v : List ℕ) → AreDigits 8 ds → BeginsNot (λ c. is_digit c
 unfolding numeral_len
 octal_len ds v q b x =
     let one : 1 + length ds ≡ suc (length ds) = omega arith in
-    zero_len (ds ++ v) x ∙ ap (λ k. 1 + k) (prefix_all (λ c. is_digit c 8) ds v q b) ∙ one
+    zero_len (ds ++ v) x ∙ ap (λ k. 1 + k) (prefix_of (λ c. is_digit c 8) ds v q b) ∙ one
 
 decimal_len : (ds v : List ℕ) → BeginsOtherThan 48 ds → AreDigits 10 ds → BeginsNot (λ c. is_digit c 10) v → numeral_len (ds ++ v) ≡ length ds
 unfolding numeral_len
 decimal_len [] v s q b = absurd s
-decimal_len (c ∷ ds) v s q b = ap (λ (x : Bool). cond x (behind_zero_len (ds ++ v)) (digits_len 10 (c ∷ ds ++ v))) s ∙ prefix_all (λ d. is_digit d 10) (c ∷ ds) v q b
+decimal_len (c ∷ ds) v s q b = ap (λ (x : Bool). cond x (behind_zero_len (ds ++ v)) (digits_len 10 (c ∷ ds ++ v))) s ∙ prefix_of (λ d. is_digit d 10) (c ∷ ds) v q b
 
 decimal_some : (ds : List ℕ) → BeginsOtherThan 48 ds → 0 < length ds
 decimal_some [] s = absurd s
@@ -73,7 +74,7 @@ IsLong v w = (literal_len (w ++ v) ≡ length w) × (0 < length w)
 
 words_len : (v : List ℕ) → BeginsNot is_letter v → IsLong v (codes "true") × IsLong v (codes "yes") × IsLong v (codes "on") × IsLong v (codes "false") × IsLong v (codes "no") × IsLong v (codes "off")
 unfolding literal_len numeral_len word_len
-words_len v b = let none = prefix_none is_letter v b in rw none ((refl, omega arith), (refl, omega arith), (refl, omega arith), (refl, omega arith), (refl, omega arith), (refl, omega arith))
+words_len v b = let none = prefix_of is_letter [] v tt b in rw none ((refl, omega arith), (refl, omega arith), (refl, omega arith), (refl, omega arith), (refl, omega arith), (refl, omega arith))
 
 word_is_long : (w v : List ℕ) → is_truth_word w ≡ true → BeginsNot is_letter v → IsLong v w
 word_is_long w v e b =
@@ -115,7 +116,7 @@ decimal_spelled : (c : ℕ) (u : List ℕ) → eqb c 48 ≡ false → Spelled (c
 decimal_spelled c u k =
     let m = digits_len 10 u in
     let one : 1 + m ≡ suc m = omega arith in
-    let told = prefix_name (λ d. is_digit d 10) u in
+    let told = prefix_passes (λ d. is_digit d 10) u in
     if_case (Spelled (c ∷ u)) (is_digit c 10) (1 + m) 0
     (λ e. rw one (λ h. subst (λ x. LiteralThen (c ∷ take m u) (c ∷ x) (drop m u)) (take-append-drop m u) (LiteralThen.decimal (c ∷ take m u) (drop m u) k (e, told.0) told.1)))
     (λ e h. absurd (omega (arith, h)))
@@ -124,7 +125,7 @@ hex_spelled : (w : List ℕ) → Spelled (48 ∷ 120 ∷ w) (cond (eqb (digits_l
 hex_spelled w =
     let m = digits_len 16 w in
     let two : 2 + m ≡ suc (suc m) = omega arith in
-    let told = prefix_name (λ d. is_digit d 16) w in
+    let told = prefix_passes (λ d. is_digit d 16) w in
     if_case (Spelled (48 ∷ 120 ∷ w)) (eqb m 0) 0 (2 + m)
     (λ e h. absurd (omega (arith, h)))
     (λ e. rw two (λ h. subst (λ x. LiteralThen (48 ∷ 120 ∷ take m w) (48 ∷ 120 ∷ x) (drop m w)) (take-append-drop m w)
@@ -134,7 +135,7 @@ octal_spelled : (u : List ℕ) → BeginsNot (λ c. eqb c 120) u → Spelled (48
 octal_spelled u x =
     let m = digits_len 8 u in
     let one : 1 + m ≡ suc m = omega arith in
-    let told = prefix_name (λ d. is_digit d 8) u in
+    let told = prefix_passes (λ d. is_digit d 8) u in
     rw one (λ h. subst (λ y. LiteralThen (48 ∷ take m u) (48 ∷ y) (drop m u)) (take-append-drop m u)
     (LiteralThen.octal (take m u) (drop m u) told.0 told.1 (subst (BeginsNot (λ c. eqb c 120)) (sym (take-append-drop m u)) x)))
 
@@ -158,7 +159,7 @@ unfolding word_len
 word_spelled t =
     let n = prefix_len is_letter t in
     if_case (Spelled t) (is_truth_word (take n t)) n 0
-    (λ e h. subst (λ x. LiteralThen (take n t) x (drop n t)) (take-append-drop n t) (LiteralThen.word (take n t) (drop n t) e (prefix_name is_letter t).1))
+    (λ e h. subst (λ x. LiteralThen (take n t) x (drop n t)) (take-append-drop n t) (LiteralThen.word (take n t) (drop n t) e (prefix_passes is_letter t).1))
     (λ e h. absurd (omega (arith, h)))
 
 pub literal_spelled : (t : List ℕ) → Spelled t (literal_len t)

@@ -20,7 +20,8 @@ use Rattle.tks_parse.specs.declared.syntax.Syntax.TheVariants.{Expressions}
 use Rattle.tks_parse.proofs.Braced.{braced_read, braced_rest, verbatim_is}
 use Rattle.tks_parse.proofs.Faults.{part_fault, parts_fault, quoted_fault, unclosed_quote, unclosed_brace, brackets_fault, indexes_fault}
 use Rattle.tks_parse.proofs.Spelled.{parts_read, script_reads, quoted_whole, next_rest, scalar_at, braced_name_at, braced_name_rest, nested_at, element_at, variable_at}
-use Rattle.tks_parse.proofs.Tests.{prefix_all, or_left, or_right}
+use Rattle.tks_text.proofs.Prefixes.{prefix_of}
+use Rattle.tks_parse.proofs.Tests.{or_left, or_right}
 use Rattle.tks_parse.proofs.Told.{index_rest}
 use Rattle.tks_expr.specs.Expression.{Then, SpaceThen, LiteralThen, IsOnePart, OperandThen, StartsOperand, SignedThen, JoinThen, JoinedThen, LevelThen, ChoiceThen, InsideThen, ExprThen, opens_operand, OperandFails, SignedFails, LevelFails, ChoiceFails, InsideFails, ExprFails, ExprOf}
 use Rattle.tks_expr.specs.Literal.{literal_len, numeral_len, word_len}
@@ -47,7 +48,7 @@ space_read : (t v : List ℕ) → SpaceThen t v → trim t ≡ v
 unfolding trim
 space_read t v h =
     ap (λ x. drop (prefix_len is_space x) x) h.is
-    ∙ ap (λ n. drop n (h.spaces ++ v)) (prefix_all is_space h.spaces v h.each h.all)
+    ∙ ap (λ n. drop n (h.spaces ++ v)) (prefix_of is_space h.spaces v h.each h.all)
     ∙ drop_at h.spaces v (length h.spaces) refl
 
 -- behind n bytes of u stands w, and behind its white space v

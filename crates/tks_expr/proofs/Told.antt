@@ -18,7 +18,8 @@ use Rattle.tks_parse.specs.declared.mode.Mode.TheVariants.{Quoted}
 use Rattle.tks_parse.specs.declared.syntax.Syntax.TheVariants.{Expressions}
 use Rattle.tks_parse.proofs.Braced.{braced_told, unclosed_told, verbatim_told}
 use Rattle.tks_parse.proofs.Spelled.{variable_at}
-use Rattle.tks_parse.proofs.Tests.{if_case, and_cases, drop_one, prefix_name}
+use Rattle.tks_text.proofs.Prefixes.{prefix_passes}
+use Rattle.tks_parse.proofs.Tests.{if_case, and_cases, drop_one}
 use Rattle.tks_parse.proofs.Told.{BracketCase, bracket_is, bracket_fails, IndexCase, index_is, index_fails, PartCase, at_stop, at_char, at_escape, at_variable, at_bracket, at_index, at_fault, PartsOutcome, part_case, parts_told, brackets_told, indexes_told, index_rest}
 use Rattle.tks_expr.specs.Expression.{Then, SpaceThen, IsOnePart, OperandThen, StartsOperand, SignedThen, JoinedThen, LevelThen, ChoiceThen, InsideThen, ExprThen, opens_operand, OperandFails, SignedFails, LevelFails, ChoiceFails, InsideFails, ExprFails, ExprOf}
 use Rattle.tks_expr.specs.Literal.{literal_len, numeral_len, word_len}
@@ -44,7 +45,7 @@ space_told : (t : List ℕ) → SpaceThen t (trim t)
 unfolding trim
 space_told t =
     let n = prefix_len is_space t in
-    let told = prefix_name is_space t in
+    let told = prefix_passes is_space t in
     record { spaces = take n t; each = told.0; is = sym (take-append-drop n t); all = told.1 }
 
 -- the same, where t is known as another text

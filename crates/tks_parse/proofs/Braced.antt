@@ -16,7 +16,8 @@ use Rattle.tks_parse.specs.Braces.{quotes, ends_comment, comment_len, ends_brace
 use Rattle.tks_text.specs.Text.{BeginsNot}
 use Rattle.tks_parse.specs.Script.{CommentThen, Nests, BracedThen, Verbatim}
 use Rattle.tks_parse.specs.declared.syntax.Syntax.{Syntax}
-use Rattle.tks_parse.proofs.Tests.{if_case, or_left, or_right, and_cases, drop_one, prefix_all, prefix_name}
+use Rattle.tks_text.proofs.Prefixes.{prefix_of, prefix_passes}
+use Rattle.tks_parse.proofs.Tests.{if_case, or_left, or_right, and_cases, drop_one}
 
 -- ---- comments
 
@@ -172,7 +173,7 @@ verbatim_takes c k t u g e h d =
 
 blanks_then : (blanks t : List ℕ) → AllByRecursion (λ c. is_blank c ≡ true) blanks → BeginsNot is_blank t → drop (1 + prefix_len is_blank (blanks ++ t)) (10 ∷ blanks ++ t) ≡ t
 blanks_then blanks t h b =
-    let len = prefix_all is_blank blanks t h b in
+    let len = prefix_of is_blank blanks t h b in
     let one : 1 + length blanks ≡ suc (length blanks) = omega arith in
     ap (λ n. drop (1 + n) (10 ∷ blanks ++ t)) len ∙ ap (λ n. drop n (10 ∷ blanks ++ t)) one ∙ drop_at blanks t (length blanks) refl
 
@@ -199,7 +200,7 @@ VerbatimTold t r = Verbatim t r.items
 space_told : (u value : List ℕ) → Verbatim (drop (prefix_len is_blank u) u) value → Verbatim (92 ∷ 10 ∷ u) (32 ∷ value)
 space_told u value v =
     let n = prefix_len is_blank u in
-    let told = prefix_name is_blank u in
+    let told = prefix_passes is_blank u in
     subst (λ x. Verbatim (92 ∷ 10 ∷ x) (32 ∷ value)) (take-append-drop n u) (Verbatim.space (take n u) (drop n u) value told.0 told.1 v)
 
 verbatim_lone : (value : List ℕ) → Verbatim [] value → Verbatim (92 ∷ []) (92 ∷ value)

@@ -23,7 +23,8 @@ use Rattle.tks_parse.specs.declared.mode.Mode.TheVariants.{Bare, Quoted, Index}
 use Rattle.tks_parse.specs.declared.syntax.Syntax.{Syntax}
 use Rattle.tks_parse.specs.declared.syntax.Syntax.TheVariants.{Scripts}
 use Rattle.tks_parse.proofs.Joins.{join_parts_none, join_words_none, join_scripts_none}
-use Rattle.tks_parse.proofs.Tests.{or_left, or_right, start_begins, behind_drop, drop_one, prefix_all, open_goes_on, dollar_goes_on, hash_goes_on, word_begins, command_ends, end_at_word, ends_parts_at, bare_end, taken_some, pred_drop}
+use Rattle.tks_text.proofs.Prefixes.{prefix_of}
+use Rattle.tks_parse.proofs.Tests.{or_left, or_right, start_begins, behind_drop, drop_one, open_goes_on, dollar_goes_on, hash_goes_on, word_begins, command_ends, end_at_word, ends_parts_at, bare_end, taken_some, pred_drop}
 use Rattle.tks_parse.proofs.Braced.{comment_read, comment_within, braced_read, braced_rest, verbatim_is}
 
 -- t is read as the front, and then as v is
@@ -78,7 +79,7 @@ module _ (nest : List ℕ → Run ScriptFault Script) (index : Syntax → List �
   unfolding variable_step
   name_at syntax [] u w h = absurd (omega (arith, h.some))
   name_at syntax (c ∷ name) u w h =
-      rw (h.is, prefix_all is_name_char (c ∷ name) w h.each h.longest, eqb-suc-zero (length name), take_at (c ∷ name) w (suc (length name)) refl, drop_at (c ∷ name) w (suc (length name)) refl) refl
+      rw (h.is, prefix_of is_name_char (c ∷ name) w h.each h.longest, eqb-suc-zero (length name), take_at (c ∷ name) w (suc (length name)) refl, drop_at (c ∷ name) w (suc (length name)) refl) refl
 
   pub scalar_at : (syntax : Syntax) (name u w : List ℕ) → NameThen name u w → BeginsNot (λ c. eqb c 40) w → variable_step index syntax u ≡ takes (variable name) (length name)
   unfolding named_step
@@ -88,7 +89,7 @@ module _ (nest : List ℕ → Run ScriptFault Script) (index : Syntax → List �
   pub braced_name_at : (syntax : Syntax) (name u w : List ℕ) → BracedNameThen name u w → variable_step index syntax u ≡ takes (variable name) (length name + 2)
   unfolding variable_step braced_name_step
   braced_name_at syntax name u w h =
-      rw (h.is, prefix_all is_no_close_brace name (125 ∷ w) h.each refl, take_at name (125 ∷ w) (length name) refl, drop_at name (125 ∷ w) (length name) refl) refl
+      rw (h.is, prefix_of is_no_close_brace name (125 ∷ w) h.each refl, take_at name (125 ∷ w) (length name) refl, drop_at name (125 ∷ w) (length name) refl) refl
 
   pub variable_at : (m : Mode) (u : List ℕ) → part_step nest index m (36 ∷ u) ≡ variable_step index (syntax_of m) u
   unfolding part_step

@@ -1,12 +1,11 @@
 -- Tests of characters, and what they say of each other.
-use Rattle.std.proofs.Common.{◌≡◌, ℕ, zero, suc, ◌+◌, ◌-◌, ◌<◌, Bool, true, false, cond, eqb, List, [], ◌∷◌, ◌++◌, length, take, drop, refl, sym, ap, ◌∙◌, arith, inl, inr}
+use Rattle.std.proofs.Common.{◌≡◌, ℕ, zero, suc, ◌+◌, ◌-◌, ◌<◌, Bool, true, false, cond, eqb, List, [], ◌∷◌, length, drop, refl, sym, ap, ◌∙◌, arith, inl, inr}
 use Rattle.std.specs.Prelude.{◌||◌, ◌&&◌, ◌⊎◌, not}
 use Rattle.std.specs.List.{AllByRecursion, prefix_len}
 use Rattle.std.proofs.lemmas.Bool.{eqb-true}
 use Rattle.std.proofs.lemmas.List.{drop-drop, length-drop}
 use Rattle.tks_text.specs.Backslash.{is_blank}
 use Rattle.tks_parse.specs.Class.{is_separator, ends_script, ends_word, is_fold, ends_word_at, ends_command_at, ends_parts, is_expanded}
-use Rattle.tks_text.specs.Text.{BeginsNot}
 use Rattle.tks_parse.specs.Script.{word_start}
 use Rattle.tks_parse.specs.declared.mode.Place.{Place}
 use Rattle.tks_parse.specs.declared.mode.Place.TheVariants.{Alone, Brackets}
@@ -50,21 +49,6 @@ pub drop_one : (n : ℕ) (s u : List ℕ) (c : ℕ) → drop n s ≡ c ∷ u →
 drop_one n s u c e =
     let k : suc n ≡ n + 1 = omega arith in
     ap (λ i. drop i s) k ∙ sym (drop-drop 1 n s) ∙ ap (drop 1) e
-
-pub prefix_none : (p : ℕ → Bool) (u : List ℕ) → BeginsNot p u → prefix_len p u ≡ 0
-prefix_none p [] h = refl
-prefix_none p (c ∷ u) h = ap (λ b. cond b (1 + prefix_len p u) 0) h
-
-pub prefix_all : (p : ℕ → Bool) (n u : List ℕ) → AllByRecursion (λ c. p c ≡ true) n → BeginsNot p u → prefix_len p (n ++ u) ≡ length n
-prefix_all p [] u h b = prefix_none p u b
-prefix_all p (c ∷ n) u h b = ap (λ t. cond t (1 + prefix_len p (n ++ u)) 0) h.0 ∙ let e = prefix_all p n u h.1 b in omega (arith, e)
-
-pub prefix_name : (p : ℕ → Bool) (u : List ℕ) → AllByRecursion (λ c. p c ≡ true) (take (prefix_len p u) u) × BeginsNot p (drop (prefix_len p u) u)
-prefix_name p [] = (tt, tt)
-prefix_name p (c ∷ u) =
-    let one : 1 + prefix_len p u ≡ suc (prefix_len p u) = omega arith in
-    let ih = prefix_name p u in
-    if_case (λ n. AllByRecursion (λ c. p c ≡ true) (take n (c ∷ u)) × BeginsNot p (drop n (c ∷ u))) (p c) (1 + prefix_len p u) 0 (λ e. rw one ((e, ih.0), ih.1)) (λ e. (tt, e))
 
 -- ---- what ends words and parts
 

@@ -22,7 +22,8 @@ use Rattle.tks_parse.specs.declared.mode.Mode.{Mode}
 use Rattle.tks_parse.specs.declared.mode.Mode.TheVariants.{Bare, Quoted, Index}
 use Rattle.tks_parse.specs.declared.syntax.Syntax.{Syntax}
 use Rattle.tks_parse.specs.declared.syntax.Syntax.TheVariants.{Scripts}
-use Rattle.tks_parse.proofs.Tests.{if_case, not_false, and_cases, drop_one, prefix_name, dollar_goes_on, ends_parts_at, bare_end, taken_some, pred_drop, end_at_word, start_begins}
+use Rattle.tks_text.proofs.Prefixes.{prefix_passes}
+use Rattle.tks_parse.proofs.Tests.{if_case, not_false, and_cases, drop_one, dollar_goes_on, ends_parts_at, bare_end, taken_some, pred_drop, end_at_word, start_begins}
 use Rattle.tks_parse.proofs.Braced.{comment_told, braced_told, unclosed_told, verbatim_told}
 
 -- ---- parts
@@ -69,7 +70,7 @@ unfolding braced_name_step
 braced_name_case d m [] b = at_char (record { inside = dollar_goes_on m []; plain = refl; no_variable = λ _. tt })
 braced_name_case d m (c ∷ u) b =
     let n = prefix_len is_no_close_brace u in
-    let told = prefix_name is_no_close_brace u in
+    let told = prefix_passes is_no_close_brace u in
     if_case (PartCase d m 36 (c ∷ u)) (eqb c 123) _ _
     (λ e. rw (eqb-true c 123 e) (close_name_case d m u (take n u) n (drop n u) told.0 told.1 (sym (take-append-drop n u)) refl))
     (λ e. at_char (record { inside = dollar_goes_on m (c ∷ u); plain = refl; no_variable = λ _. rw (b, e) refl }))
@@ -86,7 +87,7 @@ variable_case : (d : ℕ) (m : Mode) (u : List ℕ) → Indexes d → PartCase d
 unfolding variable_step
 variable_case d m u i =
     let n = prefix_len is_name_char u in
-    let told = prefix_name is_name_char u in
+    let told = prefix_passes is_name_char u in
     if_case (PartCase d m 36 u) (eqb n 0) _ _
     (λ e. braced_name_case d m u (subst (λ k. BeginsNot is_name_char (drop k u)) (eqb-true n 0 e) told.1))
     (λ e. named_case d m u (take n u) n (drop n u) i
