@@ -11,9 +11,10 @@ use Rattle.tks_tcl.specs.declared.interrupt.Interrupt.TheVariants as interrupt
 use Rattle.tks_pack.specs.declared.settings.Settings.{Settings}
 use Rattle.tks_pack.specs.declared.options.PackOption.{PackOption}
 use Rattle.tks_pack.specs.declared.options.PackOption.TheVariants as option
-use Rattle.tks_pack.specs.Settings.{default_settings, side_of, fill_of, anchor_of, truth_of, padding_of, option_of, or_bad_value, of_option, with_option, with_options, after}
+use Rattle.tks_pack.specs.Settings.{default_settings, side_of, fill_of, padding_of, option_of, or_bad_value, of_option, with_option, with_options, after}
 use Rattle.tks_pack.specs.Packing as pack
 use Rattle.tks_opt.specs.Options as opt
+use Rattle.tks_opt.specs.Values.{boolean, anchor_named}
 use Rattle.tks_tree.specs.Windows as tree
 use Rattle.tks_state.specs.Windows.{kept_of, on_kept, replaced, with_packing, packed_at}
 use Rattle.tks_state.specs.World.{World, packed}
@@ -36,8 +37,8 @@ of_alike : (p q : Settings) (name : List ℕ) (o : Option PackOption) (value : L
 of_alike p q name None value h = h
 of_alike p q name (Some option.Side) value h = mapped name (λ x. record p { side = x }) (λ x. record q { side = x }) (side_of value) h
 of_alike p q name (Some option.Fill) value h = mapped name (λ x. record p { fill = x }) (λ x. record q { fill = x }) (fill_of value) h
-of_alike p q name (Some option.Expand) value h = mapped name (λ x. record p { expand = x }) (λ x. record q { expand = x }) (truth_of value) h
-of_alike p q name (Some option.Anchor) value h = mapped name (λ x. record p { anchor = x }) (λ x. record q { anchor = x }) (anchor_of value) h
+of_alike p q name (Some option.Expand) value h = mapped name (λ x. record p { expand = x }) (λ x. record q { expand = x }) (boolean value) h
+of_alike p q name (Some option.Anchor) value h = mapped name (λ x. record p { anchor = x }) (λ x. record q { anchor = x }) (anchor_named value) h
 of_alike p q name (Some option.PadX) value h = mapped name (λ x. record p { padx = x }) (λ x. record q { padx = x }) (padding_of value) h
 of_alike p q name (Some option.PadY) value h = mapped name (λ x. record p { pady = x }) (λ x. record q { pady = x }) (padding_of value) h
 of_alike p q name (Some option.InnerPadX) value h = mapped name (λ x. record p { ipadx = x }) (λ x. record q { ipadx = x }) (padding_of value) h

@@ -17,6 +17,6 @@ pub use anchor::Anchor;
 pub use cells::{blank_rows, line_row};
 pub use name::OptionName;
 pub use number::{boolean_of, number_within};
-pub use options::Options;
+pub use options::{Options, option_fault};
 pub use said::Said;
 pub use state::State;

@@ -34,8 +34,8 @@ impl Model for Options {
     ghost invariant = { λ t. Legal (record { class = t.class; values = t.values.entries }) };
 }
 
-// The error about the name of an option.
-fn fault(number: ErrorNumber, name: &Txt) -> Failure
+/// The error about an option, by the name that was given.
+pub fn option_fault(number: ErrorNumber, name: &Txt) -> Failure
     ensures { TellsSo (fault_about number name.now) result }
 {
     match ScriptFault::about(number, name) {
@@ -102,11 +102,11 @@ impl Options {
         ensures { Gives (λ v. v.now) result (value_of self.now name.now) }
     {
         let Some(option) = OptionName::named(name.as_bytes()) else {
-            return Err(fault(ErrorNumber::UnknownOption, name));
+            return Err(option_fault(ErrorNumber::UnknownOption, name));
         };
         match self.value(option) {
             Some(value) => Ok(value),
-            None => Err(fault(ErrorNumber::UnknownOption, name)),
+            None => Err(option_fault(ErrorNumber::UnknownOption, name)),
         }
     }
 
@@ -127,10 +127,10 @@ impl Options {
         ensures { Gives (λ _. self.new) result (with_value self.old name.now value.now) }
     {
         let Some(option) = self.option_named(name) else {
-            return Err(fault(ErrorNumber::UnknownOption, name));
+            return Err(option_fault(ErrorNumber::UnknownOption, name));
         };
         if !accepts(self.class, option, value) {
-            return Err(fault(ErrorNumber::BadValue, name));
+            return Err(option_fault(ErrorNumber::BadValue, name));
         }
         self.values.insert(option, value.try_clone()?)?;
         Ok(())

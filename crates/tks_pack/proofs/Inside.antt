@@ -1,14 +1,15 @@
 -- Places in parcels, parcels in cavities.
 use Rattle.std.proofs.Common.{◌≡◌, ℕ, zero, suc, ◌+◌, ◌-◌, ◌*◌, ◌≤◌, ◌==◌, min, Bool, true, false, if◌then◌else◌, List, [], ◌∷◌, Option, Some, None, arith, rules}
 use Rattle.std.specs.List.{AllByRecursion}
+use Rattle.tks_opt.specs.declared.alignment.Alignment.{Alignment}
+use Rattle.tks_opt.specs.declared.alignment.Alignment.TheVariants as at
+use Rattle.tks_opt.specs.Alignment.{gap}
 use Rattle.tks_pack.specs.declared.line.Span.{Span}
 use Rattle.tks_pack.specs.declared.stretch.Edge.{Edge}
 use Rattle.tks_pack.specs.declared.stretch.Edge.TheVariants as edge
-use Rattle.tks_pack.specs.declared.stretch.Alignment.{Alignment}
-use Rattle.tks_pack.specs.declared.stretch.Alignment.TheVariants as at
 use Rattle.tks_pack.specs.declared.stretch.Stretch.{Stretch}
 use Rattle.tks_pack.specs.Stretch.{inner, outer}
-use Rattle.tks_pack.specs.Packer.{share, parcel_length, parcel_at, behind, gap, shown_length, in_room, within, spans}
+use Rattle.tks_pack.specs.Packer.{share, parcel_length, parcel_at, behind, shown_length, in_room, within, spans}
 
 -- a place, if there is one, has a cell and lies in a cavity
 abbrev pub Within : Span → Option Span → Type 0

@@ -2,7 +2,7 @@
 use Rattle.std.proofs.Common.{◌≡◌, ℕ, zero, suc, ◌+◌, ◌*◌, ◌<◌, ◌≤◌, min, max, Bool, true, false, if◌then◌else◌, List, [], ◌∷◌, ◌++◌, length, drop, get_or, reverse, refl, sym, ap, ◌∙◌, arith, drop-cons}
 use Rattle.std.proofs.lemmas.List.{reverse-append}
 use Rattle.tks_pack.specs.declared.stretch.Edge.TheVariants as edge
-use Rattle.tks_pack.specs.declared.stretch.Alignment.TheVariants as at
+use Rattle.tks_opt.specs.declared.alignment.Alignment.TheVariants as at
 use Rattle.tks_pack.specs.declared.stretch.Stretch.{Stretch}
 use Rattle.tks_pack.specs.Stretch.{lies_along, takes_share, outer}
 use Rattle.tks_pack.specs.Packer.{more, first_share}

@@ -4,11 +4,6 @@ use Rattle.tks_text.specs.declared.fault.ScriptFault.{ScriptFault}
 use Rattle.tks_text.specs.declared.fault.Failure.{Failure}
 use Rattle.tks_text.specs.declared.fault.Failure.TheVariants as failure
 
--- a failure tells the fault; want of memory may come anywhere
-abbrev pub TellsSo : ScriptFault → Failure → Type 0
-TellsSo fault (failure.Script told) = told ≡ fault
-TellsSo fault failure.NoMemory = Unit {0}
-
 -- a call that changes a value did what its definition says, or left it as it was; want of memory may come anywhere
 abbrev pub PacksSo : {X Y : Type 0} → Result X Failure → Y → Y → Result Y ScriptFault → Type 0
 PacksSo (Ok x) old new given = given ≡ Ok new

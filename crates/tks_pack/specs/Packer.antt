@@ -3,11 +3,10 @@
 -- and a difference stops at 0. That is exact: of a length below 0 the manual's rule would make a quotient of at most
 -- 0, which counts as 0, and what is taken from such a length leaves it below 0.
 use Rattle.std.specs.Prelude.{ℕ, ◌+◌, ◌-◌, ◌*◌, ◌/◌, ◌==◌, min, max, if◌then◌else◌, List, [], ◌∷◌, Option, Some, None}
+use Rattle.tks_opt.specs.Alignment.{gap}
 use Rattle.tks_pack.specs.declared.line.Span.{Span}
 use Rattle.tks_pack.specs.declared.stretch.Edge.{Edge}
 use Rattle.tks_pack.specs.declared.stretch.Edge.TheVariants as edge
-use Rattle.tks_pack.specs.declared.stretch.Alignment.{Alignment}
-use Rattle.tks_pack.specs.declared.stretch.Alignment.TheVariants as at
 use Rattle.tks_pack.specs.declared.stretch.Stretch.{Stretch}
 use Rattle.tks_pack.specs.Stretch.{lies_along, takes_share, inner, outer}
 
@@ -53,12 +52,6 @@ behind edge.End l cavity = record { start = cavity.start; length = cavity.length
 behind edge.Neither l cavity = cavity
 
 -- ---- windows in their parcels
-
--- how much of free cells stands before the window; a half is rounded down
-abbrev pub gap : Alignment → ℕ → ℕ
-gap at.Start free = 0
-gap at.Middle free = free / 2
-gap at.End free = free
 
 -- the window's length in so much room: all of it where the window fills it, else what it asks for, if there is so much
 abbrev pub shown_length : Stretch → ℕ → ℕ

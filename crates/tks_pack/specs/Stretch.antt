@@ -1,18 +1,15 @@
 -- What a packed window asks for along one axis. The packer treats the two axes alike, and apart from one
 -- another: what it does from left to right doesn't depend on any height.
 use Rattle.std.specs.Prelude.{ℕ, ◌+◌, ◌*◌, Bool, true, false, if◌then◌else◌}
+use Rattle.tks_opt.specs.Alignment as alignment
 use Rattle.tks_pack.specs.declared.area.Extent.{Extent}
 use Rattle.tks_pack.specs.declared.settings.Settings.{Settings}
 use Rattle.tks_pack.specs.declared.settings.Side.{Side}
 use Rattle.tks_pack.specs.declared.settings.Side.TheVariants as side
 use Rattle.tks_pack.specs.declared.settings.Fill.{Fill}
 use Rattle.tks_pack.specs.declared.settings.Fill.TheVariants as fill
-use Rattle.tks_pack.specs.declared.settings.Anchor.{Anchor}
-use Rattle.tks_pack.specs.declared.settings.Anchor.TheVariants as anchor
 use Rattle.tks_pack.specs.declared.stretch.Edge.{Edge}
 use Rattle.tks_pack.specs.declared.stretch.Edge.TheVariants as edge
-use Rattle.tks_pack.specs.declared.stretch.Alignment.{Alignment}
-use Rattle.tks_pack.specs.declared.stretch.Alignment.TheVariants as at
 use Rattle.tks_pack.specs.declared.stretch.Stretch.{Stretch}
 
 -- the edge of the cavity that the side is, from left to right; top and bottom are neither
@@ -40,35 +37,13 @@ fills_vertically fill.X = false
 fills_vertically fill.Y = true
 fills_vertically fill.Both = true
 
-abbrev pub horizontal_alignment : Anchor → Alignment
-horizontal_alignment anchor.Center = at.Middle
-horizontal_alignment anchor.North = at.Middle
-horizontal_alignment anchor.NorthEast = at.End
-horizontal_alignment anchor.East = at.End
-horizontal_alignment anchor.SouthEast = at.End
-horizontal_alignment anchor.South = at.Middle
-horizontal_alignment anchor.SouthWest = at.Start
-horizontal_alignment anchor.West = at.Start
-horizontal_alignment anchor.NorthWest = at.Start
-
-abbrev pub vertical_alignment : Anchor → Alignment
-vertical_alignment anchor.Center = at.Middle
-vertical_alignment anchor.North = at.Start
-vertical_alignment anchor.NorthEast = at.Start
-vertical_alignment anchor.East = at.Middle
-vertical_alignment anchor.SouthEast = at.End
-vertical_alignment anchor.South = at.End
-vertical_alignment anchor.SouthWest = at.End
-vertical_alignment anchor.West = at.Middle
-vertical_alignment anchor.NorthWest = at.Start
-
 -- what a window of this size, packed so, asks for from left to right
 abbrev pub horizontal : Settings → Extent → Stretch
 horizontal p size = record {
   edge = horizontal_edge p.side;
   expands = p.expand;
   fills = fills_horizontally p.fill;
-  alignment = horizontal_alignment p.anchor;
+  alignment = alignment.horizontal p.anchor;
   requested = size.width;
   inner_padding = p.ipadx;
   padding = p.padx;
@@ -80,7 +55,7 @@ vertical p size = record {
   edge = vertical_edge p.side;
   expands = p.expand;
   fills = fills_vertically p.fill;
-  alignment = vertical_alignment p.anchor;
+  alignment = alignment.vertical p.anchor;
   requested = size.height;
   inner_padding = p.ipady;
   padding = p.pady;

@@ -14,4 +14,4 @@ pub use area::{Area, Extent};
 pub use laws::{share_is_the_most_that_fits, windows_lie_inside, windows_stand_in_order};
 pub use options::with_options;
 pub use packing::{Content, Packing, Requests};
-pub use settings::{Anchor, Fill, Settings, Side};
+pub use settings::{Fill, Settings, Side};

@@ -1,10 +1,10 @@
 ghost use Rattle.std.specs.Prelude.{◌≡◌, ℕ, ◌<◌, ◌≤◌, ◌+◌, ◌-◌, ◌^◌, max, IfOk, min};
 ghost use Rattle.tks_pack.specs.Stretch.{outer};
-ghost use Rattle.tks_pack.specs.Packer.{parcel_at, behind, gap, shown_length, within, spans, request_before, request};
+ghost use Rattle.tks_pack.specs.Packer.{parcel_at, behind, shown_length, within, spans, request_before, request};
 ghost use Rattle.tks_pack.specs.Packing.{capped};
 
 use crate::share::Shares;
-use crate::stretch::{Alignment, Edge, Stretch};
+use crate::stretch::{Edge, Stretch};
 use std::alloc::{AllocError, Global};
 
 /// Cells along one axis: the first, and how many there are.
@@ -21,18 +21,6 @@ fn parcel_length(length: u32, first: &Stretch, share: u64) -> u32
     ensures small { result ≤ length }
 {
     u64::from(length).min(first.outer() + share) as u32
-}
-
-// How much of free cells stands before a window.
-fn gap(alignment: Alignment, free: u32) -> u32
-    ensures value { result ≡ gap alignment free }
-    ensures small { result ≤ free }
-{
-    match alignment {
-        Alignment::Start => 0,
-        Alignment::Middle => free / 2,
-        Alignment::End => free,
-    }
 }
 
 impl Span {
@@ -100,7 +88,7 @@ fn within(stretch: &Stretch, parcel: Span) -> Option<Span>
     if length == 0 {
         None
     } else {
-        let gap = gap(stretch.alignment, room - length);
+        let gap = stretch.alignment.gap((room - length) as usize) as u32;
         Some(Span {
             start: parcel.start + padding + gap,
             length,

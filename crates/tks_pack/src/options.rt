@@ -1,11 +1,11 @@
 ghost use Rattle.std.specs.Prelude.{◌≡◌, drop};
-ghost use Rattle.tks_text.specs.Fault.{Gives, fault_about};
-ghost use Rattle.tks_pack.specs.Settings.{side_of, fill_of, anchor_of, truth_of, padding_of, option_of, changed, with_option, with_options};
-ghost use Rattle.tks_pack.specs.Meets.{TellsSo};
+ghost use Rattle.tks_text.specs.Fault.{Gives};
+ghost use Rattle.tks_pack.specs.Settings.{side_of, fill_of, padding_of, option_of, changed, with_option, with_options};
 
-use crate::settings::{Anchor, Fill, Settings, Side};
+use crate::settings::{Fill, Settings, Side};
 use std::alloc::Global;
-use tks_text::{ErrorNumber, Failure, ScriptFault, Seq, Txt, integer_of};
+use tks_opt::{Anchor, boolean_of, number_within, option_fault};
+use tks_text::{ErrorNumber, Failure, Txt};
 
 /// The options of `pack`.
 #[derive(Clone, Copy)]
@@ -21,7 +21,7 @@ pub enum PackOption {
 }
 
 /// The greatest padding, in cells.
-const MAX_PADDING: i64 = 1000;
+const MAX_PADDING: u16 = 1000;
 
 fn side_of(value: &[u8]) -> Option<Side>
     ensures { result ≡ side_of value.now }
@@ -55,72 +55,10 @@ fn fill_of(value: &[u8]) -> Option<Fill>
     }
 }
 
-fn anchor_of(value: &[u8]) -> Option<Anchor>
-    ensures { result ≡ anchor_of value.now }
-{
-    if value == b"center".as_slice() {
-        Some(Anchor::Center)
-    } else if value == b"n".as_slice() {
-        Some(Anchor::North)
-    } else if value == b"ne".as_slice() {
-        Some(Anchor::NorthEast)
-    } else if value == b"e".as_slice() {
-        Some(Anchor::East)
-    } else if value == b"se".as_slice() {
-        Some(Anchor::SouthEast)
-    } else if value == b"s".as_slice() {
-        Some(Anchor::South)
-    } else if value == b"sw".as_slice() {
-        Some(Anchor::SouthWest)
-    } else if value == b"w".as_slice() {
-        Some(Anchor::West)
-    } else if value == b"nw".as_slice() {
-        Some(Anchor::NorthWest)
-    } else {
-        None
-    }
-}
-
-// The truth value that an integer or a word says.
-fn truth_of(value: &Txt) -> Option<bool>
-    ensures { result ≡ truth_of value.now }
-{
-    let word = value.as_bytes();
-    if word == b"true".as_slice() {
-        Some(true)
-    } else if word == b"yes".as_slice() {
-        Some(true)
-    } else if word == b"on".as_slice() {
-        Some(true)
-    } else if word == b"false".as_slice() {
-        Some(false)
-    } else if word == b"no".as_slice() {
-        Some(false)
-    } else if word == b"off".as_slice() {
-        Some(false)
-    } else {
-        match integer_of(value) {
-            Ok(Some(integer)) => Some(integer != 0),
-            Ok(None) => None,
-            Err(_) => None,
-        }
-    }
-}
-
 fn padding_of(value: &Txt) -> Option<u16>
     ensures { result ≡ padding_of value.now }
 {
-    match integer_of(value) {
-        Ok(Some(integer)) => {
-            if 0 <= integer && integer <= MAX_PADDING {
-                Some(integer as u16)
-            } else {
-                None
-            }
-        }
-        Ok(None) => None,
-        Err(_) => None,
-    }
+    number_within(0, MAX_PADDING, value)
 }
 
 fn option_of(name: &[u8]) -> Option<PackOption>
@@ -155,22 +93,12 @@ fn changed(settings: Settings, option: PackOption, value: &Txt) -> Option<Settin
     match option {
         PackOption::Side => side_of(word).map(|side| Settings { side, ..settings }),
         PackOption::Fill => fill_of(word).map(|fill| Settings { fill, ..settings }),
-        PackOption::Expand => truth_of(value).map(|expand| Settings { expand, ..settings }),
-        PackOption::Anchor => anchor_of(word).map(|anchor| Settings { anchor, ..settings }),
+        PackOption::Expand => boolean_of(value).map(|expand| Settings { expand, ..settings }),
+        PackOption::Anchor => Anchor::named(value).map(|anchor| Settings { anchor, ..settings }),
         PackOption::PadX => padding_of(value).map(|padx| Settings { padx, ..settings }),
         PackOption::PadY => padding_of(value).map(|pady| Settings { pady, ..settings }),
         PackOption::InnerPadX => padding_of(value).map(|ipadx| Settings { ipadx, ..settings }),
         PackOption::InnerPadY => padding_of(value).map(|ipady| Settings { ipady, ..settings }),
-    }
-}
-
-// An error about an option.
-fn error_about(number: ErrorNumber, option: &Txt) -> Failure
-    ensures { TellsSo (fault_about number option.now) result }
-{
-    match ScriptFault::about(number, option) {
-        Ok(fault) => Failure::Script(fault),
-        Err(_) => Failure::NoMemory,
     }
 }
 
@@ -182,9 +110,9 @@ fn with_option(settings: Settings, name: &Txt, value: &Txt) -> Result<Settings, 
     match option_of(name.as_bytes()) {
         Some(option) => match changed(settings, option, value) {
             Some(settings) => Ok(settings),
-            None => Err(error_about(ErrorNumber::BadValue, name)),
+            None => Err(option_fault(ErrorNumber::BadValue, name)),
         },
-        None => Err(error_about(ErrorNumber::UnknownOption, name)),
+        None => Err(option_fault(ErrorNumber::UnknownOption, name)),
     }
 }
 

@@ -1,5 +1,7 @@
 ghost use Rattle.std.specs.Prelude.{◌≡◌};
 
+use tks_opt::Anchor;
+
 /// The side of the cavity that a window is packed against (pack(n), `-side`).
 #[derive(Clone, Copy, Debug)]
 pub enum Side {
@@ -18,26 +20,13 @@ pub enum Fill {
     Both,
 }
 
-/// Where a window stands in its parcel (pack(n), `-anchor`).
-#[derive(Clone, Copy, Debug)]
-pub enum Anchor {
-    Center,
-    North,
-    NorthEast,
-    East,
-    SouthEast,
-    South,
-    SouthWest,
-    West,
-    NorthWest,
-}
-
 /// How a window is packed (pack(n)): its options' values, the paddings in cells.
 #[derive(Clone, Copy, Debug)]
 pub struct Settings {
     pub side: Side,
     pub fill: Fill,
     pub expand: bool,
+    /// Where the window stands in its parcel.
     pub anchor: Anchor,
     /// Left free on the left and on the right of the window each.
     pub padx: u16,

@@ -1,8 +1,9 @@
 ghost use Rattle.std.specs.Prelude.{◌≡◌, ◌<◌, ◌^◌};
-ghost use Rattle.tks_pack.specs.Stretch.{horizontal_edge, vertical_edge, fills_horizontally, fills_vertically, horizontal_alignment, vertical_alignment, horizontal, vertical, lies_along, takes_share, inner, outer};
+ghost use Rattle.tks_pack.specs.Stretch.{horizontal_edge, vertical_edge, fills_horizontally, fills_vertically, horizontal, vertical, lies_along, takes_share, inner, outer};
 
 use crate::area::Extent;
-use crate::settings::{Anchor, Fill, Settings, Side};
+use crate::settings::{Fill, Settings, Side};
+use tks_opt::Alignment;
 
 /// The edge of the cavity that a window is packed against, along one axis.
 #[derive(Clone, Copy)]
@@ -11,14 +12,6 @@ pub enum Edge {
     End,
     /// It is packed against a side of the other axis, and so takes the cavity's whole length on this one.
     Neither,
-}
-
-/// Where along one axis a window stands in its parcel.
-#[derive(Clone, Copy)]
-pub enum Alignment {
-    Start,
-    Middle,
-    End,
 }
 
 /// What a packed window asks for along one axis.
@@ -71,26 +64,6 @@ fn fills_vertically(fill: Fill) -> bool
     }
 }
 
-fn horizontal_alignment(anchor: Anchor) -> Alignment
-    ensures { result ≡ horizontal_alignment anchor }
-{
-    match anchor {
-        Anchor::NorthWest | Anchor::West | Anchor::SouthWest => Alignment::Start,
-        Anchor::North | Anchor::Center | Anchor::South => Alignment::Middle,
-        Anchor::NorthEast | Anchor::East | Anchor::SouthEast => Alignment::End,
-    }
-}
-
-fn vertical_alignment(anchor: Anchor) -> Alignment
-    ensures { result ≡ vertical_alignment anchor }
-{
-    match anchor {
-        Anchor::NorthWest | Anchor::North | Anchor::NorthEast => Alignment::Start,
-        Anchor::West | Anchor::Center | Anchor::East => Alignment::Middle,
-        Anchor::SouthWest | Anchor::South | Anchor::SouthEast => Alignment::End,
-    }
-}
-
 impl Edge {
     /// Whether what is packed against it lies behind others along the axis.
     pub fn lies_along(self) -> bool
@@ -112,7 +85,7 @@ impl Stretch {
             edge: horizontal_edge(settings.side),
             expands: settings.expand,
             fills: fills_horizontally(settings.fill),
-            alignment: horizontal_alignment(settings.anchor),
+            alignment: settings.anchor.horizontal(),
             requested: size.width,
             inner_padding: settings.ipadx,
             padding: settings.padx,
@@ -127,7 +100,7 @@ impl Stretch {
             edge: vertical_edge(settings.side),
             expands: settings.expand,
             fills: fills_vertically(settings.fill),
-            alignment: vertical_alignment(settings.anchor),
+            alignment: settings.anchor.vertical(),
             requested: size.height,
             inner_padding: settings.ipady,
             padding: settings.pady,
