@@ -1,9 +1,10 @@
 pub mod Faults
-pub mod Least
 pub mod Contents
 pub mod Areas
 pub mod Reading
 pub mod Inside
 pub mod Order
 pub mod Fitting
+pub mod Noted
+pub mod Overtakes
 pub mod Ready

@@ -3,6 +3,7 @@ pub mod Stretch
 pub mod Packer
 pub mod Packing
 pub mod Requests
+pub mod Notes
 pub mod Shares
 pub mod Laws
 pub mod Meets

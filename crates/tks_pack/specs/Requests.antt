@@ -1,6 +1,6 @@
 -- What contents ask for where each that shares what is left over gets so many cells more: a share is the most with
 -- which this still fits (pack(n), "The packer algorithm").
-use Rattle.std.specs.Prelude.{ℕ, ◌+◌, ◌*◌, ◌^◌, max, min, if◌then◌else◌, List, [], ◌∷◌}
+use Rattle.std.specs.Prelude.{ℕ, ◌+◌, ◌*◌, ◌^◌, max, if◌then◌else◌, List, [], ◌∷◌}
 use Rattle.tks_pack.specs.declared.stretch.Stretch.{Stretch}
 use Rattle.tks_pack.specs.Packer.{more}
 use Rattle.tks_pack.specs.Stretch.{lies_along, outer}
@@ -17,8 +17,3 @@ request_with x (s ∷ rest) = request_with_before x s (request_with x rest)
 -- more than any cavity has
 abbrev pub too_long : ℕ
 too_long = 2 ^ 32
-
--- the same for the contents from each on, as far as it matters
-abbrev pub requests_with : ℕ → List Stretch → List ℕ
-requests_with x [] = 0 ∷ []
-requests_with x (s ∷ rest) = min too_long (request_with x (s ∷ rest)) ∷ requests_with x rest

@@ -4,7 +4,9 @@
 mod area;
 mod laws;
 mod line;
+mod note;
 mod options;
+mod overtaking;
 mod packing;
 mod settings;
 mod share;

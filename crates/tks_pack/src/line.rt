@@ -106,9 +106,9 @@ pub fn spans(
 {
     let mut spans = Vec::with_capacity(alloc, stretches.len())?;
     let mut cavity = Span { start: 0, length };
-    let mut shares = Shares::new(alloc, stretches, 0)?;
+    let mut shares = Shares::new(alloc, stretches)?;
     for (index, stretch) in stretches.iter().enumerate() {
-        let share = shares.next(alloc, stretches, index, cavity.length)?;
+        let share = shares.next(stretches, index, cavity.length);
         let taken = parcel_length(cavity.length, stretch, share);
         spans.push(within(stretch, cavity.parcel(stretch.edge, taken)))?;
         cavity = cavity.behind(stretch.edge, taken);
