@@ -1,9 +1,13 @@
-# Writes the table of src/packing/tests/table.rt: layouts drawn by a fixed generator of random numbers, each with
-# what Tk makes of it. The table was made by wish 8.6.13 under Xvfb, where a pixel stands for a cell:
-#     Xvfb :8 & DISPLAY=:8 wish against_wish.tcl 300
-# A row has the container's size, then the contents with their requested sizes and options, each behind `|`; then
-# `=`, the request of the container, and the place of each window, or `-` where it isn't mapped. Tk has no frame
-# that asks for less than a pixel, so no row has one.
+# Writes the rows of src/packing/tests/table.rt: layouts drawn by a fixed generator of random numbers, each with what
+# Tk makes of it, a pixel standing for a cell. The table was made by wish 8.6.13 under Xvfb:
+#     Xvfb :9 & DISPLAY=:9 wish against_wish.tcl 3000
+#
+# Numbers are written in base 36. A row has the container's width and height, of two digits each, or `----` where
+# it is as large as it asks to be; then each content as ten characters: its requested width and height; its side by
+# its first letter; -fill by its first letter; -expand; -anchor by where it is among the keys 1 to 9 (7 is nw, 3 is
+# se); -padx, -pady, -ipadx and -ipady, with `.` for an option that isn't given. Behind `=` follow the container's
+# request, and each window's x, y, width and height, of two digits each, or `-` where it isn't mapped. Tk has no
+# frame that asks for less than a pixel, so no row has one.
 
 set seed 11
 proc draw {n} {
@@ -13,50 +17,79 @@ proc draw {n} {
 }
 proc pick {list} { lindex $list [draw [llength $list]] }
 
-# An option with one of the values, or, more often than not, none.
-proc perhaps {option values} {
-    if {[draw 5] < 3} { return {} }
-    list $option [pick $values]
+# One of the values, or, more often than not, none.
+proc perhaps {values} {
+    if {[draw 5] < 3} { return . }
+    pick $values
 }
 
-proc options {} {
-    concat [list -side [pick {top bottom left right}]] [perhaps -fill {none x y both}] \
-        [perhaps -expand {0 1 1 1}] [perhaps -anchor {center n ne e se s sw w nw}] [perhaps -padx {0 1 2 5}] \
-        [perhaps -pady {0 1 2 3}] [perhaps -ipadx {0 1 3}] [perhaps -ipady {0 1 2}]
+proc digit {n} { string index 0123456789abcdefghijklmnopqrstuvwxyz $n }
+proc digits {args} {
+    set text {}
+    foreach n $args { append text [digit [expr {$n / 36}]] [digit [expr {$n % 36}]] }
+    return $text
+}
+
+set words {
+    t top b bottom l left r right
+    fn none fx x fy y fb both
+    a1 sw a2 s a3 se a4 w a5 center a6 e a7 nw a8 n a9 ne
+}
+
+# A content: its characters in a row, and what `pack` gets.
+proc content {} {
+    global words
+    set side [pick {t b l r}]
+    set fill [perhaps {n x y b}]
+    set expand [perhaps {0 1 1 1}]
+    set anchor [perhaps {1 2 3 4 5 6 7 8 9}]
+    set paddings [list [perhaps {0 1 2 5}] [perhaps {0 1 2 3}] [perhaps {0 1 3}] [perhaps {0 1 2}]]
+    set options [list -side [dict get $words $side]]
+    if {$fill ne "."} { lappend options -fill [dict get $words f$fill] }
+    if {$expand ne "."} { lappend options -expand $expand }
+    if {$anchor ne "."} { lappend options -anchor [dict get $words a$anchor] }
+    foreach option {-padx -pady -ipadx -ipady} value $paddings {
+        if {$value ne "."} { lappend options $option $value }
+    }
+    list $side$fill$expand$anchor[join $paddings {}] $options
 }
 
 proc layout {} {
     set width [expr {[draw 60] + 1}]
     set height [expr {[draw 30] + 1}]
+    set propagates [expr {[draw 4] == 0}]
     frame .c
     place .c -x 0 -y 0
-    set row "$width $height"
+    set row ----
+    if {!$propagates} { set row [digits $width $height] }
     set count [expr {[draw 8] + 1}]
     for {set i 0} {$i < $count} {incr i} {
         set w [expr {[draw 16] + 1}]
         set h [expr {[draw 9] + 1}]
-        set options [options]
+        lassign [content] characters options
         frame .c.$i -width $w -height $h
         pack .c.$i {*}$options
-        append row "|$w $h $options"
+        append row " [digit $w][digit $h]$characters"
     }
     update
-    append row "=[winfo reqwidth .c] [winfo reqheight .c]"
-    pack propagate .c 0
-    .c configure -width $width -height $height
-    update
+    append row "=[digits [winfo reqwidth .c] [winfo reqheight .c]]"
+    if {!$propagates} {
+        pack propagate .c 0
+        .c configure -width $width -height $height
+        update
+    }
     for {set i 0} {$i < $count} {incr i} {
         set w .c.$i
         if {[winfo ismapped $w]} {
-            append row "|[winfo x $w] [winfo y $w] [winfo width $w] [winfo height $w]"
+            append row " [digits [winfo x $w] [winfo y $w] [winfo width $w] [winfo height $w]]"
         } else {
-            append row "|-"
+            append row " -"
         }
     }
     destroy .c
     puts $row
 }
 
-wm geometry . 200x100
+wm geometry . 400x200
 for {set n 0} {$n < [lindex $argv 0]} {incr n} { layout }
 exit
