@@ -21,7 +21,8 @@ asked_with x n = n.asked + x * n.sharing
 abbrev pub past : Note → Stretch → Note
 past n s = if lies_along s.edge then record { asked = n.asked + outer s; sharing = n.sharing + more s } else n
 
--- what is noted at it
+-- what is noted at it: where it takes the whole length, itself counts; else nothing is added to what is asked for
+-- before it, which is never more than what is noted behind it
 abbrev pub note_at : Note → Stretch → Note
 note_at n s = if lies_along s.edge then n else record { asked = n.asked + outer s; sharing = n.sharing }
 

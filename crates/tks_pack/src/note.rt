@@ -34,7 +34,8 @@ impl Note {
         }
     }
 
-    // What is noted at a content: itself counts where it takes the whole length.
+    // What is noted at a content: itself counts where it takes the whole length. Else nothing is added, and notes behind
+    // it ask for as much.
     fn at(self, stretch: &Stretch) -> Note
         requires { self.asked < 2 ^ 127 }
         ensures { result ≡ note_at self stretch.now }
