@@ -1,3 +1,4 @@
 mod Places
 mod Layouts
 mod Marks
+mod Children

@@ -10,7 +10,6 @@ use Rattle.tks_tree.specs.Path.{is_within}
 use Rattle.tks_tree.specs.Windows as tree
 use Rattle.tks_tree.specs.Windows.{Window, Windows, Refusal, of_number, on_window, free_path, numbered, created, with_window, max_number, without, destroyed}
 use Rattle.tks_tree.specs.WellFormed.{Rise}
-use Rattle.tks_tree.proofs.Trees.{rise_filter}
 use Rattle.tks_text.specs.declared.fault.ErrorNumber.TheVariants.{NotAllowedOnRoot}
 use Rattle.tks_state.specs.declared.kept.Kept.{Kept}
 use Rattle.tks_state.specs.Windows.{still_there}
@@ -139,35 +138,6 @@ left_in_step t u number ks r h s =
     ∙ ap (filter (λ m. has u.windows m.0)) s
     ∙ sym (filter_map window_mark (λ m. has u.windows m.0) t.windows)
     ∙ ap (map window_mark) (ap (λ vs. filter (λ w. has vs w.number) t.windows) l.1 ∙ those_left l.0 0 t.next t.windows r ∙ sym l.1)
-
-pub left_numbered : (t u : Windows) (number : ℕ) → Rise 0 t.windows t.next → destroyed t number ≡ Ok u → Rise 0 u.windows u.next
-left_numbered t u number r h =
-    let l : Leaves t (Ok u) = subst (Leaves t) h (destroyed_leaves t number) in
-    subst (λ ws. Rise 0 ws u.next) (sym l.1) (subst (λ n. Rise 0 (filter l.0 t.windows) n) (sym l.2) (rise_filter l.0 0 t.windows t.next r))
-
--- ---- numbers of new windows
-
-rise_end : (low : ℕ) (ws : List Window) (v : Window) → Rise low ws v.number → Rise low (ws ++ v ∷ []) (v.number + 1)
-rise_end low [] v r = (r, omega arith)
-rise_end low (w ∷ ws) v r = (r.0, rise_end (w.number + 1) ws v r.1)
-
-abbrev Numbers : Result (ℕ × Windows) Refusal → Type 0
-Numbers (Ok x) = Rise 0 x.1.windows x.1.next
-Numbers (Err why) = Unit {0}
-
-created_numbered : (t : Windows) (path : List ℕ) (class : Class) → Rise 0 t.windows t.next → Numbers (created t path class)
-created_numbered t path class r = by (free_path t.windows path)
-  where
-    then_numbered : (b : Bool) → Numbers (if b then Ok (t.next, with_window t path class) else Err tree.OutOfNumbers)
-    then_numbered true = rise_end 0 t.windows (record { number = t.next; path = path; class = class }) r
-    then_numbered false = tt
-
-    by : (o : Result (Unit {0}) Refusal) → Numbers (tree.after o (λ _. numbered t path class))
-    by (Ok x) = then_numbered (nat_lt t.next max_number)
-    by (Err why) = tt
-
-pub added_numbered : (t u : Windows) (path : List ℕ) (number : ℕ) (class : Class) → created t path class ≡ Ok (number, u) → Rise 0 t.windows t.next → Rise 0 u.windows u.next
-added_numbered t u path number class h r = subst Numbers h (created_numbered t path class r)
 
 -- what a list is behind a push that had room
 pub pushed : {X E A : Type 0} (r : Result X E) (grown same : A) → IsOk r → (if is_ok r then grown else same) ≡ grown

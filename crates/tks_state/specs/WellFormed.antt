@@ -1,8 +1,9 @@
--- What holds of all worlds (this project's own rules).
-use Rattle.std.specs.Prelude.{ℕ, ◌≡◌, ◌≤◌, ◌^◌, List, map}
+-- What holds of all worlds (this project's own rules; that what is packed stands in its container, pack(n)).
+use Rattle.std.specs.Prelude.{ℕ, ◌≡◌, ◌==◌, ◌≤◌, ◌^◌, List, map, Some}
+use Rattle.std.specs.List.{AllByRecursion, IsDistinct}
 use Rattle.tks_text.specs.declared.class.Class.{Class}
 use Rattle.tks_tree.specs.Windows as tree
-use Rattle.tks_tree.specs.WellFormed.{Rise}
+use Rattle.tks_tree.specs.WellFormed as trees
 use Rattle.tks_state.specs.Widget.{class_of}
 use Rattle.tks_state.specs.World.{World}
 use Rattle.tks_state.specs.declared.kept.Kept.{Kept}
@@ -18,9 +19,21 @@ window_mark w = (w.number, w.class)
 abbrev pub InStep : List tree.Window → List Kept → Type 0
 InStep windows kept = map mark_of kept ≡ map window_mark windows
 
+-- the windows that are packed in one
+abbrev pub packed_windows : Kept → List ℕ
+packed_windows k = map (λ c. c.window) k.packing.contents
+
+-- they differ, and each is a window that stands right in it
+pub record PacksChildren (t : tree.Windows) (k : Kept) : Type 0 where
+  pub distinct : IsDistinct ◌==◌ (packed_windows k)
+  pub children : AllByRecursion (λ n. tree.parent t n ≡ Some k.window) (packed_windows k)
+
+abbrev pub AllPackChildren : tree.Windows → List Kept → Type 0
+AllPackChildren t kept = AllByRecursion (PacksChildren t) kept
+
 pub record WellFormed (w : World) : Type 0 where
   pub counted : w.accepted ≤ 2 ^ 62
-  -- windows have rising numbers below the next one; that paths differ, and a parent stands before its children, is
-  -- what holds of each tree
-  pub numbered : Rise 0 w.tree.windows w.tree.next
+  -- numbers rise and are below the next one, paths differ, and a parent stands before those in it
+  pub windows : trees.WellFormed w.tree
   pub in_step : InStep w.tree.windows w.kept
+  pub packs : AllPackChildren w.tree w.kept

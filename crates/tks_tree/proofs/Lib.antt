@@ -4,3 +4,4 @@ pub mod Trees
 pub mod Removals
 pub mod Preorders
 pub mod Once
+pub mod Parents

@@ -120,7 +120,7 @@ same_child q path (c ∷ front) e h =
     or_true (same_text q root_path) (same_text q path || goes_on q path) (or_true (same_text q path) (goes_on q path) (subst (λ p. goes_on q p ≡ true) (sym cut.1) (subst (λ p. goes_on p (c ∷ front ++ 46 ∷ cut.0) ≡ true) (sym h) (goes_on_here (c ∷ front) cut.0))))
 
 -- a path has a parent where something is before its last dot
-parent_cut : (path parent : List ℕ) → parent_of path ≡ Some parent → (front : List ℕ) × (before_last_dot path ≡ Some front) × (parent ≡ or_root front)
+pub parent_cut : (path parent : List ℕ) → parent_of path ≡ Some parent → (front : List ℕ) × (before_last_dot path ≡ Some front) × (parent ≡ or_root front)
 parent_cut path parent h = by (same_text path root_path) h
   where
     by2 : (o : Option (List ℕ)) → before_last_dot path ≡ o → option_map or_root o ≡ Some parent → (front : List ℕ) × (before_last_dot path ≡ Some front) × (parent ≡ or_root front)
