@@ -1,4 +1,5 @@
 pub mod Each
+pub mod Destroys
 pub mod Errors
 pub mod Packs
 pub mod Results

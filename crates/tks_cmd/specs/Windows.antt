@@ -10,7 +10,7 @@ use Rattle.tks_tcl.specs.Cause.{Cause, OverLimit, after, value_or_fault, wrong_w
 use Rattle.tks_opt.specs.Options.{first_options}
 use Rattle.tks_tree.specs.Path.{root_path}
 use Rattle.tks_tree.specs.Windows.{of_path, on_window, free_path}
-use Rattle.tks_state.specs.World.{World, with_window, destroyed}
+use Rattle.tks_state.specs.World.{World, with_window, without}
 use Rattle.tks_state.specs.Widget.{configured}
 use Rattle.tks_state.specs.declared.widget.Widget.{Widget}
 use Rattle.tks_state.specs.declared.widget.Widget.TheVariants as widget
@@ -61,19 +61,14 @@ module _ (limits : Limits) where
 abbrev pub is_other : List ℕ → Bool
 is_other path = not (same_text path root_path)
 
--- a world changed, or as it was where the change is an error
-abbrev pub or_same : World → Result World ScriptFault → World
-or_same w (Ok v) = v
-or_same w (Err fault) = w
-
--- a world without the window of a path, and without those in it; `.` stays
-abbrev pub without : World → List ℕ → World
-without w path = on_window (of_path w.tree.windows path) w (λ v. or_same w (destroyed w v.number))
+-- a world without the window of a path, and without those in it; a path that no window has is passed over
+abbrev pub without_path : World → List ℕ → World
+without_path w path = on_window (of_path w.tree.windows path) w (λ v. without w v.number)
 
 -- a world without the windows of these paths, taken out one after the other
 abbrev pub without_all : World → List (List ℕ) → World
 without_all w [] = w
-without_all w (path ∷ paths) = without_all (without w path) paths
+without_all w (path ∷ paths) = without_all (without_path w path) paths
 
 -- the command with the words behind its name: where `.` is among them, nothing is destroyed
 abbrev pub destroy_does : List ℕ → List (List ℕ) → World → Result Changed Cause

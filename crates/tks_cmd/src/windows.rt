@@ -1,10 +1,10 @@
 //! Making and destroying windows.
-ghost use Rattle.std.specs.Prelude.{◌≡◌, IfOk};
+ghost use Rattle.std.specs.Prelude.{◌≡◌, true, IfOk};
 ghost use Rattle.std.specs.List.{list_all};
 ghost use Rattle.tks_tcl.specs.Meets.{GivesSo};
 ghost use Rattle.tks_tree.specs.Windows.{free_path};
 ghost use Rattle.tks_cmd.specs.Changes.{creation};
-ghost use Rattle.tks_cmd.specs.Windows.{are_paired, first_widget, new_widget, added, room, made, make_does, is_other, without, without_all, destroy_does};
+ghost use Rattle.tks_cmd.specs.Windows.{are_paired, first_widget, new_widget, added, room, made, make_does, is_other, without_path, without_all, destroy_does};
 ghost use Rattle.tks_cmd.specs.Meets.{KeepsSo, interrupt_of};
 
 use std::alloc::{AllocError, Global};
@@ -152,9 +152,10 @@ fn are_others(paths: &[Txt]) -> bool
     paths.iter().all(|path| path.as_bytes() != b".".as_slice())
 }
 
-// Destroys the window of a path, with all that stand in it, where there is one. `.` stays.
+// Destroys the window of a path, with all that stand in it, where there is one. Only `.` would be refused.
 fn destroy(world: &mut World, path: &Txt)
-    ensures { world.new ≡ without world.old path.now }
+    requires { is_other path.now ≡ true }
+    ensures { world.new ≡ without_path world.old path.now }
 {
     let Some(window) = world.tree().find(path) else {
         return;
@@ -165,6 +166,7 @@ fn destroy(world: &mut World, path: &Txt)
 
 // Destroys the windows of paths, one after the other.
 fn destroy_all(world: &mut World, paths: &[Txt])
+    requires { list_all is_other paths.now ≡ true }
     ensures { world.new ≡ without_all world.old paths.now }
 {
     for path in paths {

@@ -3,6 +3,7 @@ use Rattle.std.proofs.Common.{◌≡◌, ℕ, ◌+◌, ◌<◌, ◌≤◌, ◌==
 use Rattle.std.specs.Prelude.{map, IfOk, ⊤}
 use Rattle.std.specs.List.{AllByRecursion, IsDistinct}
 use Rattle.std.proofs.lemmas.Bool.{eqb-true, eq-eqb}
+use Rattle.tks_text.specs.declared.class.Class.{Class}
 use Rattle.tks_text.specs.declared.fault.ErrorNumber.TheVariants.{NotAllowedOnRoot}
 use Rattle.tks_text.specs.declared.fault.ScriptFault.{ScriptFault}
 use Rattle.tks_opt.specs.Options as options
@@ -14,23 +15,18 @@ use Rattle.tks_pack.specs.declared.settings.Settings.{Settings}
 use Rattle.tks_pack.specs.declared.packing.Content.{Content}
 use Rattle.tks_tree.specs.Windows.{Window, Windows, of_number, parent, destroyed, first_windows}
 use Rattle.tks_tree.specs.WellFormed as trees
-use Rattle.tks_tree.specs.WellFormed.{Rise}
-use Rattle.tks_tree.proofs.Parents.{Destroyed, destroyed_so}
+use Rattle.tks_tree.specs.WellFormed.{Rise, Rises}
+use Rattle.tks_tree.proofs.Parents.{Destroyed, destroyed_so, turned}
 use Rattle.tks_state.specs.declared.kept.Kept.{Kept}
 use Rattle.tks_state.specs.declared.widget.Widget.{Widget}
 use Rattle.tks_state.specs.Widget.{called}
 use Rattle.tks_state.specs.Windows.{kept_of, replaced, on_kept, with_widget, with_packing, new_kept, called_at, packed_at, forgotten_at, propagating, still_there}
-use Rattle.tks_state.specs.WellFormed.{mark_of, window_mark, InStep, packed_windows, PacksChildren, AllPackChildren}
+use Rattle.tks_state.specs.WellFormed.{mark_of, window_mark, InStep, packed_windows, PacksChildren, AllPackChildren, WellFormed}
+use Rattle.tks_text.specs.Size.{Extent}
+use Rattle.tks_vars.specs.Variables.{Variables}
 
 abbrev windows_of : List Content → List ℕ
 windows_of cs = map (λ c. c.window) cs
-
-others_differ : (m n : ℕ) → (m == n) ≡ false → (n == m) ≡ false
-others_differ m n h = by (n == m) refl
-  where
-    by : (b : Bool) → (n == m) ≡ b → b ≡ false
-    by false e = refl
-    by true e = absurd (true≢false (sym (eq-eqb m n (sym (eqb-true n m e))) ∙ h))
 
 -- ---- contents
 
@@ -84,7 +80,7 @@ out_gone n [] d = tt
 out_gone n (c ∷ cs) d = by (c.window == n) refl (out_gone n cs d.1)
   where
     by : (b : Bool) → (c.window == n) ≡ b → NotAmong n (windows_of (taken_out n cs)) → NotAmong n (windows_of (if b then cs else c ∷ taken_out n cs))
-    by true e rest = all_weaker _ _ (windows_of cs) (λ y h. others_differ n y (subst (λ m. (m == y) ≡ false) (eqb-true c.window n e) h)) d.0
+    by true e rest = all_weaker _ _ (windows_of cs) (λ y h. turned n y (subst (λ m. (m == y) ≡ false) (eqb-true c.window n e) h)) d.0
     by false e rest = (e, rest)
 
 -- ---- what is kept of windows
@@ -184,28 +180,31 @@ added_packs t u (k ∷ ks) number v stands all =
 
 -- ---- a window less
 
--- numbers that rise, from one on
-abbrev Rising : ℕ → List ℕ → Type 0
-Rising low [] = ⊤
-Rising low (n ∷ ns) = (low ≤ n) × Rising (n + 1) ns
+abbrev Marks : Type 0
+Marks = List (ℕ × Class)
 
-rising_numbers : (low : ℕ) (ws : List Window) (high : ℕ) → Rise low ws high → Rising low (map (λ w. w.number) ws)
-rising_numbers low [] high r = tt
-rising_numbers low (w ∷ ws) high r = (r.0, rising_numbers (w.number + 1) ws high r.1)
+abbrev first_of : Marks → Option (ℕ × Class)
+first_of [] = None
+first_of (m ∷ ms) = Some m
 
-same_numbers : (ws : List Window) (ks : List Kept) → InStep ws ks → map (λ w. w.number) ws ≡ map (λ k. k.window) ks
-same_numbers ws ks s = by_marks ws ∙ ap (map (λ m. m.0)) (sym s) ∙ sym (by_kept ks)
-  where
-    by_marks : (ws : List Window) → map (λ w. w.number) ws ≡ map (λ m. m.0) (map window_mark ws)
-    by_marks [] = refl
-    by_marks (w ∷ ws) = ap (λ ns. w.number ∷ ns) (by_marks ws)
+abbrev rest_of : Marks → Marks
+rest_of [] = []
+rest_of (m ∷ ms) = ms
 
-    by_kept : (ks : List Kept) → map (λ k. k.window) ks ≡ map (λ m. m.0) (map mark_of ks)
-    by_kept [] = refl
-    by_kept (k ∷ ks) = ap (λ ns. k.window ∷ ns) (by_kept ks)
+abbrev number_in : Marks → ℕ
+number_in [] = 0
+number_in (m ∷ ms) = m.0
+
+-- what is kept of windows is in the order of their numbers
+pub kept_rise : (low : ℕ) (ws : List Window) (high : ℕ) (ks : List Kept) → InStep ws ks → Rise low ws high → Rises (λ k. k.window) low ks
+kept_rise low ws high [] s r = tt
+kept_rise low [] high (k ∷ ks) s r = absurd (true≢false (ap is_some (ap first_of s)))
+kept_rise low (w ∷ ws) high (k ∷ ks) s r =
+    let same : k.window ≡ w.number = ap (λ ms. number_in ms) s in
+    (omega (arith, same, r.0), subst (λ n. Rises (λ k. k.window) (n + 1) ks) (sym same) (kept_rise (w.number + 1) ws high ks (ap rest_of s) r.1))
 
 -- what is kept of windows that were made after one is kept of others
-apart : (low : ℕ) (ks : List Kept) (n : ℕ) → Rising low (map (λ k. k.window) ks) → n < low → AllByRecursion (λ k. (k.window == n) ≡ false) ks
+apart : (low : ℕ) (ks : List Kept) (n : ℕ) → Rises (λ k. k.window) low ks → n < low → AllByRecursion (λ k. (k.window == n) ≡ false) ks
 apart low [] n r h = tt
 apart low (k ∷ ks) n r h = (by (k.window == n) refl, apart (k.window + 1) ks n r.1 (omega (arith, h, r.0)))
   where
@@ -239,7 +238,7 @@ module _ (t : Windows) (n : ℕ) where
   all_others c [] child others all = tt
   all_others c (k ∷ ks) child others all = (in_other c k child others.0 all.0, all_others c ks child others.1 all.1)
 
-  free_in : (low c : ℕ) (new : Kept) (ks : List Kept) → Rising low (map (λ k. k.window) ks) → parent t n ≡ Some c → Free new → AllPackChildren t ks → AllByRecursion Free (replaced c new ks)
+  free_in : (low c : ℕ) (new : Kept) (ks : List Kept) → Rises (λ k. k.window) low ks → parent t n ≡ Some c → Free new → AllPackChildren t ks → AllByRecursion Free (replaced c new ks)
   free_in low c new [] r child free all = tt
   free_in low c new (k ∷ ks) r child free all = by (k.window == c) refl (free_in (k.window + 1) c new ks r.1 child free all.1)
     where
@@ -257,7 +256,7 @@ module _ (t : Windows) (n : ℕ) where
       by false s e rest = (s, rest e)
 
   -- a window that its container holds no more is packed nowhere
-  free_all : (ks : List Kept) → Rising 0 (map (λ k. k.window) ks) → AllPackChildren t ks → AllByRecursion Free (forgotten_at ks (parent t n) n)
+  free_all : (ks : List Kept) → Rises (λ k. k.window) 0 ks → AllPackChildren t ks → AllByRecursion Free (forgotten_at ks (parent t n) n)
   free_all ks r all = by (parent t n) refl
     where
       in_container : (c : ℕ) → parent t n ≡ Some c → (o : Option Kept) → kept_of ks c ≡ o → AllByRecursion Free (on_kept o ks (λ k. replaced c (with_packing k (forgotten n k.packing)) ks))
@@ -289,8 +288,12 @@ module _ (t : Windows) (n : ℕ) where
 pub left_packs : (t u : Windows) (n : ℕ) (ks : List Kept) → trees.WellFormed t → destroyed t n ≡ Ok u → InStep t.windows ks → AllPackChildren t ks
     → AllPackChildren u (still_there u.windows (forgotten_at ks (parent t n) n))
 left_packs t u n ks w gone s all =
-    let r = subst (Rising 0) (same_numbers t.windows ks s) (rising_numbers 0 t.windows t.next w.numbered) in
+    let r = kept_rise 0 t.windows t.next ks s w.numbered in
     still_packs t n u (forgotten_at ks (parent t n) n) (destroyed_so t u n w gone) (free_all t n ks r all) (forgotten_packs t ks (parent t n) n all)
+
+-- what is kept in a world is in the order of windows' numbers
+pub world_rises : (accepted : ℕ) (t : Windows) (ks : List Kept) (variables : Variables) (grid : Extent) → WellFormed (record { accepted = accepted; tree = t; kept = ks; variables = variables; grid = grid }) → Rises (λ k. k.window) 0 ks
+world_rises accepted t ks variables grid f = kept_rise 0 t.windows t.next ks f.in_step f.windows.numbered
 
 -- ---- the first world
 

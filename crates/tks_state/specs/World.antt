@@ -42,11 +42,15 @@ with_window w path v =
 abbrev pub unpacked : World → ℕ → World
 unpacked w number = record w { kept = forgotten_at w.kept (tree.parent w.tree number) number }
 
--- a window destroyed, with all that stand in it (destroy(n))
+-- a world without a window, and without all that stand in it; a number that no window has changes nothing
+abbrev pub without : World → ℕ → World
+without w number =
+    let t = tree.without w.tree number in
+    record w { tree = t; kept = still_there t.windows (forgotten_at w.kept (tree.parent w.tree number) number) }
+
+-- a window destroyed, with all that stand in it; `.` stays (destroy(n))
 abbrev pub destroyed : World → ℕ → Result World ScriptFault
-destroyed w number =
-    after (tree.destroyed w.tree number)
-    (λ t. Ok (record w { tree = t; kept = still_there t.windows (forgotten_at w.kept (tree.parent w.tree number) number) }))
+destroyed w number = after (tree.destroyed w.tree number) (λ _. Ok (without w number))
 
 -- a window's answer to a command
 abbrev pub called : World → ℕ → List (List ℕ) → Result (Option Said × World) ScriptFault

@@ -2,6 +2,8 @@ ghost use Rattle.std.specs.Prelude.{◌≡◌, ◌==◌, ◌+◌, ◌<◌, ◌^�
 ghost use Rattle.tks_text.specs.Fault.{Gives};
 ghost use Rattle.tks_tree.specs.Windows.{of_number};
 ghost use Rattle.tks_tree.specs.Meets.{MakesSo, AnswersSo};
+ghost use Rattle.tks_tree.specs.WellFormed as trees;
+ghost use Rattle.tks_tree.specs.WellFormed.{Rises};
 ghost use Rattle.tks_state.specs.Windows.{kept_of, called_at, packed_at, forgotten_at, propagating, still_there};
 ghost use Rattle.tks_state.specs.WellFormed.{WellFormed, mark_of};
 ghost use Rattle.tks_state.specs.World.{first_world, with_window, unpacked, destroyed, called, packed, with_propagation};
@@ -44,15 +46,18 @@ impl Model for World {
     ghost invariant = { λ w. WellFormed (record { accepted = w.accepted; tree = w.tree; kept = w.kept.items; variables = w.variables; grid = w.grid }) };
 }
 
-// The place of what is kept of a window.
+// The place of what is kept of a window. Windows' numbers rise.
 fn place_of(kept: &[Kept], window: WindowId) -> Option<usize>
+    requires { Rises (λ k. k.window) 0 kept.now }
     ensures { result ≡ position (λ k. k.window == window) kept.now }
 {
-    kept.iter().position(|one| one.window == window)
+    kept.binary_search_by_key(&window.number(), |one| one.window.number())
+        .ok()
 }
 
 // What a window's command says.
 fn call_at(kept: &mut Vec<Kept>, window: WindowId, words: &[Txt]) -> Result<Option<Said>, Failure>
+    requires { Rises (λ k. k.window) 0 kept.old.items }
     ensures value { Gives (λ said. (said, kept.new.items)) result (called_at kept.old.items window words.now) }
     ensures err { OnErr result (kept.new.items ≡ kept.old.items) }
     ensures marks { map mark_of kept.new.items ≡ map mark_of kept.old.items }
@@ -71,6 +76,7 @@ fn pack_at(
     window: WindowId,
     options: &[Txt],
 ) -> Result<(), Failure>
+    requires { Rises (λ k. k.window) 0 kept.old.items }
     ensures value { Gives (λ _. kept.new.items) result (packed_at kept.old.items container window options.now) }
     ensures err { OnErr result (kept.new.items ≡ kept.old.items) }
     ensures marks { map mark_of kept.new.items ≡ map mark_of kept.old.items }
@@ -90,6 +96,7 @@ fn pack_at(
 
 // Takes a window out of a container.
 fn forget_at(kept: &mut Vec<Kept>, container: Option<WindowId>, window: WindowId)
+    requires { Rises (λ k. k.window) 0 kept.old.items }
     ensures value { kept.new.items ≡ forgotten_at kept.old.items container window }
     ensures marks { map mark_of kept.new.items ≡ map mark_of kept.old.items }
 {
@@ -104,6 +111,7 @@ fn forget_at(kept: &mut Vec<Kept>, container: Option<WindowId>, window: WindowId
 
 // Says whether a container asks for its contents.
 fn set_propagates_at(kept: &mut Vec<Kept>, container: WindowId, propagates: bool)
+    requires { Rises (λ k. k.window) 0 kept.old.items }
     ensures value { kept.new.items ≡ propagating kept.old.items container propagates }
     ensures marks { map mark_of kept.new.items ≡ map mark_of kept.old.items }
 {
@@ -180,7 +188,8 @@ impl World {
 
     /// The windows: their numbers, paths and classes.
     pub fn tree(&self) -> &Tree
-        ensures { result.now ≡ self.now.tree }
+        ensures value { result.now ≡ self.now.tree }
+        ensures formed { trees.WellFormed self.now.tree }
     {
         &self.tree
     }

@@ -1,13 +1,18 @@
 -- The windows as the code keeps them, under their paths.
-use Rattle.std.proofs.Common.{rules, ◌≡◌, ℕ, ◌+◌, Bool, true, false, cond, List, [], ◌∷◌, ◌++◌, Some, None, is_some, refl, sym, ap, ◌∙◌, true≢false, if◌then◌else◌}
+use Rattle.std.proofs.Common.{rules, ◌≡◌, ℕ, ◌+◌, Bool, true, false, cond, List, [], ◌∷◌, ◌++◌, Some, None, Result, is_some, refl, sym, ap, ◌∙◌, true≢false, if◌then◌else◌}
 use Rattle.std.specs.Prelude.{suc, length, not, nat_lt, ◌==◌}
 use Rattle.std.specs.List.{find, position, position_or_len}
-use Rattle.std.specs.Map.{lookup, lookup_key, values_of}
+use Rattle.std.specs.List.Sorted.{IsSearchInRange, IsBinarySearchResult}
+use Rattle.std.specs.Map.{lookup, lookup_key}
+use Rattle.std.specs.Ordering.{nat_cmp}
+use Rattle.std.specs.Result.{result_ok}
 use Rattle.tks_text.specs.Text.{same_text}
 use Rattle.indexmap.specs.IndexMap.{insert_entry}
 use Rattle.tks_tree.specs.Windows.{Window, Windows, has_path, with_window}
 use Rattle.tks_text.specs.declared.class.Class.{Class}
 use Rattle.tks_tree.specs.View.{window_kept, windows_kept}
+use Rattle.tks_tree.specs.WellFormed.{Rise, Rises}
+use Rattle.tks_tree.proofs.Searches.{found}
 use Rattle.tks_tree.specs.declared.window.Entry.{Entry}
 
 none_is_some : {X : Type 0} {x : X} → Some x ≡ None → ⊥
@@ -54,14 +59,22 @@ kept_with es after next path key id class e k n new =
     (ap windows_kept (e ∙ ap (λ p. insert_entry same_text es p (record { id = id; class = class })) k ∙ ap (λ i. insert_entry same_text es path (record { id = i; class = class })) n)
     ∙ inserted es path (record { id = next; class = class }) new)
 
-first_place : (n : ℕ) (es : List (List ℕ × Entry)) → position_or_len (λ (entry : Entry). entry.id == n) (values_of es) ≡ position_or_len (λ (w : Window). w.number == n) (windows_kept es)
-first_place n [] = refl
-first_place n (e ∷ es) = ap (λ k. cond (not (e.1.id == n)) (1 + k) 0) (first_place n es)
+-- the place of a number among what is kept, and among the windows
+same_place : (n : ℕ) (es : List (List ℕ × Entry)) → position_or_len (λ (e : List ℕ × Entry). e.1.id == n) es ≡ position_or_len (λ (w : Window). w.number == n) (windows_kept es)
+same_place n [] = refl
+same_place n (e ∷ es) = ap (λ k. cond (not (e.1.id == n)) (1 + k) 0) (same_place n es)
 
-as_many : (es : List (List ℕ × Entry)) → length (values_of es) ≡ length (windows_kept es)
+as_many : (es : List (List ℕ × Entry)) → length es ≡ length (windows_kept es)
 as_many [] = refl
 as_many (e ∷ es) = ap suc (as_many es)
 
--- the place of a number among what is kept, and among the windows
-pub same_place : (n : ℕ) (es : List (List ℕ × Entry)) → position (λ (entry : Entry). entry.id == n) (values_of es) ≡ position (λ (w : Window). w.number == n) (windows_kept es)
-same_place n es i = cond (nat_lt (first_place n es i) (as_many es i)) (Some (first_place n es i)) None
+kept_rise : (low : ℕ) (es : List (List ℕ × Entry)) (high : ℕ) → Rise low (windows_kept es) high → Rises (λ (e : List ℕ × Entry). e.1.id) low es
+kept_rise low [] high r = tt
+kept_rise low (e ∷ es) high r = (r.0, kept_rise (e.1.id + 1) es high r.1)
+
+-- the place that a search finds
+pub found_place : (n : ℕ) (es : List (List ℕ × Entry)) (high : ℕ) (r : Result ℕ ℕ) → Rise 0 (windows_kept es) high → IsSearchInRange r (length es) → IsBinarySearchResult (λ e. nat_cmp e.1.id n) es r
+    → result_ok r ≡ position (λ (w : Window). w.number == n) (windows_kept es)
+found_place n es high r rise in_range searched =
+    found (λ e. e.1.id) n 0 es r (kept_rise 0 es high rise) in_range searched
+    ∙ (λ i. cond (nat_lt (same_place n es i) (as_many es i)) (Some (same_place n es i)) None)

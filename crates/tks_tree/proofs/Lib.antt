@@ -5,3 +5,4 @@ pub mod Removals
 pub mod Preorders
 pub mod Once
 pub mod Parents
+pub mod Searches

@@ -82,6 +82,14 @@ within_parent q path p h e k =
 
 -- ---- windows by numbers and by paths
 
+-- numbers that differ do so either way round
+pub turned : (m n : ℕ) → (m == n) ≡ false → (n == m) ≡ false
+turned m n h = by (n == m) refl
+  where
+    by : (b : Bool) → (n == m) ≡ b → b ≡ false
+    by false e = refl
+    by true e = absurd (true≢false (sym (eq-eqb m n (sym (eqb-true n m e))) ∙ h))
+
 -- no number of windows is below where they rise from
 not_below : (low : ℕ) (ws : List Window) (high n : ℕ) (w : Window) → Rise low ws high → of_number ws n ≡ Some w → low ≤ n
 not_below low [] high n w r e = absurd (some_is_none (sym e))
@@ -320,15 +328,15 @@ module _ (t : Windows) (w : WellFormed t) (d : Window) (gone : ℕ) (is : of_num
   not_root : (gone == 0) ≡ false → same_text d.path root_path ≡ false
   not_root other = behind (subst (λ ws. of_number ws gone ≡ Some d) w.first.1 is) (subst (AllFollow []) w.first.1 w.founded)
     where
-      turned : (0 == gone) ≡ false
-      turned = by (0 == gone) refl
-        where
-          by : (b : Bool) → (0 == gone) ≡ b → b ≡ false
-          by false e = refl
-          by true e = absurd (true≢false (sym (eq-eqb gone 0 (sym (eqb-true 0 gone e))) ∙ other))
-
       behind : of_number (root ∷ w.first.0) gone ≡ Some d → AllFollow [] (root ∷ w.first.0) → same_text d.path root_path ≡ false
-      behind e all = unlike root d.path (new_path (root ∷ []) w.first.0 gone d all.1 (sym (ap (λ b. cond b (Some root) (of_number w.first.0 gone)) turned) ∙ e)).1
+      behind e all = unlike root d.path (new_path (root ∷ []) w.first.0 gone d all.1 (sym (ap (λ b. cond b (Some root) (of_number w.first.0 gone)) (turned gone 0 other)) ∙ e)).1
+
+-- a window of another path than that of `.` has another number
+pub not_first : (t : Windows) (path : List ℕ) (v : Window) → WellFormed t → of_path t.windows path ≡ Some v → same_text path root_path ≡ false → (v.number == 0) ≡ false
+not_first t path v w e other =
+    let rise = subst (λ ws. Rise 0 ws t.next) w.first.1 w.numbered in
+    let later = sym (ap (λ b. cond b (Some root) (of_path w.first.0 path)) other) ∙ subst (λ ws. of_path ws path ≡ Some v) w.first.1 e in
+    turned 0 v.number (differs root w.first.0 t.next v.number v rise.1 (own_number (λ u. same_text path u.path) 1 w.first.0 t.next v rise.1 later))
 
 -- what holds of the windows behind one that was destroyed
 pub record Destroyed (t u : Windows) (gone : ℕ) : Type 0 where

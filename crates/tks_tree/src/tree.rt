@@ -83,11 +83,13 @@ impl Tree {
         self.find(path).is_some()
     }
 
-    // How many windows were made before the one of a number, and are there.
+    // How many windows were made before the one of a number, and are there. Numbers rise.
     fn place_of(&self, id: WindowId) -> Option<usize>
         ensures { result ≡ position (λ w. w.number == id) self.now.windows }
     {
-        self.windows.values().position(|entry| entry.id == id)
+        self.windows
+            .binary_search_by_key(&id.number(), |_path, entry| entry.id.number())
+            .ok()
     }
 
     /// The window that was made after so many others that are there.

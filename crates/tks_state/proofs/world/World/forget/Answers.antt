@@ -1,7 +1,10 @@
 use Rattle.std.proofs.Common.{sym, subst, ◌∙◌}
 use Rattle.tks_state.specs.WellFormed.{AllPackChildren}
-use Rattle.tks_state.proofs.Children.{forgotten_packs}
+use Rattle.tks_state.proofs.Children.{world_rises, forgotten_packs}
 use Rattle.tks_state.proofs.world.World.forget.Goals as goal
+
+pub forget_at-requires : goal.forget_at-requires
+forget_at-requires c = world_rises _ _ _ _ _ c.self.invariant
 
 pub invariant_of-self : goal.invariant_of-self
 invariant_of-self c =

@@ -1,8 +1,11 @@
 use Rattle.std.proofs.Common.{ap, sym, ◌∙◌}
 use Rattle.std.proofs.lemmas.Result.{IfOk-at_ok}
 use Rattle.tks_state.specs.Windows.{packed_at}
-use Rattle.tks_state.proofs.Children.{packed_packs}
+use Rattle.tks_state.proofs.Children.{world_rises, packed_packs}
 use Rattle.tks_state.proofs.world.World.pack.Goals as goal
+
+pub pack_at-requires : goal.pack_at-requires
+pack_at-requires c = world_rises _ _ _ _ _ c.self.invariant
 
 pub invariant_of-self-2 : goal.invariant_of-self-2
 invariant_of-self-2 c =

@@ -3,8 +3,11 @@ use Rattle.tks_tree.proofs.Parents.{destroyed_so}
 use Rattle.tks_state.specs.Windows.{forgotten_at, still_there}
 use Rattle.tks_state.specs.WellFormed.{InStep, AllPackChildren}
 use Rattle.tks_state.proofs.Marks.{left_in_step}
-use Rattle.tks_state.proofs.Children.{left_packs}
+use Rattle.tks_state.proofs.Children.{world_rises, left_packs}
 use Rattle.tks_state.proofs.world.World.remove_window.Goals as goal
+
+pub forget_at-requires : goal.forget_at-requires
+forget_at-requires c = world_rises _ _ _ _ _ c.self.invariant
 
 pub invariant_of-self-2 : goal.invariant_of-self-2
 invariant_of-self-2 c =

@@ -1,7 +1,10 @@
 use Rattle.std.proofs.Common.{sym, subst, ◌∙◌}
 use Rattle.tks_state.specs.WellFormed.{AllPackChildren}
-use Rattle.tks_state.proofs.Children.{propagating_packs}
+use Rattle.tks_state.proofs.Children.{world_rises, propagating_packs}
 use Rattle.tks_state.proofs.world.World.set_propagates.Goals as goal
+
+pub set_propagates_at-requires : goal.set_propagates_at-requires
+set_propagates_at-requires c = world_rises _ _ _ _ _ c.self.invariant
 
 pub invariant_of-self : goal.invariant_of-self
 invariant_of-self c =
