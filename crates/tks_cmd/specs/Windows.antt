@@ -4,7 +4,6 @@ use Rattle.std.specs.Prelude.{ℕ, Bool, not, ◌==◌, ◌%◌, nat_lt, if◌th
 use Rattle.std.specs.List.{list_all}
 use Rattle.tks_text.specs.Text.{same_text}
 use Rattle.tks_text.specs.declared.class.Class.TheVariants as class
-use Rattle.tks_text.specs.declared.fault.ScriptFault.{ScriptFault}
 use Rattle.tks_text.specs.declared.limits.Limits.{Limits}
 use Rattle.tks_tcl.specs.Cause.{Cause, OverLimit, after, value_or_fault, wrong_words}
 use Rattle.tks_opt.specs.Options.{first_options}

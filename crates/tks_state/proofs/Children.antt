@@ -1,6 +1,6 @@
 -- What is packed in windows stays their children.
-use Rattle.std.proofs.Common.{◌≡◌, ℕ, ◌+◌, ◌<◌, ◌≤◌, ◌==◌, Bool, true, false, cond, if◌then◌else◌, List, [], ◌∷◌, ◌++◌, Option, Some, None, is_some, Result, Ok, Err, refl, sym, ap, subst, ◌∙◌, true≢false, arith}
-use Rattle.std.specs.Prelude.{map, IfOk, ⊤}
+use Rattle.std.proofs.Common.{◌≡◌, ℕ, ◌+◌, ◌<◌, ◌==◌, Bool, true, false, cond, if◌then◌else◌, List, [], ◌∷◌, ◌++◌, Option, Some, None, is_some, Result, Ok, Err, refl, sym, ap, subst, ◌∙◌, true≢false, arith}
+use Rattle.std.specs.Prelude.{map, IfOk}
 use Rattle.std.specs.List.{AllByRecursion, IsDistinct}
 use Rattle.std.proofs.lemmas.Bool.{eqb-true, eq-eqb}
 use Rattle.tks_text.specs.declared.class.Class.{Class}
@@ -21,7 +21,7 @@ use Rattle.tks_state.specs.declared.kept.Kept.{Kept}
 use Rattle.tks_state.specs.declared.widget.Widget.{Widget}
 use Rattle.tks_state.specs.Widget.{called}
 use Rattle.tks_state.specs.Windows.{kept_of, replaced, on_kept, with_widget, with_packing, new_kept, called_at, packed_at, forgotten_at, propagating, still_there}
-use Rattle.tks_state.specs.WellFormed.{mark_of, window_mark, InStep, packed_windows, PacksChildren, AllPackChildren, WellFormed}
+use Rattle.tks_state.specs.WellFormed.{InStep, packed_windows, PacksChildren, AllPackChildren, WellFormed}
 use Rattle.tks_text.specs.Size.{Extent}
 use Rattle.tks_vars.specs.Variables.{Variables}
 
