@@ -45,8 +45,8 @@ pub fn line_row(
     Ok(cells)
 }
 
-// A row of spaces.
-fn blank_row(alloc: Global, width: usize) -> Result<Seq<u8>, AllocError>
+/// A row of spaces.
+pub fn blank_row(alloc: Global, width: usize) -> Result<Seq<u8>, AllocError>
     ensures { IfOk result (λ cells. cells ≡ row (λ _. space) width) }
 {
     let mut cells = Seq::new(alloc);

@@ -14,7 +14,7 @@ mod table;
 
 pub use alignment::Alignment;
 pub use anchor::Anchor;
-pub use cells::{blank_rows, line_row};
+pub use cells::{blank_row, blank_rows, line_row};
 pub use name::OptionName;
 pub use number::{boolean_of, number_within};
 pub use options::{Options, option_fault};

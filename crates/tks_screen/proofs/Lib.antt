@@ -1,1 +1,2 @@
 mod Painting
+mod Lines

@@ -2,11 +2,12 @@ ghost use Rattle.std.specs.Prelude.{◌≡◌, map, IfOk};
 ghost use Rattle.tks_opt.specs.Cells.{row, rows};
 ghost use Rattle.tks_state.specs.Layout.{shown_windows};
 ghost use Rattle.tks_screen.specs.Screen.{cell_in, rows_of, character};
-ghost use Rattle.tks_screen.specs.Panes.{pane_of, drawn};
+ghost use Rattle.tks_screen.specs.Panes.{pane_of, over_row, drawn};
 
 use std::alloc::{AllocError, Global};
+use tks_opt::blank_row;
 use tks_pack::Area;
-use tks_state::{Placed, World, covers};
+use tks_state::{Placed, World};
 use tks_text::Seq;
 
 /// What a window shows, and its cells on the grid.
@@ -57,30 +58,29 @@ pub fn panes_of(alloc: Global, world: &World) -> Result<Vec<Pane>, AllocError>
     Ok(panes)
 }
 
-// What a cell of the grid shows: the last pane that covers it.
-#[tactic(auto, using(crate::proofs::Painting::painted_last))]
-fn drawn(panes: &[Pane], column: u32, row: u32) -> u8
-    ensures { result ≡ drawn panes.now column row }
+// Paints what a pane shows in a line of the grid over the cells of that line.
+fn paint_line(cells: &mut Seq<u8>, pane: &Pane, line: u32)
+    ensures { cells.new ≡ over_row pane.now line cells.old }
 {
-    let mut rest = panes;
-    while let Some((last, before)) = rest.split_last() {
-        if covers(&last.area, column, row) {
-            let across = (column - last.area.x) as usize;
-            let down = (row - last.area.y) as usize;
-            return cell_in(last.rows.as_slice(), across, down);
-        }
-        rest = before;
+    let area = &pane.area;
+    if line < area.y || line - area.y >= area.height {
+        return;
     }
-    b' '
+    let down = (line - area.y) as usize;
+    let left = area.x as usize;
+    let right = (left + area.width as usize).min(cells.len());
+    for column in left..right {
+        cells.set(column, cell_in(pane.rows.as_slice(), column - left, down));
+    }
 }
 
-// A row of the grid.
+// A row of the grid: the panes painted in order.
 fn draw_row(alloc: Global, panes: &[Pane], width: u16, line: u32) -> Result<Seq<u8>, AllocError>
     ensures { IfOk result (λ cells. cells ≡ row (λ x. drawn panes.now x line) width) }
 {
-    let mut cells = Seq::new(alloc);
-    for column in 0..u32::from(width) {
-        cells.push(drawn(panes, column, line))?;
+    let mut cells = blank_row(alloc, usize::from(width))?;
+    for pane in panes {
+        paint_line(&mut cells, pane, line);
     }
     Ok(cells)
 }
