@@ -236,8 +236,8 @@ fn place_all(alloc: Global, kept: &[Kept], grid: Size) -> Result<Vec<Placed>, Al
     Ok(placed)
 }
 
-/// Whether a cell of the grid is one of these.
-pub fn covers(area: &Area, column: u32, row: u32) -> bool
+// Whether a cell of the grid is one of these.
+fn covers(area: &Area, column: u32, row: u32) -> bool
     ensures { result ≡ covers area.now column row }
 {
     let right = u64::from(area.x) + u64::from(area.width);

@@ -7,6 +7,6 @@ mod widget;
 mod world;
 
 pub use kept::Kept;
-pub use layout::{Placed, covers};
+pub use layout::Placed;
 pub use widget::Widget;
 pub use world::World;
