@@ -4,4 +4,3 @@ pub mod Table
 pub mod Options
 pub mod Cells
 pub mod Calls
-pub mod Meets

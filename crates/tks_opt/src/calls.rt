@@ -1,22 +1,18 @@
 //! The subcommands that all widgets have.
 ghost use Rattle.std.specs.Prelude.{◌≡◌, OnErr};
-ghost use Rattle.tks_text.specs.Fault.{Gives, fault_about};
+ghost use Rattle.tks_text.specs.Fault.{Gives, fault_about, TellsSo};
 ghost use Rattle.tks_text.specs.declared.fault.ErrorNumber.TheVariants.{WrongWords};
-ghost use Rattle.tks_opt.specs.Meets.{TellsSo};
 ghost use Rattle.tks_opt.specs.Calls.{are_pairs, configure_does, cget_does, subcommand_does, called};
 
 use crate::options::Options;
 use crate::said::Said;
 use tks_text::{ErrorNumber, Failure, ScriptFault, Txt};
 
-// The error about a wrong number of words, or an unknown subcommand.
-fn wrong_words(path: &Txt) -> Failure
+/// The error about a wrong number of words, or an unknown subcommand: about the window's path.
+pub fn wrong_words(path: &Txt) -> Failure
     ensures { TellsSo (fault_about WrongWords path.now) result }
 {
-    match ScriptFault::about(ErrorNumber::WrongWords, path) {
-        Ok(fault) => Failure::Script(fault),
-        Err(_) => Failure::NoMemory,
-    }
+    Failure::about(ErrorNumber::WrongWords, path)
 }
 
 // Whether words are pairs, one or more.
@@ -50,8 +46,8 @@ impl Options {
         }
     }
 
-    // A subcommand with the words behind it.
-    fn subcommand(&mut self, path: &Txt, name: &Txt, words: &[Txt]) -> Result<Said, Failure>
+    /// What `configure` or `cget` comes to, with the words behind it. Another subcommand is an error about the path.
+    pub fn subcommand(&mut self, path: &Txt, name: &Txt, words: &[Txt]) -> Result<Said, Failure>
         ensures value { Gives (λ said. (said, self.new)) result (subcommand_does path.now name.now words.now self.old) }
         ensures err { OnErr result (self.new ≡ self.old) }
         ensures class { self.new.class ≡ self.old.class }

@@ -14,9 +14,10 @@ mod table;
 
 pub use alignment::Alignment;
 pub use anchor::Anchor;
+pub use calls::wrong_words;
 pub use cells::{blank_row, blank_rows, line_row};
 pub use name::OptionName;
 pub use number::{boolean_of, number_within};
-pub use options::{Options, option_fault};
+pub use options::Options;
 pub use said::Said;
 pub use state::State;

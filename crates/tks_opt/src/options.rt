@@ -1,6 +1,5 @@
 ghost use Rattle.std.specs.Prelude.{◌≡◌, IfOk, OnErr, [], option_map, option_and_then};
-ghost use Rattle.tks_text.specs.Fault.{Gives, fault_about};
-ghost use Rattle.tks_opt.specs.Meets.{TellsSo};
+ghost use Rattle.tks_text.specs.Fault.{Gives};
 ghost use Rattle.tks_opt.specs.Table.{option_named, max_size};
 ghost use Rattle.tks_opt.specs.Values.{number_within, anchor_named, state_named};
 ghost use Rattle.tks_opt.specs.Options.{Legal, first_options, had, value_in, value_of, with_value, configured, replaced};
@@ -13,7 +12,7 @@ use crate::table::{MAX_SIZE, accepts, first_value, options_of};
 use indexmap::IndexMap;
 use std::alloc::{AllocError, Global};
 use std::marker::Model;
-use tks_text::{Class, ErrorNumber, Failure, ScriptFault, Txt};
+use tks_text::{Class, ErrorNumber, Failure, Txt};
 
 /// The options of one window: each that its class has, with a value that it may have. A value is kept as it
 /// was given.
@@ -32,16 +31,6 @@ impl Model for Options {
     ghost view = { λ t. record { class = t.class; values = t.values.entries } };
 
     ghost invariant = { λ t. Legal (record { class = t.class; values = t.values.entries }) };
-}
-
-/// The error about an option, by the name that was given.
-pub fn option_fault(number: ErrorNumber, name: &Txt) -> Failure
-    ensures { TellsSo (fault_about number name.now) result }
-{
-    match ScriptFault::about(number, name) {
-        Ok(fault) => Failure::Script(fault),
-        Err(_) => Failure::NoMemory,
-    }
 }
 
 impl Options {
@@ -102,11 +91,11 @@ impl Options {
         ensures { Gives (λ v. v.now) result (value_of self.now name.now) }
     {
         let Some(option) = OptionName::named(name.as_bytes()) else {
-            return Err(option_fault(ErrorNumber::UnknownOption, name));
+            return Err(Failure::about(ErrorNumber::UnknownOption, name));
         };
         match self.value(option) {
             Some(value) => Ok(value),
-            None => Err(option_fault(ErrorNumber::UnknownOption, name)),
+            None => Err(Failure::about(ErrorNumber::UnknownOption, name)),
         }
     }
 
@@ -127,10 +116,10 @@ impl Options {
         ensures { Gives (λ _. self.new) result (with_value self.old name.now value.now) }
     {
         let Some(option) = self.option_named(name) else {
-            return Err(option_fault(ErrorNumber::UnknownOption, name));
+            return Err(Failure::about(ErrorNumber::UnknownOption, name));
         };
         if !accepts(self.class, option, value) {
-            return Err(option_fault(ErrorNumber::BadValue, name));
+            return Err(Failure::about(ErrorNumber::BadValue, name));
         }
         self.values.insert(option, value.try_clone()?)?;
         Ok(())

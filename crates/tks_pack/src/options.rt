@@ -4,7 +4,7 @@ ghost use Rattle.tks_pack.specs.Settings.{side_of, fill_of, padding_of, option_o
 
 use crate::settings::{Fill, Settings, Side};
 use std::alloc::Global;
-use tks_opt::{Anchor, boolean_of, number_within, option_fault};
+use tks_opt::{Anchor, boolean_of, number_within};
 use tks_text::{ErrorNumber, Failure, Txt};
 
 /// The options of `pack`.
@@ -110,9 +110,9 @@ fn with_option(settings: Settings, name: &Txt, value: &Txt) -> Result<Settings, 
     match option_of(name.as_bytes()) {
         Some(option) => match changed(settings, option, value) {
             Some(settings) => Ok(settings),
-            None => Err(option_fault(ErrorNumber::BadValue, name)),
+            None => Err(Failure::about(ErrorNumber::BadValue, name)),
         },
-        None => Err(option_fault(ErrorNumber::UnknownOption, name)),
+        None => Err(Failure::about(ErrorNumber::UnknownOption, name)),
     }
 }
 

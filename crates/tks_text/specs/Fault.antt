@@ -59,3 +59,8 @@ abbrev pub Gives : {X Y : Type 0} → (X → Y) → Result X Failure → Result 
 Gives view (Ok x) given = given ≡ Ok (view x)
 Gives view (Err (Script fault)) given = given ≡ Err fault
 Gives view (Err NoMemory) given = Unit {0}
+
+-- a failure tells the error, unless memory was refused
+abbrev pub TellsSo : ScriptFault → Failure → Type 0
+TellsSo fault (Script told) = told ≡ fault
+TellsSo fault NoMemory = Unit {0}

@@ -119,6 +119,20 @@ pub enum Failure {
     NoMemory,
 }
 
+impl Failure {
+    ghost use Rattle.tks_text.specs.Fault.{fault_about, TellsSo};
+
+    /// The failure by an error that is about a text.
+    pub fn about(number: ErrorNumber, subject: &Txt) -> Failure
+        ensures { TellsSo (fault_about number subject.now) result }
+    {
+        match ScriptFault::about(number, subject) {
+            Ok(fault) => Failure::Script(fault),
+            Err(_) => Failure::NoMemory,
+        }
+    }
+}
+
 impl From<AllocError> for Failure {
     ghost use Rattle.std.specs.Prelude.{◌≡◌};
     ghost use Rattle.tks_text.specs.declared.fault.Failure.TheVariants.{NoMemory};

@@ -2,9 +2,6 @@
 use Rattle.std.specs.Prelude.{◌≡◌, ℕ, List, Option, option_map, Result, Ok, Err}
 use Rattle.std.specs.Borrow.{Bor}
 use Rattle.tks_text.specs.declared.fault.ErrorNumber.{ErrorNumber}
-use Rattle.tks_text.specs.declared.fault.ScriptFault.{ScriptFault}
-use Rattle.tks_text.specs.declared.fault.Failure.{Failure}
-use Rattle.tks_text.specs.declared.fault.Failure.TheVariants as failure
 
 abbrev pub index_seen : Option (Bor (List ℕ)) → Option (List ℕ)
 index_seen index = option_map (λ i. i.now) index
@@ -13,8 +10,3 @@ index_seen index = option_map (λ i. i.now) index
 abbrev pub AnswersSo : {X Y : Type 0} → (X → Y) → Result X ErrorNumber → Result Y ErrorNumber → Type 0
 AnswersSo view (Ok x) given = given ≡ Ok (view x)
 AnswersSo view (Err number) given = given ≡ Err number
-
--- a failure tells the fault; want of memory may come anywhere
-abbrev pub TellsSo : ScriptFault → Failure → Type 0
-TellsSo fault (failure.Script told) = told ≡ fault
-TellsSo fault failure.NoMemory = Unit {0}

@@ -1,13 +1,13 @@
 ghost use Rattle.std.specs.Prelude.{◌≡◌, IfOk, OnErr, None, Some, Ok, false};
-ghost use Rattle.tks_text.specs.Fault.{Gives, fault_about};
-ghost use Rattle.tks_vars.specs.Meets.{AnswersSo, TellsSo, index_seen};
+ghost use Rattle.tks_text.specs.Fault.{Gives};
+ghost use Rattle.tks_vars.specs.Meets.{AnswersSo, index_seen};
 ghost use Rattle.tks_vars.specs.Variables.{about, after, value_in, written, taken, without_element, is_there, grown_inside, is_link};
 ghost use Rattle.tks_vars.specs.Parts.{own};
 
 use crate::clones::CloneIn;
 use crate::table::Table;
 use std::alloc::{AllocError, Global};
-use tks_text::{ErrorNumber, Failure, ScriptFault, Txt};
+use tks_text::{ErrorNumber, Failure, Txt};
 
 /// What stands under the name of a variable.
 #[derive(Drop)]
@@ -23,19 +23,6 @@ pub enum Local {
     Own(Content),
     /// A link to the global of the same name.
     Link,
-}
-
-/// The error about a variable.
-pub fn fault(number: ErrorNumber, name: &Txt) -> Failure
-    ensures { TellsSo (fault_about number name.now) result }
-{
-    match name.try_clone() {
-        Ok(name) => Failure::Script(ScriptFault {
-            number,
-            subject: Some(name),
-        }),
-        Err(_) => Failure::NoMemory,
-    }
 }
 
 impl Content {
@@ -91,7 +78,7 @@ impl Content {
                 elements.insert(index, value)?;
                 Ok(())
             }
-            _ => Err(fault(ErrorNumber::WrongKindOfVariable, name)),
+            _ => Err(Failure::about(ErrorNumber::WrongKindOfVariable, name)),
         }
     }
 
@@ -131,7 +118,7 @@ impl Local {
                 content.write(name, index, value)?;
                 Ok(())
             }
-            Local::Link => Err(fault(ErrorNumber::NoSuchVariable, name)),
+            Local::Link => Err(Failure::about(ErrorNumber::NoSuchVariable, name)),
         }
     }
 

@@ -5,7 +5,7 @@ ghost use Rattle.tks_vars.specs.Meets.{AnswersSo};
 ghost use Rattle.tks_vars.specs.Variables.{no_variables, innermost, content_of, is_global, value_at, value_of, with_value, without_at, without, exists, linked, pushed, frame_of, pushed_with, frame_size, popped, with_procedure, size_in, grown_by_value, grown_by_link};
 
 use crate::clones::CloneIn;
-use crate::content::{Content, Local, fault};
+use crate::content::{Content, Local};
 use crate::name::named;
 use crate::procedure::{Argument, Procedure};
 use crate::table::Table;
@@ -106,7 +106,7 @@ impl Vars {
     {
         match self.value(name.as_bytes()) {
             Ok(value) => Ok(value),
-            Err(number) => Err(fault(number, name)),
+            Err(number) => Err(Failure::about(number, name)),
         }
     }
 
@@ -115,7 +115,7 @@ impl Vars {
         ensures { Gives (λ b. b) result (exists self.now name.now) }
     {
         let Some(part) = named(name.as_bytes()) else {
-            return Err(fault(ErrorNumber::BadName, name));
+            return Err(Failure::about(ErrorNumber::BadName, name));
         };
         match self.content(part.variable) {
             Some(content) => Ok(content.is_there(part.index)),
@@ -129,7 +129,7 @@ impl Vars {
         ensures err { OnErr result (self.new ≡ self.old) }
     {
         let Some(part) = named(name.as_bytes()) else {
-            return Err(fault(ErrorNumber::BadName, name));
+            return Err(Failure::about(ErrorNumber::BadName, name));
         };
         let value = value.try_clone()?;
         if self.is_global(part.variable) {
@@ -165,7 +165,7 @@ impl Vars {
     {
         match self.take(name.as_bytes()) {
             Ok(()) => Ok(()),
-            Err(number) => Err(fault(number, name)),
+            Err(number) => Err(Failure::about(number, name)),
         }
     }
 

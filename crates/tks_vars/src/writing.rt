@@ -7,7 +7,7 @@ ghost use Rattle.tks_vars.specs.Variables.{about, is_link, with_link};
 ghost use Rattle.tks_vars.specs.Parts.{put_global, put_local, without_name, take_global, take_local};
 ghost use Rattle.tks_vars.specs.Names.{element};
 
-use crate::content::{Content, Local, fault};
+use crate::content::{Content, Local};
 use crate::name::{Name, named};
 use crate::table::Table;
 use std::alloc::Global;
@@ -145,7 +145,7 @@ pub fn link(frame: &mut Table<Local>, name: &Txt) -> Result<(), Failure>
         },
     ) = named(name.as_bytes())
     else {
-        return Err(fault(ErrorNumber::BadName, name));
+        return Err(Failure::about(ErrorNumber::BadName, name));
     };
     match frame.get(variable) {
         None => {
@@ -153,6 +153,6 @@ pub fn link(frame: &mut Table<Local>, name: &Txt) -> Result<(), Failure>
             Ok(())
         }
         Some(Local::Link) => Ok(()),
-        Some(Local::Own(_)) => Err(fault(ErrorNumber::BadName, name)),
+        Some(Local::Own(_)) => Err(Failure::about(ErrorNumber::BadName, name)),
     }
 }
