@@ -3,6 +3,7 @@ pub mod Kept
 pub mod Trees
 pub mod Removals
 pub mod Preorders
+pub mod Families
 pub mod Once
 pub mod Parents
 pub mod Searches

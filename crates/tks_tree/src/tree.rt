@@ -1,7 +1,8 @@
-ghost use Rattle.std.specs.Prelude.{◌≡◌, ◌↔◌, ◌==◌, ℕ, Bool, Some, ◌<◌, not, position, length, reverse, slice_get, IfOk, OnErr, option_map};
-ghost use Rattle.tks_tree.specs.Path.{parent_of, is_within};
+ghost use Rattle.std.specs.Prelude.{◌≡◌, ◌↔◌, ◌==◌, ◌++◌, ℕ, Bool, Some, ◌<◌, not, position, length, reverse, slice_get, IfOk, IfSome, OnOk, OnErr, option_map};
+ghost use Rattle.tks_tree.specs.Path.{parent_of, is_child, is_within};
 ghost use Rattle.tks_text.specs.Fault.{Gives};
 ghost use Rattle.tks_tree.specs.Windows.{first_windows, of_path, has_path, of_number, parent_found, free_path, created, destroyed, resolved, number_at, parent, children, preorder, others_behind, Chooses};
+ghost use Rattle.tks_tree.specs.Families.{families, childless, with_child};
 ghost use Rattle.tks_tree.specs.WellFormed.{WellFormed};
 ghost use Rattle.tks_tree.specs.View.{window_seen, window_kept, windows_kept, without_at};
 ghost use Rattle.tks_tree.specs.Meets.{MakesSo, AnswersSo};
@@ -13,7 +14,7 @@ use crate::window::{Entry, Window, WindowId};
 use indexmap::IndexMap;
 use std::alloc::{AllocError, Global};
 use std::marker::Model;
-use tks_text::{Class, ErrorNumber, Failure, ScriptFault, Txt};
+use tks_text::{Class, ErrorNumber, Failure, ScriptFault, Seq, Txt};
 
 /// The number that no window's passes.
 const MAX_NUMBER: u64 = 1 << 62;
@@ -224,18 +225,61 @@ impl Tree {
         Ok(ids)
     }
 
+    // The place of the window that one of this path stands in.
+    fn place_of_parent(&self, path: &Txt) -> Result<Option<usize>, AllocError>
+        ensures { IfOk result (λ place. place ≡ position (λ w. is_child w.path path.now) self.now.windows) }
+    {
+        let Some(parent) = parent_of(path.as_bytes()) else {
+            return Ok(None);
+        };
+        let parent = Txt::from_text(self.alloc, parent)?;
+        Ok(self.windows.get_index_of(&parent))
+    }
+
+    // An empty list for each window.
+    fn childless(&self) -> Result<Vec<Seq<WindowId>>, AllocError>
+        ensures { IfOk result (λ f. f.items ≡ childless self.now.windows) }
+    {
+        let mut lists = Vec::with_capacity(self.alloc, self.len())?;
+        for _window in &self.windows {
+            lists.push(Seq::new(self.alloc))?;
+        }
+        Ok(lists)
+    }
+
+    // The children of each window.
+    fn families(&self) -> Result<Vec<Seq<WindowId>>, AllocError>
+        ensures { IfOk result (λ f. f.items ≡ families self.now.windows) }
+    {
+        let mut lists = self.childless()?;
+        for (path, entry) in &self.windows {
+            add_child(&mut lists, self.place_of_parent(path)?, entry.id)?;
+        }
+        Ok(lists)
+    }
+
+    // The children of a window, out of those of all.
+    fn family<'a>(&self, lists: &'a [Seq<WindowId>], id: WindowId) -> &'a [WindowId]
+        requires { lists.now ≡ families self.now.windows }
+        ensures { result.now ≡ children self.now id }
+    {
+        match self.place_of(id) {
+            Some(place) => lists[place].as_slice(),
+            None => &[],
+        }
+    }
+
     /// All windows in preorder: each before those in it, siblings in the order in which they were made.
     pub fn preorder(&self) -> Result<Vec<WindowId>, AllocError>
         ensures { IfOk result (λ ids. ids.items ≡ preorder self.now) }
     {
+        let lists = self.families()?;
         let mut order = Vec::new(self.alloc);
         let mut pending = Vec::new(self.alloc);
         pending.push(WindowId::root())?;
         while let Some(id) = pending.pop() {
             order.push(id)?;
-            let mut children = self.children(id)?;
-            children.reverse();
-            pending.extend_from_slice(&children)?;
+            push_reversed(&mut pending, self.family(&lists, id))?;
         }
         Ok(order)
     }
@@ -280,6 +324,33 @@ impl Tree {
             next: self.next,
         })
     }
+}
+
+// Adds a window to the children of the one at a place, if any.
+fn add_child(
+    lists: &mut Vec<Seq<WindowId>>,
+    place: Option<usize>,
+    id: WindowId,
+) -> Result<(), AllocError>
+    requires { IfSome place (λ p. p < length lists.old.items) }
+    ensures { OnOk result (lists.new.items ≡ with_child lists.old.items place id) }
+{
+    if let Some(place) = place {
+        lists[place].push(id)?;
+    }
+    Ok(())
+}
+
+// Adds numbers, the last one first.
+fn push_reversed(pending: &mut Vec<WindowId>, ids: &[WindowId]) -> Result<(), AllocError>
+    ensures { OnOk result (pending.new.items ≡ pending.old.items ++ reverse ids.now) }
+{
+    let mut rest = ids;
+    while let Some((last, before)) = rest.split_last() {
+        pending.push(*last)?;
+        rest = before;
+    }
+    Ok(())
 }
 
 // A window under its path.
