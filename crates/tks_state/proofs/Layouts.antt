@@ -1,59 +1,68 @@
 -- Sizes and places, found one after the other.
-use Rattle.std.proofs.Common.{◌≡◌, ℕ, suc, ◌+◌, ◌<◌, ◌^◌, ◌==◌, length, get_or, drop, drop-cons, add-one, subst, sym, append_assoc, Bool, true, false, if◌then◌else◌, List, [], ◌∷◌, ◌++◌, Option, Some, None, refl, ap, ◌∙◌, arith}
+use Rattle.std.proofs.Common.{◌≡◌, ℕ, suc, ◌+◌, ◌<◌, ◌^◌, length, get_or, drop, drop-cons, add-one, subst, sym, append_assoc, Bool, true, false, cond, if◌then◌else◌, List, [], ◌∷◌, ◌++◌, Option, Some, None, refl, ap, ◌∙◌, arith}
 use Rattle.std.specs.List.{AllByRecursion}
+use Rattle.std.specs.Ordering.{nat_cmp, eq_by_cmp}
+use Rattle.std.specs.Cmp.{nat_cmp_total}
+use Rattle.std.specs.FinMap as map
 use Rattle.std.specs.Prelude.{IfSome}
 use Rattle.tks_text.specs.Size as grid
 use Rattle.tks_pack.specs.Laws.{LiesInside}
 use Rattle.tks_pack.specs.Packing.{places}
 use Rattle.tks_pack.proofs.Order.{places_inside}
 use Rattle.tks_pack.specs.declared.area.Area.{Area}
+use Rattle.tks_pack.specs.declared.area.Extent.{Extent}
 use Rattle.tks_pack.specs.declared.packing.Content.{Content}
 use Rattle.tks_state.specs.declared.layout.Placed.{Placed}
 use Rattle.tks_state.specs.declared.kept.Kept.{Kept}
-use Rattle.tks_state.specs.declared.layout.Asked.{Asked}
-use Rattle.tks_state.specs.Layout.{size_in, asked, sizes_before, placed_after, area_in, extent_of, placed_content, placed_contents, contents_of, with_area, shown_of, LiesOn, AllLieOn, covers, or_this, last_over}
+use Rattle.tks_state.specs.ByWindow.{ByWindow}
+use Rattle.tks_state.specs.Layout.{size_in, with_size, sizes_before, placed_after, on_grid, extent_of, whole, with_content, with_contents, with_contents_of, with_area, shown_of, LiesOn, AllInside, AllLieOn, covers, or_this, last_over}
 
 -- the last one goes first
-pub sizes_last : (kept rest : List Kept) (k : Kept) (known : List Asked) → rest ≡ kept ++ k ∷ [] → sizes_before rest known ≡ sizes_before kept (asked k known ∷ known)
+pub sizes_last : (kept rest : List Kept) (k : Kept) (known : ByWindow Extent) → rest ≡ kept ++ k ∷ [] → sizes_before rest known ≡ sizes_before kept (with_size k known)
 sizes_last kept rest k known h = ap (λ ks. sizes_before ks known) h ∙ by kept
   where
-    by : (ks : List Kept) → sizes_before (ks ++ k ∷ []) known ≡ sizes_before ks (asked k known ∷ known)
+    by : (ks : List Kept) → sizes_before (ks ++ k ∷ []) known ≡ sizes_before ks (with_size k known)
     by [] = refl
-    by (l ∷ ks) = ap (λ later. asked l later ∷ later) (by ks)
+    by (l ∷ ks) = ap (with_size l) (by ks)
 
 -- ---- all cells lie on the grid
 
-all_both : (g : grid.Extent) (ps qs : List Placed) → AllLieOn g ps → AllLieOn g qs → AllLieOn g (ps ++ qs)
-all_both g [] qs h k = k
-all_both g (p ∷ ps) qs h k = (h.0, all_both g ps qs h.1 k)
+module _ (g : grid.Extent) where
+  abbrev Lies : Option Area → Type 0
+  Lies o = IfSome o (LiesOn g)
 
-pub area_lies : (g : grid.Extent) (ps : List Placed) (number : ℕ) → AllLieOn g ps → IfSome (area_in ps number) (LiesOn g)
-area_lies g [] number h = tt
-area_lies g (p ∷ ps) number h = by (p.window == number) (area_lies g ps number h.1)
-  where
-    by : (b : Bool) → IfSome (area_in ps number) (LiesOn g) → IfSome (if b then Some p.area else area_in ps number) (LiesOn g)
-    by true rest = h.0
-    by false rest = rest
+  none_lie : AllInside g map.empty
+  none_lie window = subst Lies (sym (map.get-empty nat_cmp window)) tt
 
-content_lies : (g : grid.Extent) (container : Area) (c : Content) (place : Option Area) → LiesOn g container → LiesInside (extent_of container) place → AllLieOn g (placed_content container c place)
-content_lies g container c None h k = tt
-content_lies g container c (Some a) h k = ((omega (arith, h.0, k), omega (arith, h.1, k)), tt)
+  one_more_lies : (placed : ByWindow Area) (window : ℕ) (a : Area) → AllInside g placed → LiesOn g a → AllInside g (map.insert placed window a)
+  one_more_lies placed window a h lies other = subst Lies (sym (map.get-insert nat_cmp_total placed window a other)) (by (eq_by_cmp nat_cmp other window))
+    where
+      by : (b : Bool) → Lies (cond b (Some a) (map.get placed other))
+      by true = lies
+      by false = h other
 
-pub contents_lie : (g : grid.Extent) (container : Area) (cs : List Content) (places : List (Option Area)) → LiesOn g container
-    → AllByRecursion (LiesInside (extent_of container)) places → AllLieOn g (placed_contents container cs places)
-contents_lie g container [] places h k = tt
-contents_lie g container (c ∷ cs) [] h k = tt
-contents_lie g container (c ∷ cs) (a ∷ places) h k = all_both g (placed_content container c a) (placed_contents container cs places) (content_lies g container c a h k.0) (contents_lie g container cs places h k.1)
+  pub whole_lies : (placed : ByWindow Area) → placed ≡ map.insert map.empty 0 (whole g) → AllInside g placed
+  whole_lies placed e = subst (AllInside g) (sym e) (one_more_lies map.empty 0 (whole g) none_lie (omega arith, omega arith))
 
-pub contents_of_lie : (g : grid.Extent) (known : List Asked) (k : Kept) (area : Option Area) → IfSome area (LiesOn g) → AllLieOn g (contents_of known k area)
-contents_of_lie g known k None h = tt
-contents_of_lie g known k (Some a) h =
-    contents_lie g a k.packing.contents (places (size_in known) (extent_of a) k.packing.contents) h (places_inside (size_in known) (extent_of a) k.packing.contents)
+  content_lies : (container : Area) (c : Content) (place : Option Area) (placed : ByWindow Area) → LiesOn g container → LiesInside (extent_of container) place → AllInside g placed
+      → AllInside g (with_content container c place placed)
+  content_lies container c None placed h k all = all
+  content_lies container c (Some a) placed h k all = one_more_lies placed c.window (on_grid container a) all (omega (arith, h.0, k), omega (arith, h.1, k))
 
-pub more_lie : (g : grid.Extent) (known : List Asked) (old new : List Placed) (k : Kept) (area : Option Area) → AllLieOn g old → area ≡ area_in old k.window
-    → new ≡ old ++ contents_of known k area → AllLieOn g new
-more_lie g known old new k area h a n =
-    subst (AllLieOn g) (sym n) (all_both g old (contents_of known k area) h (contents_of_lie g known k area (subst (λ o. IfSome o (LiesOn g)) (sym a) (area_lies g old k.window h))))
+  contents_lie : (container : Area) (cs : List Content) (places : List (Option Area)) (placed : ByWindow Area) → LiesOn g container
+      → AllByRecursion (LiesInside (extent_of container)) places → AllInside g placed → AllInside g (with_contents container cs places placed)
+  contents_lie container [] places placed h k all = all
+  contents_lie container (c ∷ cs) [] placed h k all = all
+  contents_lie container (c ∷ cs) (a ∷ places) placed h k all = contents_lie container cs places (with_content container c a placed) h k.1 (content_lies container c a placed h k.0 all)
+
+  contents_of_lie : (known : ByWindow Extent) (k : Kept) (area : Option Area) (placed : ByWindow Area) → Lies area → AllInside g placed → AllInside g (with_contents_of known k area placed)
+  contents_of_lie known k None placed h all = all
+  contents_of_lie known k (Some a) placed h all =
+      contents_lie a k.packing.contents (places (size_in known) (extent_of a) k.packing.contents) placed h (places_inside (size_in known) (extent_of a) k.packing.contents) all
+
+  pub more_lie : (known : ByWindow Extent) (old new : ByWindow Area) (k : Kept) (area : Option Area) → AllInside g old → area ≡ map.get old k.window
+      → new ≡ with_contents_of known k area old → AllInside g new
+  more_lie known old new k area all a n = subst (AllInside g) (sym n) (contents_of_lie known k area old (subst Lies (sym a) (all k.window)) all)
 
 pub area_fits : (g : grid.Extent) (o : Option Area) → g.width < 2 ^ 16 → g.height < 2 ^ 16 → IfSome o (LiesOn g) → IfSome o (λ a. (a.x + a.width < 2 ^ 32) × (a.y + a.height < 2 ^ 32))
 area_fits g None w h lies = tt
@@ -64,32 +73,32 @@ area_fits g (Some a) w h lies = (omega (arith, w, lies.0), omega (arith, h, lies
 next_one : {X : Type 0} (xs : List X) (i : ℕ) (x : X) → i < length xs → x ≡ get_or xs i x → drop i xs ≡ x ∷ drop (i + 1) xs
 next_one xs i x h e = rw (add-one) (drop-cons xs i x h ∙ ap (λ y. y ∷ drop (suc i) xs) (sym e))
 
-pub placed_more : (known : List Asked) (old new : List Placed) (kept : List Kept) (i : ℕ) (k : Kept) (area : Option Area) → i < length kept → k ≡ get_or kept i k
-    → area ≡ area_in old k.window → new ≡ old ++ contents_of known k area → placed_after known new (drop (i + 1) kept) ≡ placed_after known old (drop i kept)
+pub placed_more : (known : ByWindow Extent) (old new : ByWindow Area) (kept : List Kept) (i : ℕ) (k : Kept) (area : Option Area) → i < length kept → k ≡ get_or kept i k
+    → area ≡ map.get old k.window → new ≡ with_contents_of known k area old → placed_after known new (drop (i + 1) kept) ≡ placed_after known old (drop i kept)
 placed_more known old new kept i k area h e a n =
-    ap (λ ps. placed_after known ps (drop (i + 1) kept)) (n ∙ ap (λ o. old ++ contents_of known k o) a)
+    ap (λ ps. placed_after known ps (drop (i + 1) kept)) (n ∙ ap (λ o. with_contents_of known k o old) a)
     ∙ sym (ap (placed_after known old) (next_one kept i k h e))
 
 with_rest : (number : ℕ) (area : Option Area) (rest : List Placed) → with_area number area [] ++ rest ≡ with_area number area rest
 with_rest number None rest = refl
 with_rest number (Some a) rest = refl
 
-pub shown_more : (placed old new : List Placed) (numbers : List ℕ) (i number : ℕ) (area : Option Area) → i < length numbers → number ≡ get_or numbers i number
-    → area ≡ area_in placed number → new ≡ old ++ with_area number area [] → new ++ shown_of placed (drop (i + 1) numbers) ≡ old ++ shown_of placed (drop i numbers)
+pub shown_more : (placed : ByWindow Area) (old new : List Placed) (numbers : List ℕ) (i number : ℕ) (area : Option Area) → i < length numbers → number ≡ get_or numbers i number
+    → area ≡ map.get placed number → new ≡ old ++ with_area number area [] → new ++ shown_of placed (drop (i + 1) numbers) ≡ old ++ shown_of placed (drop i numbers)
 shown_more placed old new numbers i number area h e a n =
     let rest : List Placed = shown_of placed (drop (i + 1) numbers) in
     ap (λ ps. ps ++ rest) n ∙ append_assoc old (with_area number area []) rest
     ∙ ap (λ ps. old ++ ps) (with_rest number area rest ∙ ap (λ o. with_area number o rest) a)
     ∙ sym (ap (λ ns. old ++ shown_of placed ns) (next_one numbers i number h e))
 
-area_lies_on : (g : grid.Extent) (number : ℕ) (area : Option Area) → IfSome area (LiesOn g) → AllLieOn g (with_area number area [])
-area_lies_on g number None h = tt
-area_lies_on g number (Some a) h = (h, tt)
+all_both : (g : grid.Extent) (number : ℕ) (o : Option Area) (ps : List Placed) → IfSome o (LiesOn g) → AllLieOn g ps → AllLieOn g (with_area number o ps)
+all_both g number None ps h all = all
+all_both g number (Some a) ps h all = (h, all)
 
-pub shown_lie : (g : grid.Extent) (placed old new : List Placed) (number : ℕ) (area : Option Area) → AllLieOn g placed → AllLieOn g old → area ≡ area_in placed number
-    → new ≡ old ++ with_area number area [] → AllLieOn g new
-shown_lie g placed old new number area all h a n =
-    subst (AllLieOn g) (sym n) (all_both g old (with_area number area []) h (area_lies_on g number area (subst (λ o. IfSome o (LiesOn g)) (sym a) (area_lies g placed number all))))
+-- so do those that are shown
+pub shown_lie : (g : grid.Extent) (placed : ByWindow Area) (numbers : List ℕ) → AllInside g placed → AllLieOn g (shown_of placed numbers)
+shown_lie g placed [] all = tt
+shown_lie g placed (n ∷ numbers) all = all_both g n (map.get placed n) (shown_of placed numbers) (all n) (shown_lie g placed numbers all)
 
 -- ---- the last one
 

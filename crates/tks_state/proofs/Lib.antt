@@ -1,3 +1,4 @@
+pub mod ByWindow
 mod Places
 mod Layouts
 mod Marks

@@ -1,7 +1,8 @@
 -- Where the windows lie on the grid (pack(n), "The packer algorithm" and "Geometry propagation"; that `.` keeps the
 -- size of the grid, and the drawing order, are this project's own rules).
-use Rattle.std.specs.Prelude.{ℕ, ◌+◌, ◌==◌, ◌&&◌, ◌≤◌, nat_le, nat_lt, Bool, if◌then◌else◌, List, [], ◌∷◌, ◌++◌, Option, Some, None}
+use Rattle.std.specs.Prelude.{ℕ, ◌+◌, ◌&&◌, ◌≤◌, nat_le, nat_lt, Bool, if◌then◌else◌, List, [], ◌∷◌, Option, Some, None, IfSome}
 use Rattle.std.specs.List.{AllByRecursion}
+use Rattle.std.specs.FinMap as map
 use Rattle.tks_text.specs.Size as grid
 use Rattle.tks_pack.specs.Packing as packer
 use Rattle.tks_pack.specs.declared.area.Area.{Area}
@@ -10,77 +11,79 @@ use Rattle.tks_pack.specs.declared.packing.Content.{Content}
 use Rattle.tks_tree.specs.Windows.{preorder}
 use Rattle.tks_state.specs.Widget as widget
 use Rattle.tks_state.specs.World.{World}
+use Rattle.tks_state.specs.ByWindow.{ByWindow}
 use Rattle.tks_state.specs.declared.kept.Kept.{Kept}
-use Rattle.tks_state.specs.declared.layout.Asked.{Asked}
 use Rattle.tks_state.specs.declared.layout.Placed.{Placed}
 
 -- ---- how large windows ask to be
 
--- the size that a window of a number asks for, where it is known
-abbrev pub size_in : List Asked → ℕ → Extent
-size_in [] number = record { width = 0; height = 0 }
-size_in (a ∷ known) number = if a.window == number then a.size else size_in known number
+abbrev pub or_nothing : Option Extent → Extent
+or_nothing None = record { width = 0; height = 0 }
+or_nothing (Some size) = size
+
+-- the size that a window asks for, where it is known
+abbrev pub size_in : ByWindow Extent → ℕ → Extent
+size_in known window = or_nothing (map.get known window)
 
 abbrev pub or_own : Extent → Option Extent → Extent
 or_own own None = own
 or_own own (Some size) = size
 
 -- what a window asks for: what its contents need, where it asks for that, else what its class says
-abbrev pub size_of : Kept → List Asked → Extent
+abbrev pub size_of : Kept → ByWindow Extent → Extent
 size_of k known = or_own (widget.requested k.widget) (packer.requested (size_in known) k.packing.propagates k.packing.contents)
 
-abbrev pub asked : Kept → List Asked → Asked
-asked k known = record { window = k.window; size = size_of k known }
+abbrev pub with_size : Kept → ByWindow Extent → ByWindow Extent
+with_size k known = map.insert known k.window (size_of k known)
 
 -- what windows ask for, where it is known of those made after them: a window's contents were made after it
-abbrev pub sizes_before : List Kept → List Asked → List Asked
+abbrev pub sizes_before : List Kept → ByWindow Extent → ByWindow Extent
 sizes_before [] later = later
-sizes_before (k ∷ kept) later = asked k (sizes_before kept later) ∷ sizes_before kept later
+sizes_before (k ∷ kept) later = with_size k (sizes_before kept later)
 
-abbrev pub sizes : List Kept → List Asked
-sizes kept = sizes_before kept []
+abbrev pub sizes : List Kept → ByWindow Extent
+sizes kept = sizes_before kept map.empty
 
 -- ---- where they lie
-
--- the cells of a window on the grid, where it is among these
-abbrev pub area_in : List Placed → ℕ → Option Area
-area_in [] number = None
-area_in (p ∷ placed) number = if p.window == number then Some p.area else area_in placed number
 
 -- cells of a container, as cells of the grid
 abbrev pub on_grid : Area → Area → Area
 on_grid container a = record { x = container.x + a.x; y = container.y + a.y; width = a.width; height = a.height }
 
--- a content with its cells, where it is mapped
-abbrev pub placed_content : Area → Content → Option Area → List Placed
-placed_content container c None = []
-placed_content container c (Some a) = record { window = c.window; area = on_grid container a } ∷ []
+-- the cells of windows, and a content's, where it is mapped
+abbrev pub with_content : Area → Content → Option Area → ByWindow Area → ByWindow Area
+with_content container c None placed = placed
+with_content container c (Some a) placed = map.insert placed c.window (on_grid container a)
 
-abbrev pub placed_contents : Area → List Content → List (Option Area) → List Placed
-placed_contents container [] places = []
-placed_contents container (c ∷ contents) [] = []
-placed_contents container (c ∷ contents) (a ∷ places) = placed_content container c a ++ placed_contents container contents places
+abbrev pub with_contents : Area → List Content → List (Option Area) → ByWindow Area → ByWindow Area
+with_contents container [] places placed = placed
+with_contents container (c ∷ contents) [] placed = placed
+with_contents container (c ∷ contents) (a ∷ places) placed = with_contents container contents places (with_content container c a placed)
 
 abbrev pub extent_of : Area → Extent
 extent_of a = record { width = a.width; height = a.height }
 
--- a window's contents; none where the window isn't shown itself
-abbrev pub contents_of : List Asked → Kept → Option Area → List Placed
-contents_of known k None = []
-contents_of known k (Some a) = placed_contents a k.packing.contents (packer.places (size_in known) (extent_of a) k.packing.contents)
+-- the cells of windows, and those of a window's contents; of none where the window isn't shown itself
+abbrev pub with_contents_of : ByWindow Extent → Kept → Option Area → ByWindow Area → ByWindow Area
+with_contents_of known k None placed = placed
+with_contents_of known k (Some a) placed = with_contents a k.packing.contents (packer.places (size_in known) (extent_of a) k.packing.contents) placed
 
--- the windows that are shown, where those shown of the ones made before are known: a window's container was made
--- before it
-abbrev pub placed_after : List Asked → List Placed → List Kept → List Placed
+-- the cells of the windows that are shown, where they are known of the ones made before: a window's container was
+-- made before it
+abbrev pub placed_after : ByWindow Extent → ByWindow Area → List Kept → ByWindow Area
 placed_after known before [] = before
-placed_after known before (k ∷ kept) = placed_after known (before ++ contents_of known k (area_in before k.window)) kept
+placed_after known before (k ∷ kept) = placed_after known (with_contents_of known k (map.get before k.window) before) kept
 
 -- `.` has the whole grid
-abbrev pub whole : grid.Extent → Placed
-whole g = record { window = 0; area = record { x = 0; y = 0; width = g.width; height = g.height } }
+abbrev pub whole : grid.Extent → Area
+whole g = record { x = 0; y = 0; width = g.width; height = g.height }
 
-abbrev pub placed : World → List Placed
-placed w = placed_after (sizes w.kept) (whole w.grid ∷ []) w.kept
+-- the cells on the grid of each window that is shown
+abbrev pub placed_in : List Kept → grid.Extent → ByWindow Area
+placed_in kept g = placed_after (sizes kept) (map.insert map.empty 0 (whole g)) kept
+
+abbrev pub placed : World → ByWindow Area
+placed w = placed_in w.kept w.grid
 
 -- ---- what is drawn
 
@@ -89,9 +92,9 @@ with_area number None rest = rest
 with_area number (Some a) rest = record { window = number; area = a } ∷ rest
 
 -- those of these windows that are shown, in their order
-abbrev pub shown_of : List Placed → List ℕ → List Placed
+abbrev pub shown_of : ByWindow Area → List ℕ → List Placed
 shown_of placed [] = []
-shown_of placed (number ∷ numbers) = with_area number (area_in placed number) (shown_of placed numbers)
+shown_of placed (number ∷ numbers) = with_area number (map.get placed number) (shown_of placed numbers)
 
 -- the windows that are shown in drawing order: `.`, and each window before those in it
 abbrev pub shown_windows : World → List Placed
@@ -118,6 +121,10 @@ topmost w x y = last_over (shown_windows w) x y
 
 abbrev pub LiesOn : grid.Extent → Area → Type 0
 LiesOn g a = (a.x + a.width ≤ g.width) × (a.y + a.height ≤ g.height)
+
+-- those of each window that is shown
+abbrev pub AllInside : grid.Extent → ByWindow Area → Type 0
+AllInside g placed = (window : ℕ) → IfSome (map.get placed window) (LiesOn g)
 
 abbrev pub AllLieOn : grid.Extent → List Placed → Type 0
 AllLieOn g placed = AllByRecursion (λ p. LiesOn g p.area) placed

@@ -1,23 +1,16 @@
 //! Where the windows lie on the grid.
-ghost use Rattle.std.specs.Prelude.{◌≡◌, ◌+◌, ◌≤◌, ◌<◌, ◌^◌, ◌++◌, [], ◌∷◌, reverse, IfOk, IfSome, OnOk};
+ghost use Rattle.std.specs.Prelude.{◌≡◌, ◌+◌, ◌≤◌, ◌<◌, ◌^◌, ◌++◌, [], IfOk, IfSome, OnOk};
 ghost use Rattle.std.specs.List.{AllByRecursion};
 ghost use Rattle.tks_pack.specs.Laws.{LiesInside};
-ghost use Rattle.tks_state.specs.Layout.{size_in, size_of, asked, sizes, area_in, on_grid, placed_content, placed_contents, contents_of, placed_after, with_area, extent_of, whole, placed, shown_windows, covers, last_over, topmost, AllLieOn};
+ghost use Rattle.tks_state.specs.Layout.{size_of, sizes, on_grid, with_content, with_contents, with_contents_of, placed_in, with_area, extent_of, whole, shown_of, shown_windows, covers, last_over, topmost, AllInside, AllLieOn};
 
+use crate::by_window::ByWindow;
 use crate::kept::Kept;
 use crate::world::World;
 use std::alloc::{AllocError, Global};
-use std::marker::Model;
 use tks_pack::{Area, Content, Extent, Requests, windows_lie_inside};
 use tks_text::Size;
 use tks_tree::WindowId;
-
-/// A window, and how large it asks to be.
-#[derive(Clone, Copy)]
-pub struct Asked {
-    pub window: WindowId,
-    pub size: Extent,
-}
 
 /// A window that is shown, and its cells on the grid.
 #[derive(Clone, Copy, Debug)]
@@ -26,67 +19,24 @@ pub struct Placed {
     pub area: Area,
 }
 
-// How large windows ask to be. Contracts see those that were added last first.
-#[derive(Drop)]
-struct Sizes {
-    known: Vec<Asked>,
-}
-
-impl Model for Sizes {
-    ghost use Rattle.std.specs.Prelude.{List, reverse};
-    ghost use Rattle.tks_state.specs.declared.layout.Asked.{Asked};
-
-    ghost Value = { List Asked };
-
-    ghost view = { λ s. reverse s.known.items };
-}
-
-// What a window asks for among these, looked for from the last on.
-fn size_in(known: &[Asked], window: WindowId) -> Extent
-    ensures { result ≡ size_in (reverse known.now) window }
-{
-    let mut rest = known;
-    while let Some((last, before)) = rest.split_last() {
-        if last.window == window {
-            return last.size;
-        }
-        rest = before;
-    }
-    Extent {
-        width: 0,
-        height: 0,
-    }
-}
-
-impl Requests for Sizes {
+impl Requests for ByWindow<Extent> {
     ghost use Rattle.tks_state.specs.Layout.{size_in};
 
     ghost size = { size_in };
 
     fn requested(&self, window: WindowId) -> Extent {
-        size_in(&self.known, window)
-    }
-}
-
-impl Sizes {
-    fn new(alloc: Global) -> Sizes
-        ensures { result ≡ [] }
-    {
-        Sizes {
-            known: Vec::new(alloc),
+        match self.get(window) {
+            Some(size) => size,
+            None => Extent {
+                width: 0,
+                height: 0,
+            },
         }
-    }
-
-    fn push(&mut self, asked: Asked) -> Result<(), AllocError>
-        ensures ok { OnOk result (self.new ≡ asked ∷ self.old) }
-    {
-        self.known.push(asked)?;
-        Ok(())
     }
 }
 
 // How large a window asks to be, where it is known of those in it.
-fn size_of(kept: &Kept, sizes: &Sizes) -> Extent
+fn size_of(kept: &Kept, sizes: &ByWindow<Extent>) -> Extent
     ensures { result ≡ size_of kept.now sizes.now }
 {
     match kept.packing.requested(sizes) {
@@ -96,32 +46,17 @@ fn size_of(kept: &Kept, sizes: &Sizes) -> Extent
 }
 
 // How large windows ask to be.
-fn sizes_of(alloc: Global, kept: &[Kept]) -> Result<Sizes, AllocError>
+fn sizes_of(alloc: Global, kept: &[Kept]) -> Result<ByWindow<Extent>, AllocError>
     ensures { IfOk result (λ s. s ≡ sizes kept.now) }
 {
-    let mut sizes = Sizes::new(alloc);
+    let mut sizes = ByWindow::new(alloc);
     let mut rest = kept;
     while let Some((one, before)) = rest.split_last() {
         let size = size_of(one, &sizes);
-        sizes.push(Asked {
-            window: one.window,
-            size,
-        })?;
+        sizes.insert(one.window, size)?;
         rest = before;
     }
     Ok(sizes)
-}
-
-// The cells of a window on the grid, where it is among these.
-fn area_in(placed: &[Placed], window: WindowId) -> Option<Area>
-    ensures { result ≡ area_in placed.now window }
-{
-    for one in placed {
-        if one.window == window {
-            return Some(one.area);
-        }
-    }
-    None
 }
 
 // Cells of a container, as cells of the grid.
@@ -138,36 +73,33 @@ fn on_grid(container: Area, area: Area) -> Area
     }
 }
 
-// Adds a content with its cells, where it is mapped.
+// Keeps the cells of a content, where it is mapped.
 fn place_content(
-    placed: &mut Vec<Placed>,
+    placed: &mut ByWindow<Area>,
     container: Area,
     content: &Content,
     place: Option<Area>,
 ) -> Result<(), AllocError>
     requires inside { LiesInside (extent_of container) place }
     requires fits { (container.x + container.width < 2 ^ 32) × (container.y + container.height < 2 ^ 32) }
-    ensures { OnOk result (placed.new.items ≡ placed.old.items ++ placed_content container content.now place) }
+    ensures { OnOk result (placed.new ≡ with_content container content.now place placed.old) }
 {
     if let Some(area) = place {
-        placed.push(Placed {
-            window: content.window,
-            area: on_grid(container, area),
-        })?;
+        placed.insert(content.window, on_grid(container, area))?;
     }
     Ok(())
 }
 
-// Adds the contents of a container with their cells, those that are mapped.
+// Keeps the cells of the contents of a container, those that are mapped.
 fn place_contents(
-    placed: &mut Vec<Placed>,
+    placed: &mut ByWindow<Area>,
     container: Area,
     contents: &[Content],
     places: &[Option<Area>],
 ) -> Result<(), AllocError>
     requires inside { AllByRecursion (LiesInside (extent_of container)) places.now }
     requires fits { (container.x + container.width < 2 ^ 32) × (container.y + container.height < 2 ^ 32) }
-    ensures { OnOk result (placed.new.items ≡ placed.old.items ++ placed_contents container contents.now places.now) }
+    ensures { OnOk result (placed.new ≡ with_contents container contents.now places.now placed.old) }
 {
     let mut rest = places;
     for content in contents {
@@ -180,15 +112,15 @@ fn place_contents(
     Ok(())
 }
 
-// Adds what is packed in a window, where the window is shown itself.
+// Keeps the cells of what is packed in a window, where the window is shown itself.
 fn place_in(
-    placed: &mut Vec<Placed>,
+    placed: &mut ByWindow<Area>,
     area: Option<Area>,
     kept: &Kept,
-    sizes: &Sizes,
+    sizes: &ByWindow<Extent>,
 ) -> Result<(), AllocError>
     requires { IfSome area (λ a. (a.x + a.width < 2 ^ 32) × (a.y + a.height < 2 ^ 32)) }
-    ensures { OnOk result (placed.new.items ≡ placed.old.items ++ contents_of sizes.now kept.now area) }
+    ensures { OnOk result (placed.new ≡ with_contents_of sizes.now kept.now area placed.old) }
 {
     let Some(area) = area else {
         return Ok(());
@@ -213,27 +145,47 @@ fn show(shown: &mut Vec<Placed>, window: WindowId, area: Option<Area>) -> Result
     Ok(())
 }
 
-// The windows that are shown, from the container on.
-fn place_all(alloc: Global, kept: &[Kept], grid: Size) -> Result<Vec<Placed>, AllocError>
-    ensures inside { IfOk result (λ p. AllLieOn grid p.items) }
-    ensures value { IfOk result (λ p. p.items ≡ placed_after (sizes kept.now) (whole grid ∷ []) kept.now) }
+// The whole grid.
+fn whole(grid: Size) -> Area
+    ensures value { result ≡ whole grid }
+    ensures small { (grid.width < 2 ^ 16) × (grid.height < 2 ^ 16) }
+{
+    Area {
+        x: 0,
+        y: 0,
+        width: u32::from(grid.width()),
+        height: u32::from(grid.height()),
+    }
+}
+
+// The cells of the windows that are shown.
+fn place_all(alloc: Global, kept: &[Kept], grid: Size) -> Result<ByWindow<Area>, AllocError>
+    ensures inside { IfOk result (AllInside grid) }
+    ensures value { IfOk result (λ p. p ≡ placed_in kept.now grid) }
 {
     let sizes = sizes_of(alloc, kept)?;
-    let mut placed = Vec::new(alloc);
-    placed.push(Placed {
-        window: WindowId::root(),
-        area: Area {
-            x: 0,
-            y: 0,
-            width: u32::from(grid.width()),
-            height: u32::from(grid.height()),
-        },
-    })?;
+    let mut placed = ByWindow::new(alloc);
+    placed.insert(WindowId::root(), whole(grid))?;
     for one in kept {
-        let area = area_in(&placed, one.window);
+        let area = placed.get(one.window);
         place_in(&mut placed, area, one, &sizes)?;
     }
     Ok(placed)
+}
+
+// Those of these windows that are shown, with their cells.
+fn shown_among(
+    alloc: Global,
+    windows: &[WindowId],
+    placed: &ByWindow<Area>,
+) -> Result<Vec<Placed>, AllocError>
+    ensures { IfOk result (λ shown. shown.items ≡ shown_of placed.now windows.now) }
+{
+    let mut shown = Vec::new(alloc);
+    for window in windows {
+        show(&mut shown, *window, placed.get(*window))?;
+    }
+    Ok(shown)
 }
 
 // Whether a cell of the grid is one of these.
@@ -276,10 +228,8 @@ impl World {
         ensures inside { IfOk result (λ shown. AllLieOn self.now.grid shown.items) }
     {
         let placed = place_all(self.alloc(), self.all_kept(), self.grid())?;
-        let mut shown = Vec::new(self.alloc());
-        for window in &self.tree().preorder()? {
-            show(&mut shown, *window, area_in(&placed, *window))?;
-        }
+        let order = self.tree().preorder()?;
+        let shown = shown_among(self.alloc(), &order, &placed)?;
         Ok(shown)
     }
 }

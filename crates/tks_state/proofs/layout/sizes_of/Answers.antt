@@ -1,4 +1,5 @@
-use Rattle.std.proofs.Common.{ap, sym, ◌∙◌, ◌∷◌}
+use Rattle.std.proofs.Common.{ap, sym, ◌∙◌}
+use Rattle.std.specs.FinMap as map
 use Rattle.tks_state.specs.Layout.{sizes_before}
 use Rattle.tks_state.proofs.Layouts.{sizes_last}
 use Rattle.tks_state.proofs.layout.sizes_of.Goals as goal
@@ -8,6 +9,6 @@ loop-one-preserved c =
     let one = c.in-Some.one.now in
     let before = c.in-Some.before.now in
     let known = c.loop-one.sizes in
-    ap (sizes_before before) (c.in_ok-push.ensures.ok ∙ ap (λ size. record { window = one.window; size = size } ∷ known) c.size_of-size.ensures)
+    ap (sizes_before before) (c.in_ok-insert.ensures.ok ∙ ap (map.insert known one.window) c.size_of-size.ensures)
     ∙ sym (sizes_last before c.loop-one.rest.now one known c.in-Some.ensures.cases.0)
     ∙ c.loop-one.invariant
