@@ -37,7 +37,7 @@ module _ {A : Type 0} where
   innermost_set (x ∷ xs) k y e = let same : length xs ≡ k = omega arith in subst (λ i. reverse (slice_set (x ∷ xs) i y) ≡ y ∷ drop 1 (reverse (x ∷ xs))) same (last_set x xs y)
 
 -- where a name is no global's there is a frame
-pub some_frame : (frames : List Frame) (variable : List ℕ) → is_global (innermost (reverse frames)) variable ≡ false → 0 < length frames
+pub some_frame : (frames : List (Option Frame)) (variable : List ℕ) → is_global (innermost (reverse frames)) variable ≡ false → 0 < length frames
 some_frame [] variable local = absurd cc
 some_frame (frame ∷ below) variable local = omega arith
 
@@ -54,10 +54,10 @@ after_both : {X Y W : Type 0} (r : Result X ErrorNumber) (f : X → Y) (g : Y �
 after_both (Ok x) f g = refl
 after_both (Err number) f g = refl
 
-module _ (globals : Map Content) (procedures : Map Procedure) (below : List Frame) where
+module _ (globals : Map Content) (procedures : Map Procedure) (below : List (Option Frame)) where
   -- all variables, by the innermost frame
   abbrev pub holding : Frame → Variables
-  holding frame = record { globals = globals; locals = frame ∷ below; procedures = procedures }
+  holding frame = record { globals = globals; locals = Some frame ∷ below; procedures = procedures }
 
   module _ (frame : Frame) (name : Name) (no_link : is_link (map.get frame name.variable) ≡ false) where
     reads_own : content_of (holding frame) name.variable ≡ own (map.get frame name.variable)

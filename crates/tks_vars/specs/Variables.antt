@@ -1,6 +1,6 @@
 -- The variables and procedures of scripts (set(n), unset(n), global(n), info(n), proc(n)), as finite maps.
-use Rattle.std.specs.Prelude.{ℕ, Bool, true, false, if◌then◌else◌, List, [], ◌∷◌, Option, Some, None, is_some, option_and_then, drop, reverse, Result, Ok, Err, refl}
-use Rattle.std.specs.Coded.{Coded, code_by, coded×, coded_list, coded_ℕ}
+use Rattle.std.specs.Prelude.{ℕ, Bool, true, false, if◌then◌else◌, List, [], ◌∷◌, Option, Some, None, is_some, option_map, option_and_then, drop, reverse, Result, Ok, Err, refl}
+use Rattle.std.specs.Coded.{Coded, code_by, coded×, coded_list, coded_option, coded_ℕ}
 use Rattle.std.specs.FinMap as map
 use Rattle.tks_text.specs.declared.fault.ErrorNumber.{ErrorNumber}
 use Rattle.tks_text.specs.declared.fault.ErrorNumber.TheVariants.{NoSuchVariable, WrongKindOfVariable, BadName}
@@ -22,10 +22,11 @@ use Rattle.tks_vars.specs.contracts.procedure.Procedure as procedure
 abbrev pub Frame : Type 0
 Frame = Map Local
 
--- all variables, and the procedures; the frames of procedures with the innermost first
+-- all variables, and the procedures; the frames with the innermost first, of which one that is none has the globals as
+-- its variables
 pub record Variables : Type 0 where
   pub globals : Map Content
-  pub locals : List Frame
+  pub locals : List (Option Frame)
   pub procedures : Map Procedure
 
 abbrev pub map_code : {V : Type 0} → Coded V → Coded (Map V)
@@ -33,8 +34,8 @@ map_code code = map.code (coded_list coded_ℕ) code
 
 abbrev pub variables_code : Coded Variables
 variables_code =
-    code_by (Map Content × (List Frame × Map Procedure))
-    (coded× (map_code content.the_row.coded) (coded× (coded_list (map_code local.the_row.coded)) (map_code procedure.the_row.coded)))
+    code_by (Map Content × (List (Option Frame) × Map Procedure))
+    (coded× (map_code content.the_row.coded) (coded× (coded_list (coded_option (map_code local.the_row.coded))) (map_code procedure.the_row.coded)))
     (λ v. (v.globals, (v.locals, v.procedures))) (λ c. record { globals = c.0; locals = c.1.0; procedures = c.1.1 }) (λ _. refl)
 
 abbrev pub no_variables : Variables
@@ -79,11 +80,12 @@ is_there content None = is_some content
 is_there (Some (Array elements)) (Some index) = map.contains_key elements index
 is_there content (Some index) = false
 
--- The variables of the present frame: of the innermost procedure, or the globals where there is none.
+-- The variables of the present frame: of the innermost procedure, or the globals where there is none and where these
+-- were made the present frame.
 
-abbrev pub innermost : List Frame → Option Frame
+abbrev pub innermost : List (Option Frame) → Option Frame
 innermost [] = None
-innermost (frame ∷ below) = Some frame
+innermost (frame ∷ below) = frame
 
 -- what a name of a procedure's frame stands for, where the global of that name is this
 abbrev pub seen_through : Option Local → Option Content → Option Content
@@ -110,9 +112,9 @@ is_global None variable = true
 is_global (Some frame) variable = is_link (map.get frame variable)
 
 -- the frames after a change of the innermost
-abbrev pub changed : (Frame → Frame) → List Frame → List Frame
+abbrev pub changed : (Frame → Frame) → List (Option Frame) → List (Option Frame)
 changed change [] = []
-changed change (frame ∷ below) = change frame ∷ below
+changed change (frame ∷ below) = option_map change frame ∷ below
 
 -- the variables after a name came to stand for this
 abbrev pub with_content : Variables → List ℕ → Content → Variables
@@ -184,17 +186,23 @@ link_by frame variable (Some index) = Err BadName
 abbrev pub with_link : Frame → List ℕ → Result Frame ErrorNumber
 with_link frame text = on_name (named text) (λ name. link_by frame name.variable name.index)
 
-abbrev pub linked_in : Variables → List Frame → List ℕ → Result Variables ErrorNumber
-linked_in variables [] text = Ok variables
-linked_in variables (frame ∷ below) text = after (with_link frame text) (λ linked. record variables { locals = linked ∷ below })
+abbrev pub linked_in : Variables → Option Frame → List ℕ → Result Variables ErrorNumber
+linked_in variables None text = Ok variables
+linked_in variables (Some frame) text =
+    after (with_link frame text) (λ linked. record variables { locals = changed (λ _. linked) variables.locals })
 
--- the variables after a name was made a link to the global of that name; at global level nothing changes
+-- the variables after a name was made a link to the global of that name; where the globals are the present frame nothing
+-- changes
 abbrev pub linked : Variables → List ℕ → Result Variables ScriptFault
-linked variables text = about text (linked_in variables variables.locals text)
+linked variables text = about text (linked_in variables (innermost variables.locals) text)
 
 -- the variables with a new frame
 abbrev pub pushed : Variables → Variables
-pushed variables = record variables { locals = map.empty ∷ variables.locals }
+pushed variables = record variables { locals = Some map.empty ∷ variables.locals }
+
+-- the variables with the globals as the present frame
+abbrev pub pushed_global : Variables → Variables
+pushed_global variables = record variables { locals = None ∷ variables.locals }
 
 -- a frame with these scalars in it, one after the other
 abbrev pub filled : Frame → List Argument → Frame
@@ -207,7 +215,7 @@ frame_of given = filled map.empty (reverse given)
 
 -- the variables with the frame of a call
 abbrev pub pushed_with : List Argument → Variables → Variables
-pushed_with given variables = record variables { locals = frame_of given ∷ variables.locals }
+pushed_with given variables = record variables { locals = Some (frame_of given) ∷ variables.locals }
 
 -- how many variables the present frame has
 abbrev pub frame_size : Map Content → Option Frame → ℕ
@@ -217,6 +225,24 @@ frame_size globals (Some frame) = map.len frame
 -- the variables without the innermost frame
 abbrev pub popped : Variables → Variables
 popped variables = record variables { locals = drop 1 variables.locals }
+
+-- The globals, whatever the present frame is: what stands there while they are the present frame.
+
+-- the value of a global or an element of one
+abbrev pub global_value_at : Variables → List ℕ → Result (List ℕ) ErrorNumber
+global_value_at variables text = value_at (pushed_global variables) text
+
+abbrev pub global_value_of : Variables → List ℕ → Result (List ℕ) ScriptFault
+global_value_of variables text = value_of (pushed_global variables) text
+
+-- the variables once the globals are no longer the present frame
+abbrev pub back : Result Variables ScriptFault → Result Variables ScriptFault
+back (Ok variables) = Ok (popped variables)
+back (Err fault) = Err fault
+
+-- the variables after a global was given a value
+abbrev pub with_global_value : Variables → List ℕ → List ℕ → Result Variables ScriptFault
+with_global_value variables text value = back (with_value (pushed_global variables) text value)
 
 -- the variables after a procedure was put under a name
 abbrev pub with_procedure : Variables → List ℕ → Procedure → Variables
@@ -240,6 +266,10 @@ grown (Some content) index size = grown_inside content index
 abbrev pub grown_by_value : Variables → List ℕ → Option ℕ
 grown_by_value variables text =
     option_and_then (λ name. grown (content_of variables name.variable) name.index (size_in variables.globals (innermost variables.locals) name.variable)) (named text)
+
+-- by giving a global a value
+abbrev pub grown_by_global_value : Variables → List ℕ → Option ℕ
+grown_by_global_value variables text = grown_by_value (pushed_global variables) text
 
 abbrev pub grown_by_name : Frame → List ℕ → Option (List ℕ) → Option ℕ
 grown_by_name frame variable None = if map.contains_key frame variable then None else Some (map.len frame)

@@ -2,7 +2,7 @@ ghost use Rattle.std.specs.Prelude.{◌≡◌, length, reverse, false, IfOk, OnO
 ghost use Rattle.std.specs.FinMap as map;
 ghost use Rattle.tks_text.specs.Fault.{Gives};
 ghost use Rattle.tks_vars.specs.Meets.{AnswersSo};
-ghost use Rattle.tks_vars.specs.Variables.{no_variables, innermost, content_of, is_global, value_at, value_of, with_value, without_at, without, exists, linked, pushed, frame_of, pushed_with, frame_size, popped, with_procedure, size_in, grown_by_value, grown_by_link};
+ghost use Rattle.tks_vars.specs.Variables.{no_variables, innermost, content_of, is_global, value_at, value_of, with_value, global_value_at, global_value_of, with_global_value, without_at, without, exists, linked, pushed, pushed_global, frame_of, pushed_with, frame_size, popped, with_procedure, size_in, grown_by_value, grown_by_global_value, grown_by_link};
 
 use crate::clones::CloneIn;
 use crate::content::{Content, Local};
@@ -15,12 +15,12 @@ use std::marker::Model;
 use tks_text::{ErrorNumber, Failure, Txt};
 
 /// The variables of scripts, and the procedures. Calls speak of the present frame: that of the innermost
-/// procedure, or the globals where there is none.
+/// procedure, or the globals where there is none and where `push_global` made them the present frame.
 #[derive(Drop)]
 pub struct Vars {
     alloc: Global,
     globals: Table<Content>,
-    locals: Vec<Table<Local>>,
+    locals: Vec<Option<Table<Local>>>,
     procedures: Table<Procedure>,
 }
 
@@ -35,11 +35,14 @@ impl Model for Vars {
     ghost view = { λ v. record { globals = v.globals; locals = reverse v.locals.items; procedures = v.procedures } };
 }
 
-// The frame of the innermost procedure.
-fn innermost(locals: &[Table<Local>]) -> Option<&Table<Local>>
+// The present frame, or none where that is the globals.
+fn innermost(locals: &[Option<Table<Local>>]) -> Option<&Table<Local>>
     ensures { option_copied result ≡ innermost (reverse locals.now) }
 {
-    locals.last()
+    match locals.last() {
+        Some(Some(frame)) => Some(frame),
+        _ => None,
+    }
 }
 
 impl Vars {
@@ -55,7 +58,7 @@ impl Vars {
         }
     }
 
-    /// How many frames of procedures there are.
+    /// How many frames were begun and not ended.
     pub fn depth(&self) -> usize
         ensures { result ≡ length self.now.locals }
     {
@@ -110,6 +113,30 @@ impl Vars {
         }
     }
 
+    // The value of a global or an element of one.
+    fn global_value(&self, name: &[u8]) -> Result<&Txt, ErrorNumber>
+        ensures { AnswersSo (λ v. v.now) result (global_value_at self.now name.now) }
+    {
+        let Some(name) = named(name) else {
+            return Err(ErrorNumber::BadName);
+        };
+        match self.globals.get(name.variable) {
+            Some(content) => content.value(name.index),
+            None => Err(ErrorNumber::NoSuchVariable),
+        }
+    }
+
+    /// The same as `get`, of the globals, whatever the present frame is.
+    pub fn get_global(&self, name: &Txt) -> Result<&Txt, Failure>
+        ensures value { Gives (λ v. v.now) result (global_value_of self.now name.now) }
+        ensures present { IsOk (global_value_of self.now name.now) → IsOk result }
+    {
+        match self.global_value(name.as_bytes()) {
+            Ok(value) => Ok(value),
+            Err(number) => Err(Failure::about(number, name)),
+        }
+    }
+
     /// Whether a variable or an element is there.
     pub fn exists(&self, name: &Txt) -> Result<bool, Failure>
         ensures { Gives (λ b. b) result (exists self.now name.now) }
@@ -137,7 +164,23 @@ impl Vars {
             return Ok(());
         }
         let top = self.locals.len() - 1;
-        write_local(self.alloc, &mut self.locals[top], name, part, value)?;
+        let Some(frame) = &mut self.locals[top] else {
+            return Ok(());
+        };
+        write_local(self.alloc, frame, name, part, value)?;
+        Ok(())
+    }
+
+    /// The same as `set`, of the globals, whatever the present frame is.
+    pub fn set_global(&mut self, name: &Txt, value: &Txt) -> Result<(), Failure>
+        ensures value { Gives (λ _. self.new) result (with_global_value self.old name.now value.now) }
+        ensures err { OnErr result (self.new ≡ self.old) }
+    {
+        let Some(part) = named(name.as_bytes()) else {
+            return Err(Failure::about(ErrorNumber::BadName, name));
+        };
+        let value = value.try_clone()?;
+        write_global(self.alloc, &mut self.globals, name, part, value)?;
         Ok(())
     }
 
@@ -154,7 +197,10 @@ impl Vars {
             return Ok(());
         }
         let top = self.locals.len() - 1;
-        take_local(&mut self.locals[top], part)?;
+        let Some(frame) = &mut self.locals[top] else {
+            return Ok(());
+        };
+        take_local(frame, part)?;
         Ok(())
     }
 
@@ -174,7 +220,16 @@ impl Vars {
         ensures ok { OnOk result (self.new ≡ pushed self.old) }
         ensures err { OnErr result (self.new ≡ self.old) }
     {
-        self.locals.push(Table::new(self.alloc))?;
+        self.locals.push(Some(Table::new(self.alloc)))?;
+        Ok(())
+    }
+
+    /// Makes the globals the present frame, up to the `pop_frame` that ends it.
+    pub fn push_global(&mut self) -> Result<(), AllocError>
+        ensures ok { OnOk result (self.new ≡ pushed_global self.old) }
+        ensures err { OnErr result (self.new ≡ self.old) }
+    {
+        self.locals.push(None)?;
         Ok(())
     }
 
@@ -184,7 +239,7 @@ impl Vars {
         ensures err { OnErr result (self.new ≡ self.old) }
     {
         let frame = frame_of(self.alloc, arguments)?;
-        self.locals.push(frame)?;
+        self.locals.push(Some(frame))?;
         Ok(())
     }
 
@@ -198,15 +253,15 @@ impl Vars {
         }
     }
 
-    /// Ends the present frame, and its variables with it. At global level nothing is done.
+    /// Ends the present frame, and with it the variables of a procedure. Where none was begun nothing is done.
     pub fn pop_frame(&mut self)
         ensures { self.new ≡ popped self.old }
     {
         let _ended = self.locals.pop();
     }
 
-    /// Makes a name of the present frame a link to the global of that name, whether there is one or not. At
-    /// global level nothing is done.
+    /// Makes a name of the present frame a link to the global of that name, whether there is one or not. Where
+    /// the globals are the present frame nothing is done.
     pub fn link_global(&mut self, name: &Txt) -> Result<(), Failure>
         ensures value { Gives (λ _. self.new) result (linked self.old name.now) }
         ensures err { OnErr result (self.new ≡ self.old) }
@@ -215,7 +270,10 @@ impl Vars {
             return Ok(());
         }
         let top = self.locals.len() - 1;
-        link(&mut self.locals[top], name)?;
+        let Some(frame) = &mut self.locals[top] else {
+            return Ok(());
+        };
+        link(frame, name)?;
         Ok(())
     }
 
@@ -267,6 +325,17 @@ impl Vars {
         }
     }
 
+    /// The same as `grown_by_value`, of a global's value, whatever the present frame is.
+    pub fn grown_by_global_value(&self, name: &Txt) -> Option<usize>
+        ensures { result ≡ grown_by_global_value self.now name.now }
+    {
+        let name = named(name.as_bytes())?;
+        match self.globals.get(name.variable) {
+            Some(content) => content.grown(name.index),
+            None => Some(self.globals.len()),
+        }
+    }
+
     /// How many variables the present frame has, where a link by this name would join them.
     pub fn grown_by_link(&self, name: &Txt) -> Option<usize>
         ensures { result ≡ grown_by_link self.now name.now }
@@ -304,13 +373,29 @@ fn frame_of(alloc: Global, arguments: Vec<Argument>) -> Result<Table<Local>, All
     Ok(frame)
 }
 
+// An equal frame.
+fn clone_frame(
+    alloc: Global,
+    frame: &Option<Table<Local>>,
+) -> Result<Option<Table<Local>>, AllocError>
+    ensures { IfOk result (λ copy. copy ≡ frame.now) }
+{
+    match frame {
+        Some(frame) => Ok(Some(frame.clone_in(alloc)?)),
+        None => Ok(None),
+    }
+}
+
 // Equal frames.
-fn clone_frames(alloc: Global, frames: &[Table<Local>]) -> Result<Vec<Table<Local>>, AllocError>
+fn clone_frames(
+    alloc: Global,
+    frames: &[Option<Table<Local>>],
+) -> Result<Vec<Option<Table<Local>>>, AllocError>
     ensures { IfOk result (λ copy. copy.items ≡ frames.now) }
 {
     let mut copy = Vec::new(alloc);
     for frame in frames {
-        copy.push(frame.clone_in(alloc)?)?;
+        copy.push(clone_frame(alloc, frame)?)?;
     }
     Ok(copy)
 }

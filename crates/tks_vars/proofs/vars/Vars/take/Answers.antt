@@ -1,4 +1,4 @@
-use Rattle.std.proofs.Common.{◌≡◌, ◌+◌, ◌-◌, ◌<◌, ◌∷◌, length, drop, Ok, sym, ap, ◌∙◌, arith}
+use Rattle.std.proofs.Common.{◌≡◌, ◌+◌, ◌-◌, ◌<◌, ◌∷◌, length, drop, Some, Ok, sym, ap, ◌∙◌, arith}
 use Rattle.std.specs.Prelude.{reverse}
 use Rattle.tks_vars.specs.View.{name_seen}
 use Rattle.tks_vars.specs.Variables.{Variables, is_global, innermost}
@@ -11,13 +11,13 @@ pub returns-clause-value : goal.returns-clause-value
 returns-clause-value c =
     let items = c.self.inside.locals.items in
     let below = drop 1 (reverse items) in
-    let frame = c.index_mut.result.now in
+    let frame = c.in-Some-index_mut.frame in
     let some : 0 < length items = some_frame items c.in-Some.part.variable.now (ap (λ (v : Variables). is_global (innermost v.locals) c.in-Some.part.variable.now) c.self.view_is ∙ sym c.is_global.ensures ∙ c.if-is_global.false) in
     let last : (c.len-top.result - 1) + 1 ≡ length items = omega arith in
     let all = holding c.self.inside.globals c.self.inside.procedures below in
     let held : c.args.self.now ≡ all frame = sym c.self.view_is
-    ∙ ap (λ ls. record { globals = c.self.inside.globals; locals = ls; procedures = c.self.inside.procedures }) (innermost_first items (c.len-top.result - 1) frame last ∙ ap (λ f. f ∷ below) (sym c.index_mut.ensures.value)) in
+    ∙ ap (λ ls. record { globals = c.self.inside.globals; locals = ls; procedures = c.self.inside.procedures }) (innermost_first items (c.len-top.result - 1) c.index_mut.result.now last ∙ ap (λ f. f ∷ below) (sym c.index_mut.ensures.value ∙ c.in-Some-index_mut.is)) in
     let name = name_seen c.in-Some.part in
     takes c.self.inside.globals c.self.inside.procedures below c.args.self.now frame held c.args.name.now name (sym c.in-Some.ensures) (sym c.is_global.ensures ∙ c.if-is_global.false)
     ∙ after_ok (take_local frame name) all c.take_local.new.frame c.in_ok-take_local.ensures.value
-    ∙ ap (λ ls. Ok (record { globals = c.self.inside.globals; locals = ls; procedures = c.self.inside.procedures })) (sym (innermost_set items (c.len-top.result - 1) c.take_local.new.frame last))
+    ∙ ap (λ ls. Ok (record { globals = c.self.inside.globals; locals = ls; procedures = c.self.inside.procedures })) (sym (innermost_set items (c.len-top.result - 1) (Some c.take_local.new.frame) last))
