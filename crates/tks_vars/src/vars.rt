@@ -179,8 +179,8 @@ impl Vars {
         let Some(part) = named(name.as_bytes()) else {
             return Err(Failure::about(ErrorNumber::BadName, name));
         };
-        let value = value.try_clone()?;
-        write_global(self.alloc, &mut self.globals, name, part, value)?;
+        let copy = value.try_clone()?;
+        write_global(self.alloc, &mut self.globals, name, part, copy)?;
         Ok(())
     }
 

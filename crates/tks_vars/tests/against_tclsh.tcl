@@ -3,9 +3,11 @@
 
 namespace eval gen {
     variable seed 7
-    variable left 300
+    variable left 360
     variable names {a b a(x) a(y) b(x) b() a(x)(y) a( c) {}}
-    variable calls {set set set get get exists unset global global push pop}
+    variable calls {
+        set set set get get exists unset global global {set global} {get global} push {push global} pop pop
+    }
 
     proc pick {list} {
         variable seed
@@ -13,9 +15,11 @@ namespace eval gen {
         lindex $list [expr {($seed >> 8) % [llength $list]}]
     }
 
-    # The number of an error by its message.
+    # The number of an error by its message. A link to an element is E17 whatever the global is; Tcl asks first
+    # whether that is an array.
     proc error_of {message} {
         switch -glob $message {
+            "can't access *" { return E17 }
             "*no such variable" - "*no such element in array" { return E11 }
             "*variable is array" - "*variable isn't array" { return E12 }
             "*already exists*" - "*bad variable name*" { return E17 }
@@ -42,7 +46,7 @@ namespace eval gen {
         if {$failed} {
             set answer "[error_of $answer] $name"
         }
-        if {$call in {push pop}} {
+        if {$call in {push {push global} pop}} {
             puts $call|||
         } else {
             puts $call|$name|$value|$answer
@@ -58,6 +62,8 @@ proc gen::script {} {
     switch $call {
         set { list set $name $value }
         get { list set $name }
+        {set global} { list uplevel #0 [list set $name $value] }
+        {get global} { list uplevel #0 [list set $name] }
         exists { list info exists $name }
         unset { list unset $name }
         global { list global $name }
@@ -72,9 +78,9 @@ proc frame {} {
             gen::show 0 {}
             return
         }
-        if {$::gen::call eq "push"} {
+        if {$::gen::call in {push {push global}}} {
             gen::show 0 {}
-            frame
+            gen::begun $::gen::call
             continue
         }
         set ::gen::failed [catch [gen::script] ::gen::answer]
@@ -82,14 +88,24 @@ proc frame {} {
     }
 }
 
+# Begins a frame: a procedure's, or the globals.
+proc gen::begun {call} {
+    if {$call eq "push"} {
+        ::frame
+    } else {
+        uplevel #0 [info body ::frame]
+    }
+}
+
+# The globals, where no frame ends.
 while {$gen::left > 0} {
     gen::next
     if {$gen::call eq "pop"} {
         continue
     }
-    if {$gen::call eq "push"} {
+    if {$gen::call in {push {push global}}} {
         gen::show 0 {}
-        frame
+        gen::begun $gen::call
         continue
     }
     set gen::failed [catch [gen::script] gen::answer]
