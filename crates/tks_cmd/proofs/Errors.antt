@@ -5,7 +5,7 @@ use Rattle.tks_text.specs.declared.limits.Limits.{Limits}
 use Rattle.tks_tcl.specs.Cause.{Cause, Fault, OverLimit, fits}
 use Rattle.tks_vars.specs.Variables.{Variables}
 use Rattle.tks_state.specs.World.{World}
-use Rattle.tks_eval.specs.Outcome.{Answer, Unknown, Replies, PassesLimit}
+use Rattle.tks_eval.specs.Outcome.{Answer, Unknown, Replies, Runs, PassesLimit}
 use Rattle.tks_cmd.specs.Changes.{Changed}
 use Rattle.tks_cmd.specs.Commands.{answered}
 
@@ -13,6 +13,7 @@ use Rattle.tks_cmd.specs.Commands.{answered}
 abbrev pub Kept : World → Variables → Answer World → Type 0
 Kept w variables Unknown = Unit {0}
 Kept w variables (Replies code text w' variables') = code ≡ 1 → (w' ≡ w) × (variables' ≡ variables)
+Kept w variables (Runs script w' variables') = Unit {0}
 Kept w variables PassesLimit = Unit {0}
 
 module _ (limits : Limits) (w : World) (variables : Variables) where

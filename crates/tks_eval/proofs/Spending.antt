@@ -8,7 +8,7 @@ use Rattle.tks_text.specs.declared.fault.ScriptFault.{ScriptFault}
 use Rattle.tks_text.specs.declared.limits.Limits.{Limits}
 use Rattle.tks_parse.specs.Tree.{Script, no_command, faulty, command, Words, no_word, word, Parts, no_part, char, variable, element, nested}
 use Rattle.tks_parse.specs.Reading.{script_of}
-use Rattle.tks_vars.specs.Variables.{Variables}
+use Rattle.tks_vars.specs.Variables.{Variables, pushed_global}
 use Rattle.tks_vars.specs.declared.procedure.Procedure.{Procedure}
 use Rattle.tks_tcl.specs.Cause.{Cause, Fault, OverLimit, fits, value_or_fault, bare, within}
 use Rattle.tks_tcl.specs.Plain as commands
@@ -19,11 +19,11 @@ use Rattle.tks_expr.specs.Tree.{Expr, Literal, Made, One, Two, Both, Either, Cho
 use Rattle.tks_expr.specs.Operation.{truth_of, applied, applied_unary, result_of}
 use Rattle.tks_expr.specs.Reading.{expr_of}
 use Rattle.tks_expr.specs.Value.{choice}
-use Rattle.tks_eval.specs.Outcome.{Outcome, End, Stopped, TooLarge, Next, Level, Answer, Unknown, Replies, PassesLimit, Meaning, after_step, after, after_body, after_next, caught, joined, fails, given}
+use Rattle.tks_eval.specs.Outcome.{Outcome, End, Stopped, TooLarge, Next, Level, Answer, Unknown, Replies, Runs, PassesLimit, Meaning, after_step, after, after_body, after_next, caught, joined, fails, given}
 use Rattle.tks_eval.specs.Names.{control_named}
 use Rattle.tks_eval.specs.Branches.{Condition, branches}
 use Rattle.tks_eval.specs.Procedures.{entered, proc_form}
-use Rattle.tks_eval.specs.Evaluation.{element_name, with_value, words_in, foreach_form, text_done, and_then, done, without_frame, parts_do, made_text, value_does, expression_does, chosen, after_truth, tested, wrong_words, result_told, expr_does, script_does, branches_do, form_does, behind_body, turn_does, turns, loop_does, while_does, for_does, catch_ends, catch_does, each, settled, procedure_does, control_does, host_does, plain_does, command_does, call, words_do, commands_do, evaluate}
+use Rattle.tks_eval.specs.Evaluation.{element_name, with_value, words_in, foreach_form, text_done, and_then, done, without_frame, returned, global_does, parts_do, made_text, value_does, expression_does, chosen, after_truth, tested, wrong_words, result_told, expr_does, script_does, branches_do, form_does, behind_body, turn_does, turns, loop_does, while_does, for_does, catch_ends, catch_does, each, settled, procedure_does, control_does, host_does, plain_does, command_does, call, words_do, commands_do, evaluate}
 use Rattle.tks_eval.specs.Values.{told_text, by_truth, truth_told}
 use Rattle.tks_eval.specs.declared.branches.Branches.{Branches}
 use Rattle.tks_eval.specs.declared.branches.Test.{Test}
@@ -94,6 +94,17 @@ module _ {S : Type 0} where
   frame_spends : (bound : ℕ) (outcome : Outcome S) → Spends bound outcome → Spends bound (without_frame outcome)
   frame_spends bound (Stopped why) h = tt
   frame_spends bound (End code text state variables fuel) h = h
+
+  returned_spends : (bound : ℕ) (outcome : Outcome S) → Spends bound outcome → Spends bound (returned outcome)
+  returned_spends bound (Stopped why) h = tt
+  returned_spends bound (End code text state variables fuel) h =
+      elim (code == 2) as (λ b. Spends bound (cond b (End 0 text state variables fuel) (End code text state variables fuel))) [ true ↦ h | false ↦ h ]
+
+  global_spends : (inner : Level S) → Thrifty inner → (text : List ℕ) (bound : ℕ) → Within bound (global_does inner text)
+  global_spends inner thrifty text bound state variables fuel h =
+      let outcome = inner (script_of text) state (pushed_global variables) fuel in
+      returned_spends bound (without_frame outcome)
+      (frame_spends bound outcome (script_spends inner thrifty (script_of text) bound state (pushed_global variables) fuel h))
 
   module _ (limits : Limits) where
     pub fails_spends : (fault : ScriptFault) (bound : ℕ) → Within bound (fails limits fault)
@@ -315,6 +326,7 @@ module _ {S : Type 0} (host : Meaning S) (limits : Limits) where
 
     host_spends : (first : List ℕ) (words : List (List ℕ)) (answer : Answer S) (bound : ℕ) → Within bound (host_does host limits inner first words answer)
     host_spends first words (Replies code text state' variables') bound state variables fuel h = h
+    host_spends first words (Runs script state' variables') bound state variables fuel h = global_spends inner thrifty script bound state' variables' fuel h
     host_spends first words PassesLimit bound state variables fuel h = tt
     host_spends first words Unknown bound state variables fuel h =
         procedure_spends limits inner thrifty first words (map.get variables.procedures first) bound state variables fuel h

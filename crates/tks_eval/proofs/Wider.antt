@@ -12,7 +12,7 @@ use Rattle.tks_text.specs.declared.fault.ScriptFault.{ScriptFault}
 use Rattle.tks_text.specs.declared.limits.Limits.{Limits}
 use Rattle.tks_parse.specs.Tree.{Script, no_command, faulty, command, Words, no_word, word, Parts, no_part, char, variable, element, nested}
 use Rattle.tks_parse.specs.Reading.{script_of}
-use Rattle.tks_vars.specs.Variables.{Variables, value_of, popped, frame_of, pushed_with, with_procedure}
+use Rattle.tks_vars.specs.Variables.{Variables, value_of, pushed_global, popped, frame_of, pushed_with, with_procedure}
 use Rattle.tks_vars.specs.declared.procedure.Argument.{Argument}
 use Rattle.tks_vars.specs.declared.procedure.Procedure.{Procedure}
 use Rattle.tks_tcl.specs.Cause as tcl
@@ -21,8 +21,8 @@ use Rattle.tks_tcl.specs.Lists.{concatenated, joined_by}
 use Rattle.tks_tcl.specs.Plain as commands
 use Rattle.tks_tcl.specs.Plain.{plain}
 use Rattle.tks_tcl.proofs.Limits.{Keeps, itself, after_keeps, Holds, if_keeps, room_keeps, both_hold, at_most_holds, below_holds, fits_wider, within_keeps, stores_keep, IsAnswerKept, plain_kept}
-use Rattle.tks_eval.specs.Outcome.{Outcome, End, Stopped, TooLarge, Next, Level, Answer, Unknown, Replies, PassesLimit, Meaning, after_step, after, after_body, after_next, caught, joined, fails, given}
-use Rattle.tks_eval.specs.Evaluation.{element_name, with_value, words_in, foreach_form, without_frame, parts_do, wrong_words, text_done, and_then, made_text, value_does, expression_does, chosen, tested, done, expr_does, script_does, branches_do, form_does, turn_does, turns, loop_does, while_does, for_does, catch_ends, catch_does, eval_does, each, foreach_does, settled, procedure_does, proc_does, control_does, host_does, plain_does, command_does, call, words_do, commands_do, evaluate}
+use Rattle.tks_eval.specs.Outcome.{Outcome, End, Stopped, TooLarge, Next, Level, Answer, Unknown, Replies, Runs, PassesLimit, Meaning, after_step, after, after_body, after_next, caught, joined, fails, given}
+use Rattle.tks_eval.specs.Evaluation.{element_name, with_value, words_in, foreach_form, without_frame, returned, global_does, parts_do, wrong_words, text_done, and_then, made_text, value_does, expression_does, chosen, tested, done, expr_does, script_does, branches_do, form_does, turn_does, turns, loop_does, while_does, for_does, catch_ends, catch_does, eval_does, each, foreach_does, settled, procedure_does, proc_does, control_does, host_does, plain_does, command_does, call, words_do, commands_do, evaluate}
 use Rattle.tks_eval.specs.Names.{control_named}
 use Rattle.tks_eval.specs.Procedures.{given_arguments, arguments, with_arguments, entered, with_room, parameters_in, defined, begins_with_dot, is_taken, proc_form}
 use Rattle.tks_eval.specs.declared.control.Control.{Control}
@@ -133,6 +133,14 @@ module _ {S : Type 0} (more : ℕ) where
   frame_stays : {o o' : Outcome S} → Stays o o' → Stays (without_frame o) (without_frame o')
   frame_stays {o = Stopped why} h = record { stays = tt }
   frame_stays {o = End code text state variables fuel} h = rw (h.stays) (end_stays code text state (popped variables) fuel)
+
+  returned_stays : {o o' : Outcome S} → Stays o o' → Stays (returned o) (returned o')
+  returned_stays {o = Stopped why} h = record { stays = tt }
+  returned_stays {o = End code text state variables fuel} h =
+      rw (h.stays) (if_stays (code == 2) (end_stays 0 text state variables fuel) (end_stays code text state variables fuel))
+
+  global_stays : (inner inner' : Level S) → LevelStays inner inner' → (text : List ℕ) → NextStays (global_does inner text) (global_does inner' text)
+  global_stays inner inner' deep text state variables fuel = returned_stays (frame_stays (deep (script_of text) state (pushed_global variables) fuel))
 
   module _ (limits wider : Limits) (w : Wider limits wider) where
     fails_stay : (fault : ScriptFault) → NextStays (fails limits fault) (fails wider fault)
@@ -329,6 +337,7 @@ module _ {S : Type 0} (more : ℕ) where
         answer_stays : (first : List ℕ) (words : List (List ℕ)) (answer answer' : Answer S) → (answer ≢ PassesLimit → answer' ≡ answer)
             → NextStays (host_does host limits inner first words answer) (host_does host' wider inner' first words answer')
         answer_stays first words (Replies code text state' variables') answer' h state variables fuel = rw (h (λ e. cc)) (end_stays code text state' variables' fuel)
+        answer_stays first words (Runs script state' variables') answer' h state variables fuel = rw (h (λ e. cc)) (global_stays inner inner' deep script state' variables' fuel)
         answer_stays first words PassesLimit answer' h state variables fuel = record { stays = tt }
         answer_stays first words Unknown answer' h state variables fuel = rw (h (λ e. cc)) (procedure_stays first words (map.get variables.procedures first) state variables fuel)
 

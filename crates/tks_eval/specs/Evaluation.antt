@@ -8,7 +8,7 @@ use Rattle.tks_text.specs.declared.fault.ErrorNumber.TheVariants.{WrongWords, Ou
 use Rattle.tks_text.specs.declared.limits.Limits.{Limits}
 use Rattle.tks_parse.specs.Tree.{Script, no_command, faulty, command, Words, no_word, word, Parts, no_part, char, variable, element, nested}
 use Rattle.tks_parse.specs.Reading.{script_of}
-use Rattle.tks_vars.specs.Variables.{Variables, value_of, popped}
+use Rattle.tks_vars.specs.Variables.{Variables, value_of, pushed_global, popped}
 use Rattle.tks_vars.specs.declared.procedure.Procedure.{Procedure}
 use Rattle.tks_tcl.specs.Cause as tcl
 use Rattle.tks_tcl.specs.Cause.{value_or_fault, bare, within}
@@ -17,7 +17,7 @@ use Rattle.tks_tcl.specs.Lists.{concatenated, joined_by}
 use Rattle.tks_tcl.specs.Plain as commands
 use Rattle.tks_tcl.specs.Plain.{plain}
 use Rattle.tks_tcl.specs.Variables.{stores}
-use Rattle.tks_eval.specs.Outcome.{Outcome, End, Stopped, TooDeep, TooLarge, OutOfSteps, Next, Level, Answer, Unknown, Replies, PassesLimit, Meaning, after_step, after, after_body, after_next, caught, joined, fails, given}
+use Rattle.tks_eval.specs.Outcome.{Outcome, End, Stopped, TooDeep, TooLarge, OutOfSteps, Next, Level, Answer, Unknown, Replies, Runs, PassesLimit, Meaning, after_step, after, after_body, after_next, caught, joined, fails, given}
 use Rattle.tks_eval.specs.Names.{control_named}
 use Rattle.tks_expr.specs.Tree.{Expr}
 use Rattle.tks_expr.specs.Value.{value}
@@ -83,6 +83,15 @@ module _ {S : Type 0} where
 abbrev pub without_frame : {S : Type 0} → Outcome S → Outcome S
 without_frame (Stopped why) = Stopped why
 without_frame (End code text state variables fuel) = End code text state (popped variables) fuel
+
+-- a script at global level ends well by `return`; `break` and `continue` stay
+abbrev pub returned : {S : Type 0} → Outcome S → Outcome S
+returned (Stopped why) = Stopped why
+returned (End code text state variables fuel) = if code == 2 then End 0 text state variables fuel else End code text state variables fuel
+
+-- a script that a command of the host wants run, with the globals as the present frame
+abbrev pub global_does : {S : Type 0} → Level S → List ℕ → Next S
+global_does inner text state variables fuel = returned (without_frame (inner (script_of text) state (pushed_global variables) fuel))
 
 module _ {S : Type 0} (limits : Limits) where
   -- ---- words
@@ -250,6 +259,7 @@ module _ {S : Type 0} (host : Meaning S) (limits : Limits) where
   -- a command that the host has, or else a procedure
   abbrev pub host_does : Level S → List ℕ → List (List ℕ) → Answer S → Next S
   host_does inner first words (Replies code text state' variables') state variables fuel = End code text state' variables' fuel
+  host_does inner first words (Runs script state' variables') state variables fuel = global_does inner script state' variables' fuel
   host_does inner first words PassesLimit state variables fuel = Stopped TooLarge
   host_does inner first words Unknown state variables fuel =
       procedure_does limits inner first words (map.get variables.procedures first) state variables fuel

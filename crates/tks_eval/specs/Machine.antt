@@ -8,7 +8,7 @@ use Rattle.tks_vars.specs.Variables.{Variables}
 use Rattle.tks_eval.specs.Outcome.{Outcome, End, Meaning, Next, after, after_body, caught, joined, fails, given}
 use Rattle.tks_expr.specs.Tree.{Expr, Literal, Made, One, Two, Both, Either, Choice}
 use Rattle.tks_expr.specs.declared.tree.Link.{Link}
-use Rattle.tks_eval.specs.Evaluation.{element_name, with_value, parts_do, words_in, words_do, commands_do, evaluate, value_does, after_truth, branches_do, catch_ends, each, settled, without_frame}
+use Rattle.tks_eval.specs.Evaluation.{element_name, with_value, parts_do, words_in, words_do, commands_do, evaluate, value_does, after_truth, branches_do, catch_ends, each, settled, without_frame, returned}
 use Rattle.tks_eval.specs.Values.{after_value}
 use Rattle.tks_eval.specs.Loops.{after_stage}
 use Rattle.tks_eval.specs.Meets.{StopsSo}
@@ -46,6 +46,7 @@ module _ {S : Type 0} (host : Meaning S) (limits : Limits) where
       after_truth limits outcome (evaluate host limits left (script_of body)) (branches_do limits (evaluate host limits left) rest.otherwise rest.tests)
   after_frame left (frame.Turns stage loop) outcome = after_stage limits (evaluate host limits left) stage loop outcome
   after_frame left frame.Procedure outcome = settled limits (without_frame outcome)
+  after_frame left frame.Global outcome = returned (without_frame outcome)
 
   -- how many scripts may be opened in one another behind a frame
   abbrev pub left_below : ℕ → Frame → ℕ
@@ -117,6 +118,7 @@ frame_weight (frame.Element name made parts) = 4 * parts_size (parts_of parts) +
 frame_weight (frame.Catch name) = 1
 frame_weight (frame.Each name body elements) = 1
 frame_weight frame.Procedure = 1
+frame_weight frame.Global = 1
 
 abbrev pub stack_weight : List Frame → ℕ
 stack_weight [] = 0

@@ -28,10 +28,12 @@ Next S = S → Variables → ℕ → Outcome S
 abbrev pub Level : Type 0 → Type 0
 Level S = Script → Next S
 
--- what a host comes to at a command: it has none of this name, an end, or it would pass a limit
+-- what a host comes to at a command: it has none of this name, an end, a script that it wants run at global level, or it
+-- would pass a limit
 pub data Answer (S : Type 0) : Type 0 where
   Unknown : Answer S
   Replies : (code : ℕ) (text : List ℕ) (state : S) (variables : Variables) → Answer S
+  Runs : (script : List ℕ) (state : S) (variables : Variables) → Answer S
   PassesLimit : Answer S
 
 -- what a host does and says in each of its states

@@ -111,10 +111,11 @@ impl Machine {
         if let Some((code, text)) = plain(alloc, variables, words, limits)? {
             return Ok(Now::At(Ending { code, text }));
         }
-        if let Some(Plan::Answer(code, text)) = host.call(variables, words)? {
-            return Ok(Now::At(Ending { code, text }));
+        match host.call(variables, words)? {
+            Some(Plan::Answer(code, text)) => Ok(Now::At(Ending { code, text })),
+            Some(Plan::Eval(script)) => self.run_global(alloc, host, variables, script, limits),
+            None => self.run_procedure(alloc, host, variables, command, rest, limits),
         }
-        self.run_procedure(alloc, host, variables, command, rest, limits)
     }
 
     // Runs a command that runs scripts.

@@ -60,6 +60,8 @@ pub enum Frame {
     Turns(Stage, Loop),
     /// A procedure.
     Procedure,
+    /// A script at global level.
+    Global,
 }
 
 /// What the machine is at.

@@ -11,6 +11,8 @@ use tks_vars::Vars;
 pub enum Plan {
     /// A code, 0 ok, 1 error, 2 return, 3 break or 4 continue, and the result or the error's text.
     Answer(u8, Txt),
+    /// A script to run at global level: the command ends as this does, `return` counting as code 0.
+    Eval(Txt),
 }
 
 /// What runs the commands that the language doesn't have: a state, and commands that change it and the

@@ -7,6 +7,7 @@ mod control;
 mod ended;
 mod expressions;
 mod frame;
+mod globals;
 mod halt;
 mod host;
 mod laws;

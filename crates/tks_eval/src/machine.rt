@@ -170,6 +170,7 @@ impl Machine {
                 self.after_stage(alloc, host, variables, stage, turns, end, limits)
             }
             Frame::Procedure => self.after_procedure(host, variables, end, limits),
+            Frame::Global => self.after_global(host, variables, end, limits),
         }
     }
 }

@@ -1,4 +1,5 @@
 # The rows of src/machine/tests.rt: each script with the code and the result that this Tcl gives it: tclsh scripts.tcl
+# `top` runs its word at global level.
 set scripts {
     {set x 5; set y "a[set x]b$x\x41"}
     {list {*}{a {b c}} "" x}
@@ -110,10 +111,24 @@ set scripts {
     {proc count {l x} {set n 0; foreach y $l {if {$x eq $y} {incr n}}; set n}; count {a b a c a} a}
     {set n 0; foreach {x} {1 2 3} {set n [expr {$n + $x}]}; set n}
     {set l {3 1 2}; foreach x $l {set i 0; while {$i < [llength $l] && [lindex $l $i] < $x} {incr i}; lappend r $i}; set r}
+    {set n 5; proc f {} {set n 1; top {set n}}; f}
+    {set n 5; proc f {} {set n 1; top {set n 2}; set n}; list [f] $n}
+    {proc f {} {set n 1; top {info exists n}}; f}
+    {proc f {} {top {global x; set x 3}; info exists x}; list [f] $x}
+    {proc f {} {top {set a(k) 7}; global a; set a(k)}; f}
+    {set n 9; proc g {} {set n 1; top {set n}}; proc f {n} {top g}; f 4}
+    {proc f {} {set n 1; top {proc g {} {global n; incr n}}; list [g] [g] $n}; set n 6; f}
+    {set n 5; proc f {n} {top {top {incr n}}; set n}; list [f 1] $n}
+    {proc f {n} {foreach x {1 2 3} {if {$x == 2} {top break}}; list $x $n}; f 4}
+    {proc f {} {foreach x {1 2 3} {top continue; lappend r $x}; info exists r}; f}
+    {proc f {n} {list [catch {top {set n 8; error e}} m] $m $n}; list [f 1] $n}
+    {top {set a 1}; set a}
+    {top {}}
 }
 foreach script $scripts {
     set script [string map {\n { ; }} [string trim $script]]
     interp create child
+    child eval {interp alias {} top {} uplevel #0}
     set code [catch {child eval $script} text]
     interp delete child
     puts "$script => $code $text"

@@ -20,6 +20,7 @@ pub answers_within : (limits : Limits) (answer : Answer World) (result : Result 
     → AnswersSo answer result old new before after → AnswersSo (within_limits limits answer) result (setting limits old) (setting limits new) before after
 answers_within limits answer (Ok None) old new before after h = (ap (within_limits limits) h.0, ap (setting limits) h.1, h.2)
 answers_within limits answer (Ok (Some (plan.Answer code text))) old new before after h = ap (within_limits limits) h
+answers_within limits answer (Ok (Some (plan.Eval script))) old new before after h = ap (within_limits limits) h
 answers_within limits answer (Err stop.TooLarge) old new before after h = ap (within_limits limits) h
 answers_within limits answer (Err stop.NoMemory) old new before after h = tt
 answers_within limits answer (Err stop.Budget) old new before after h = absurd h

@@ -23,6 +23,10 @@ fn answer(alloc: Global, world: &mut World, words: &str, limits: &Limits) -> Res
             shown.push(b' ')?;
             shown.append(&text)?;
         }
+        Ok(Some(Plan::Eval(script))) => {
+            shown = Txt::from_bytes(alloc, b"eval ")?;
+            shown.append(&script)?;
+        }
         Ok(None) => shown = Txt::from_bytes(alloc, b"none")?,
         Err(Stop::TooLarge) => shown = Txt::from_bytes(alloc, b"large")?,
         Err(_) => Err("another stop")?,

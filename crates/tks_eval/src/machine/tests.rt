@@ -1,17 +1,28 @@
-ghost use Rattle.std.specs.Prelude.{◌≡◌};
-ghost use Rattle.tks_eval.specs.Counter.{counting};
+ghost use Rattle.std.specs.Prelude.{◌≡◌, IfOk};
+ghost use Rattle.tks_eval.specs.Counter.{script_in, counting};
 
 use super::*;
 use crate::host::Plan;
+use std::alloc::AllocError;
 use std::process::Abort;
 use std::test::Fail;
 use tks_parse::parse;
 
-// A host with a count, `up`, which adds one to it, and `zero`.
+// A host with a count: `up` adds one to it, `zero` sets it to 0, and `top` does so and wants its word run at global level.
 #[derive(Drop)]
 struct Counter {
     alloc: Global,
     count: u32,
+}
+
+// The script that `top` wants run, which is empty where it has no word.
+fn script_in(alloc: Global, words: &[Txt]) -> Result<Txt, AllocError>
+    ensures { IfOk result (λ script. script ≡ script_in words.now) }
+{
+    match words.first() {
+        Some(script) => script.try_clone(),
+        None => Ok(Txt::new(alloc)),
+    }
 }
 
 impl Host for Counter {
@@ -22,7 +33,7 @@ impl Host for Counter {
     ghost meaning = { counting };
 
     fn call(&mut self, _variables: &mut Vars, words: &[Txt]) -> Result<Option<Plan>, Stop> {
-        let Some((name, _)) = words.split_first() else {
+        let Some((name, rest)) = words.split_first() else {
             return Ok(None);
         };
         if name.as_bytes() == b"up".as_slice() {
@@ -36,11 +47,17 @@ impl Host for Counter {
             self.count = 0;
             return Ok(Some(Plan::Answer(0, Txt::new(self.alloc))));
         }
+        if name.as_bytes() == b"top".as_slice() {
+            self.count = 0;
+            return Ok(Some(Plan::Eval(script_in(self.alloc, rest)?)));
+        }
         Ok(None)
     }
 
     fn owns(&self, name: &Txt) -> bool {
-        name.as_bytes() == b"up".as_slice() || name.as_bytes() == b"zero".as_slice()
+        name.as_bytes() == b"up".as_slice()
+            || name.as_bytes() == b"zero".as_slice()
+            || name.as_bytes() == b"top".as_slice()
     }
 
     fn alive(&self, _window: u64) -> bool {
@@ -207,6 +224,23 @@ set n 0; foreach {x} {1 2 3} {set n [expr {$n + $x}]}; set n => 0 6\n\
 set l {3 1 2}; foreach x $l {set i 0; while {$i < [llength $l] && [lindex $l $i] < $x} {incr i}; lappend r $i}; set r => 0 0 0 0"
 }
 
+// The same of scripts at global level.
+fn rows_of_global_level() -> &'static str {
+    "set n 5; proc f {} {set n 1; top {set n}}; f => 0 5\n\
+set n 5; proc f {} {set n 1; top {set n 2}; set n}; list [f] $n => 0 1 2\n\
+proc f {} {set n 1; top {info exists n}}; f => 0 0\n\
+proc f {} {top {global x; set x 3}; info exists x}; list [f] $x => 0 0 3\n\
+proc f {} {top {set a(k) 7}; global a; set a(k)}; f => 0 7\n\
+set n 9; proc g {} {set n 1; top {set n}}; proc f {n} {top g}; f 4 => 0 9\n\
+proc f {} {set n 1; top {proc g {} {global n; incr n}}; list [g] [g] $n}; set n 6; f => 0 7 8 1\n\
+set n 5; proc f {n} {top {top {incr n}}; set n}; list [f 1] $n => 0 1 6\n\
+proc f {n} {foreach x {1 2 3} {if {$x == 2} {top break}}; list $x $n}; f 4 => 0 2 4\n\
+proc f {} {foreach x {1 2 3} {top continue; lappend r $x}; info exists r}; f => 0 0\n\
+proc f {n} {list [catch {top {set n 8; error e}} m] $m $n}; list [f 1] $n => 0 {1 e 1} 8\n\
+top {set a 1}; set a => 0 1\n\
+top {} => 0 "
+}
+
 // What this project's own rules make of these.
 fn own_rows() -> &'static str {
     "foo => 1 E09 foo\n\
@@ -232,6 +266,16 @@ proc f \"{\" {} => 1 E15\n\
 proc f {a b} {}; f 1 => 1 E10 f\n\
 proc f {a b} {}; f 1 2 3 => 1 E10 f\n\
 proc f {} {break}; catch f m; set m => 0 E18\n\
+top {return v} => 0 v\n\
+proc f {} {top {return v}; list after}; f => 0 after\n\
+proc f {n} {set x [top {set n 2; return $n}]; list $x $n}; f 1 => 0 2 1\n\
+catch {top {return v}} => 0 0\n\
+top break => 3 \n\
+top {set q} => 1 E11 q\n\
+proc top {} {} => 1 E17 top\n\
+proc nest {n} {set s up; while {$n > 0} {set s [list top $s]; incr n -1}; set s}; eval [nest 30] => 0 \n\
+proc nest {n} {set s up; while {$n > 0} {set s [list top $s]; incr n -1}; set s}; eval [nest 31] => scripts too deep in one another\n\
+proc f {} {top f}; catch f => scripts too deep in one another\n\
 proc f {} {set a 1}; f; set a => 1 E11 a\n\
 proc f {} {f}; catch f => scripts too deep in one another\n\
 proc f {} {error [set x]}; catch f m; set m => 0 E11 x\n\
@@ -272,7 +316,8 @@ catch {while 1 {}} => out of steps"
 #[test]
 fn scripts_end_as_in_tcl(rt: HostRuntime) -> Result<(), Fail> {
     try_rows(&rt, rt.alloc(), rows_of_tcl(), &Limits::format1())?;
-    try_rows(&rt, rt.alloc(), rows_of_control(), &Limits::format1())
+    try_rows(&rt, rt.alloc(), rows_of_control(), &Limits::format1())?;
+    try_rows(&rt, rt.alloc(), rows_of_global_level(), &Limits::format1())
 }
 
 #[test]
@@ -304,6 +349,11 @@ eval list 12345678 => too large\n\
 set a 1; set b 2; set c 3 => too large\n\
 proc f {} {}; proc g {} {}; proc h {} {} => too large\n\
 proc f {a b c} {}; f 1 2 3 => too large\n\
+top {up; up} => 0 \n\
+top {up; up; up} => out of steps\n\
+top {top {}} => 0 \n\
+top {top {top {}}} => scripts too deep in one another\n\
+catch {top {top {}}} => scripts too deep in one another\n\
 if 1 {up} => 0 \n\
 if 1 {up; up} => out of steps\n\
 if 0 {} elseif 1 {} => 0 \n\

@@ -1,0 +1,55 @@
+ghost use Rattle.std.specs.Prelude.{◌≡◌, ◌≤◌, ◌∷◌};
+ghost use Rattle.tks_eval.specs.Outcome.{End};
+ghost use Rattle.tks_eval.specs.Evaluation.{evaluate, global_does};
+ghost use Rattle.tks_eval.specs.Machine.{resume, frame_weight, GoesSo, Falls};
+ghost use Rattle.tks_eval.specs.declared.frame.Frame.TheVariants as frame;
+
+use crate::frame::{Ending, Frame, Now};
+use crate::halt::Halt;
+use crate::host::Host;
+use crate::machine::Machine;
+use std::alloc::Global;
+use tks_parse::parse;
+use tks_text::{Limits, Txt};
+use tks_vars::Vars;
+
+impl Machine {
+    /// Runs a script with the globals as the present frame.
+    pub fn run_global<H: Host>(
+        &mut self,
+        alloc: Global,
+        host: &H,
+        variables: &mut Vars,
+        script: Txt,
+        limits: &Limits,
+    ) -> Result<Now, Halt>
+        ensures spends { self.new.fuel ≤ self.old.fuel }
+        ensures goes { GoesSo H.meaning limits.now (resume H.meaning limits.now self.old.left self.old.stack (global_does (evaluate H.meaning limits.now self.old.left) script (H.state host.now) variables.old self.old.fuel)) result self.new (H.state host.now) variables.new }
+    {
+        variables.push_global()?;
+        let script = parse(alloc, &script)?;
+        self.stack.push(Frame::Global)?;
+        Ok(Now::Open(script))
+    }
+
+    /// Ends a script at global level: the present frame is again the one that it was run from.
+    pub fn after_global<H: Host>(
+        &mut self,
+        host: &H,
+        variables: &mut Vars,
+        end: Ending,
+        limits: &Limits,
+    ) -> Result<Now, Halt>
+        ensures falls { Falls result 1 self.old self.new }
+        ensures goes { GoesSo H.meaning limits.now (resume H.meaning limits.now self.old.left (frame.Global ∷ self.old.stack) (End end.code end.text (H.state host.now) variables.old self.old.fuel)) result self.new (H.state host.now) variables.new }
+    {
+        variables.pop_frame();
+        match end.code {
+            2 => Ok(Now::At(Ending {
+                code: 0,
+                text: end.text,
+            })),
+            _ => Ok(Now::At(end)),
+        }
+    }
+}
