@@ -1,0 +1,2 @@
+mod Round
+mod Cursor

@@ -1,0 +1,4 @@
+pub mod Entry
+pub mod Commands
+pub mod Shown
+pub mod Laws
