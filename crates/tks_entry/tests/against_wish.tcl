@@ -1,31 +1,30 @@
-# Makes the table of src/tests.rt: `wish against_wish.tcl 60 1`, with a display: sessions of commands on an entry, drawn
-# at random by a seed. A row is the commands, with `; ` between any two, and what each answers, with `|`; an error is `!`.
-lassign $argv count seed
+# Makes the table of src/entry/tests.rt: `wish against_wish.tcl 14 8 4`, with a display: so many entries, each with two
+# commands and so many more, drawn at random by a seed. A row is a command's words and, behind `=>`, its answer (an error
+# is `!`), then what `get` and `index insert` answer, with `|` between them. `_` stands for a space, `{}` for the empty word.
+lassign $argv entries commands seed
 expr {srand($seed)}
 proc one {choices} { lindex $choices [expr {int(rand() * [llength $choices])}] }
-proc index {} { one {0 0 1 2 3 5 9 -1 end end insert insert 0x2 +1 x 1x {} 2.0} }
+proc index {} { one {0 1 1 2 2 3 3 4 4 5 5 6 7 8 19 -1 end end insert insert insert 0x2 010 +1 { 2} x 1x {} 2.0} }
 proc command {} {
-    switch [one {insert insert insert delete delete icursor index index state get words}] {
-        insert { return "insert [list [index]] [list [one {a bc xyz {} {p q}}]]" }
-        delete { return [one [list "delete [list [index]]" "delete [list [index]] [list [index]]"]] }
-        icursor { return "icursor [list [index]]" }
-        index { return "index [list [index]]" }
-        state { return "configure -state [one {normal normal normal disabled readonly}]" }
-        get { return get }
-        words { return [one {{get x} insert {insert 0} {delete} {delete 0 1 2} icursor {index 0 1} {icursor 1 2} nosuch}] }
+    switch [one {insert insert insert insert delete delete delete icursor icursor index index state state words}] {
+        insert { return [list insert [index] [one {a bc xyz {} {p q} { }}]] }
+        delete { if {[one {0 1}]} { return [list delete [index]] } else { return [list delete [index] [index]] } }
+        icursor { return [list icursor [index]] }
+        index { return [list index [index]] }
+        state { return [list configure -state [one {normal normal disabled readonly}]] }
+        words { return [one {{get x} insert {insert x} {insert 0 a b} delete {delete 0 1 2} icursor {index 0 1} {icursor 1 2} nosuch {get}}] }
     }
 }
-for {set row 0} {$row < $count} {incr row} {
+proc spelled {word} { if {$word eq ""} { return "{}" } else { return [string map {{ } _} $word] } }
+for {set k 0} {$k < $entries} {incr k} {
     entry .e
-    set commands [list {insert 0 hello}]
-    for {set k 0} {$k < 9} {incr k} { lappend commands [command] }
-    lappend commands {index insert} get
-    set answers {}
-    foreach command $commands {
-        if {[catch {.e {*}$command} answer]} { set answer ! }
-        lappend answers $answer
+    set session [list {insert 0 {brown fox}} {icursor 4}]
+    for {set row 0} {$row < $commands} {incr row} { lappend session [command] }
+    puts "new"
+    foreach words $session {
+        if {[catch {.e {*}$words} answer]} { set answer ! }
+        puts "[join [lmap word $words { spelled $word }] { }] => [string map {{ } _} $answer|[.e get]|[.e index insert]]"
     }
-    puts "[join $commands {; }] => [join $answers |]"
     destroy .e
 }
 exit
