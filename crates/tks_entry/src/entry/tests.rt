@@ -92,7 +92,8 @@ fn compare(rt: &impl Abort, alloc: Global, entry: &mut EntryWidget, row: &str) -
 }
 
 // What wish 8.6.13 answers; `new` stands before the commands of one entry (tests/against_wish.tcl).
-const COMMANDS_OF_WISH: &str = "new\n\
+fn commands_of_wish() -> &'static str {
+    "new\n\
 insert 0 brown_fox => |brown_fox|9\n\
 icursor 4 => |brown_fox|4\n\
 icursor 0 => |brown_fox|0\n\
@@ -245,12 +246,13 @@ delete 1 -1 => |brownfox|4\n\
 configure -state readonly => |brownfox|4\n\
 delete +1 => |brownfox|4\n\
 configure -state disabled => |brownfox|4\n\
-insert 010 a => |brownfox|4";
+insert 010 a => |brownfox|4"
+}
 
 #[test]
 fn entries_change_as_those_of_wish(rt: HostRuntime) -> Result<(), Fail> {
     let mut entry = new_entry(rt.alloc())?;
-    for row in COMMANDS_OF_WISH.lines() {
+    for row in commands_of_wish().lines() {
         if row == "new" {
             entry = new_entry(rt.alloc())?;
         } else {
@@ -271,7 +273,8 @@ fn call_row(rt: &impl Abort, alloc: Global, row: &str) -> Result<(), Fail> {
 }
 
 // This project's own errors.
-const ERRORS: &str = "nosuch => E10 .e\n\
+fn errors() -> &'static str {
+    "nosuch => E10 .e\n\
 get x => E10 .e\n\
 insert x => E10 .e\n\
 insert x y z => E10 .e\n\
@@ -302,11 +305,12 @@ configure -show * -width => E10 .e\n\
 configure -show * -width 5 => \n\
 configure -state active => E35 -state\n\
 configure -width 10001 => E35 -width\n\
-configure -command x => E34 -command";
+configure -command x => E34 -command"
+}
 
 #[test]
 fn entries_answer_their_commands(rt: HostRuntime) -> Result<(), Fail> {
-    for row in ERRORS.lines() {
+    for row in errors().lines() {
         call_row(&rt, rt.alloc(), row)?;
     }
     Ok(())
@@ -364,7 +368,8 @@ fn draw_row(rt: &impl Abort, alloc: Global, row: &str) -> Result<(), Fail> {
 
 // A text, the cursor, `-width` and `-show`. Worked out by hand from the rule: from the character max(0, cursor - w + 1)
 // on, w the width that the entry asks for, in the first row.
-const PICTURES: &str = "abcdefgh 0 5 {} => abcde\n\
+fn pictures() -> &'static str {
+    "abcdefgh 0 5 {} => abcde\n\
 abcdefgh 4 5 {} => abcde\n\
 abcdefgh 5 5 {} => bcdef\n\
 abcdefgh 7 5 {} => defgh\n\
@@ -381,12 +386,13 @@ abcdefgh end 0 {} => bcdefgh.\n\
 abcdefgh 3 20 * => ********..\n\
 abcdefgh end 5 *# => ****.\n\
 abcdefgh 3 20 ~ => ..........\n\
-a~b/c_d 0 9 {} => a.b.c.d..|.........|.........";
+a~b/c_d 0 9 {} => a.b.c.d..|.........|........."
+}
 
 #[test]
 fn entries_show_where_the_cursor_is(rt: HostRuntime) -> Result<(), Fail> {
     cursor_is_shown();
-    for row in PICTURES.lines() {
+    for row in pictures().lines() {
         draw_row(&rt, rt.alloc(), row)?;
     }
     Ok(())
@@ -402,14 +408,16 @@ fn ask_row(rt: &impl Abort, alloc: Global, row: &str) -> Result<(), Fail> {
 }
 
 // Worked out by hand from the rule: `-width`, or where that is 0 the length of the text, at least 1.
-const SIZES: &str = "abcdefgh 0 5 {} => 5 1\n\
+fn sizes() -> &'static str {
+    "abcdefgh 0 5 {} => 5 1\n\
 abcdefgh 0 0 * => 8 1\n\
 {} 0 0 {} => 1 1\n\
-a/b 0 10000 {} => 10000 1";
+a/b 0 10000 {} => 10000 1"
+}
 
 #[test]
 fn entries_ask_for_their_width(rt: HostRuntime) -> Result<(), Fail> {
-    for row in SIZES.lines() {
+    for row in sizes().lines() {
         ask_row(&rt, rt.alloc(), row)?;
     }
     Ok(())
