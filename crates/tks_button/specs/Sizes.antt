@@ -13,13 +13,17 @@ abbrev pub or_else : {X : Type 0} → X → Option X → X
 or_else other None = other
 or_else other (Some x) = x
 
+-- what an option says, as it was given
+abbrev pub said_by : Options → OptionName → List ℕ
+said_by t o = or_else [] (value_in t.values o)
+
 -- what `-width` or `-height` says
 abbrev pub size_of : Options → OptionName → ℕ
 size_of t o = or_else 0 (option_and_then (number_within 0 max_size) (value_in t.values o))
 
 -- what `-text` says
 abbrev pub text_of : Options → List ℕ
-text_of t = or_else [] (value_in t.values name.Text)
+text_of t = said_by t name.Text
 
 -- what `-anchor` says
 abbrev pub anchor_of : Options → Anchor

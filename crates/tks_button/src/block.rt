@@ -1,5 +1,5 @@
 //! A block of lines in an area.
-ghost use Rattle.std.specs.Prelude.{◌≡◌, length, slice_get, option_map, IfOk};
+ghost use Rattle.std.specs.Prelude.{◌≡◌, ◌≤◌, length, slice_get, option_map, IfOk};
 ghost use Rattle.tks_opt.specs.Cells.{rows};
 ghost use Rattle.tks_button.specs.Block.{lines, longest, left_of, top_of, line_in_row, block_cell};
 
@@ -15,8 +15,10 @@ pub fn line_count(text: &[u8]) -> usize
 }
 
 /// The length of the longest line.
+#[tactic(auto, using(crate::proofs::Blocks::longest_within))]
 pub fn longest_line(text: &[u8]) -> usize
-    ensures { result ≡ longest (lines text.now) }
+    ensures value { result ≡ longest (lines text.now) }
+    ensures within { result ≤ length text.now }
 {
     text.split(|byte| *byte == b'\n')
         .map(|line| line.len())

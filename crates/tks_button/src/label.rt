@@ -4,13 +4,12 @@ ghost use Rattle.tks_text.specs.declared.class.Class.TheVariants as class;
 ghost use Rattle.tks_opt.specs.Calls.{called};
 ghost use Rattle.tks_opt.specs.Options.{first_options, configured, replaced};
 ghost use Rattle.tks_opt.specs.declared.name.OptionName.TheVariants as name;
-ghost use Rattle.tks_button.specs.Sizes.{text_of, anchor_of};
 ghost use Rattle.tks_button.specs.Label.{requested_width, requested_height, shown};
 
-use crate::block::{block_rows, line_count, longest_line};
+use crate::caption;
 use std::alloc::{AllocError, Global};
 use std::marker::Model;
-use tks_opt::{Anchor, OptionName, Options, Said};
+use tks_opt::{Options, Said};
 use tks_text::{Class, Failure, Seq, Txt};
 
 /// A label (label(n)): a text of one or more lines. Contracts see its options.
@@ -49,41 +48,18 @@ impl Label {
         &self.options
     }
 
-    // The bytes of its text.
-    fn text(&self) -> &[u8]
-        ensures { result.now ≡ text_of self.now }
-    {
-        match self.options.value(OptionName::Text) {
-            Some(text) => text.as_bytes(),
-            None => b"",
-        }
-    }
-
-    // Where its text stands in its area.
-    fn anchor(&self) -> Anchor
-        ensures { result ≡ anchor_of self.now }
-    {
-        match self.options.anchor() {
-            Some(anchor) => anchor,
-            None => Anchor::Center,
-        }
-    }
-
     /// How many cells wide it asks to be: as `-width` says, or, where that is 0, as its longest line is.
     pub fn requested_width(&self) -> usize
         ensures { result ≡ requested_width self.now }
     {
-        match self.options.size(OptionName::Width) {
-            Some(0) | None => longest_line(self.text()),
-            Some(width) => usize::from(width),
-        }
+        caption::requested_width(&self.options)
     }
 
     /// How many cells high it asks to be: one for each line.
     pub fn requested_height(&self) -> usize
         ensures { result ≡ requested_height self.now }
     {
-        line_count(self.text())
+        caption::requested_height(&self.options)
     }
 
     /// The characters of its area, row by row: its lines as a block, where `-anchor` says. Where the area is too
@@ -91,7 +67,7 @@ impl Label {
     pub fn shown(&self, width: usize, height: usize) -> Result<Seq<Seq<u8>>, AllocError>
         ensures { IfOk result (λ cells. cells ≡ shown self.now width height) }
     {
-        let cells = block_rows(self.alloc, self.text(), self.anchor(), width, height)?;
+        let cells = caption::shown(self.alloc, &self.options, width, height)?;
         Ok(cells)
     }
 

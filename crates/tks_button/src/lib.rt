@@ -1,9 +1,16 @@
-//! Frames and labels: how large they ask to be, what they show, and their subcommands.
+//! Frames, labels, buttons and checkbuttons: how large they ask to be, what they show, and their subcommands.
 #![tactic(auto)]
 
+mod action;
 mod block;
+mod button;
+mod caption;
+mod checkbutton;
 mod frame;
 mod label;
+mod mark;
 
+pub use button::Button;
+pub use checkbutton::Checkbutton;
 pub use frame::Frame;
 pub use label::Label;

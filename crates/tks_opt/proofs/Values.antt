@@ -1,7 +1,7 @@
 -- The values of options, as the code keeps them.
-use Rattle.std.proofs.Common.{◌≡◌, ℕ, Bool, true, false, cond, List, [], ◌∷◌, Option, Some, None, is_some, Result, Ok, Err, refl, sym, ap, subst, ◌∙◌, true≢false, if◌then◌else◌}
+use Rattle.std.proofs.Common.{◌≡◌, ℕ, Bool, true, false, cond, List, [], ◌∷◌, Option, Some, None, is_some, Result, Ok, Err, refl, sym, ap, subst, ◌∙◌, true≢false, if◌then◌else◌, ◌||◌}
 use Rattle.std.specs.Prelude.{map}
-use Rattle.std.specs.List.{AllByRecursion}
+use Rattle.std.specs.List.{AllByRecursion, list_any}
 use Rattle.std.specs.Map.{lookup}
 use Rattle.indexmap.specs.IndexMap.{insert_entry}
 use Rattle.tks_text.specs.declared.class.Class.{Class}
@@ -10,7 +10,7 @@ use Rattle.tks_opt.specs.Table.{options_of, first_value, accepts, option_named}
 use Rattle.tks_text.specs.Fault.{fault_about}
 use Rattle.tks_text.specs.declared.fault.ErrorNumber.TheVariants.{BadValue}
 use Rattle.tks_text.specs.declared.fault.ScriptFault.{ScriptFault}
-use Rattle.tks_opt.specs.Options.{Options, Legal, same_name, value_in, replaced, first_options, had, after as then_set, or_unknown, accepted_as, with_value, configured}
+use Rattle.tks_opt.specs.Options.{Options, Legal, same_name, has_option, value_in, replaced, first_options, had, after as then_set, or_unknown, accepted_as, with_value, configured}
 use Rattle.tks_opt.specs.declared.name.OptionName.{OptionName}
 use Rattle.tks_opt.specs.contracts.name.OptionName.{the_type}
 use denote.Enum.Bare.{same_true}
@@ -18,6 +18,19 @@ use denote.Enum.Bare.{same_true}
 pub looked_up : (o : OptionName) (es : List (OptionName × List ℕ)) → lookup (same_name o) es ≡ value_in es o
 looked_up o [] = refl
 looked_up o (e ∷ es) = ap (cond (same_name o e.0) (Some e.1)) (looked_up o es)
+
+names_there : (o : OptionName) (es : List (OptionName × List ℕ)) → list_any (same_name o) (map (λ e. e.0) es) ≡ is_some (value_in es o)
+names_there o [] = refl
+names_there o (e ∷ es) = by (same_name o e.0) (names_there o es)
+  where
+    by : (b : Bool) → list_any (same_name o) (map (λ e. e.0) es) ≡ is_some (value_in es o)
+        → (b || list_any (same_name o) (map (λ e. e.0) es)) ≡ is_some (if b then Some e.1 else value_in es o)
+    by true ih = refl
+    by false ih = ih
+
+-- each option of the class has a value
+pub own_there : (t : Options) (o : OptionName) → Legal t → has_option t.class o ≡ true → is_some (value_in t.values o) ≡ true
+own_there t o legal h = sym (names_there o t.values) ∙ ap (list_any (same_name o)) legal.names ∙ h
 
 -- a value in the place of one that is there
 pub put_there : (o : OptionName) (value : List ℕ) (es : List (OptionName × List ℕ)) → is_some (value_in es o) ≡ true → insert_entry same_name es o value ≡ replaced es o value

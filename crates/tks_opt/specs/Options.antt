@@ -1,6 +1,6 @@
 -- The options of one window (options(n)), as a map with the names of its class.
 use Rattle.std.specs.Prelude.{◌≡◌, ℕ, Bool, true, is_some, if◌then◌else◌, List, [], ◌∷◌, map, Option, Some, None, Result, Ok, Err}
-use Rattle.std.specs.List.{AllByRecursion}
+use Rattle.std.specs.List.{AllByRecursion, list_any}
 use Rattle.tks_text.specs.Fault.{fault_about}
 use Rattle.tks_text.specs.declared.class.Class.{Class}
 use Rattle.tks_text.specs.declared.fault.ErrorNumber.TheVariants.{UnknownOption, BadValue}
@@ -32,6 +32,10 @@ same_name = sameb the_type
 abbrev pub value_in : List (OptionName × List ℕ) → OptionName → Option (List ℕ)
 value_in [] o = None
 value_in (e ∷ values) o = if same_name o e.0 then Some e.1 else value_in values o
+
+-- whether windows of a class have an option
+abbrev pub has_option : Class → OptionName → Bool
+has_option c o = list_any (same_name o) (options_of c)
 
 -- the value that a text names, where the window has such an option
 abbrev pub named_value : List (OptionName × List ℕ) → Option OptionName → Option (List ℕ)

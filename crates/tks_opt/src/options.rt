@@ -1,8 +1,8 @@
-ghost use Rattle.std.specs.Prelude.{◌≡◌, IfOk, OnErr, [], option_map, option_and_then};
+ghost use Rattle.std.specs.Prelude.{◌≡◌, IfOk, OnErr, [], true, Some, option_map, option_and_then};
 ghost use Rattle.tks_text.specs.Fault.{Gives};
 ghost use Rattle.tks_opt.specs.Table.{option_named, max_size};
 ghost use Rattle.tks_opt.specs.Values.{number_within, anchor_named, state_named};
-ghost use Rattle.tks_opt.specs.Options.{Legal, first_options, had, value_in, value_of, with_value, configured, replaced};
+ghost use Rattle.tks_opt.specs.Options.{Legal, first_options, had, has_option, value_in, value_of, with_value, configured, replaced};
 
 use crate::anchor::Anchor;
 use crate::name::OptionName;
@@ -63,6 +63,17 @@ impl Options {
         ensures { option_map (λ v. v.now) result ≡ value_in self.now.values name }
     {
         self.values.get(&name)
+    }
+
+    /// The value of an option that the class has.
+    pub fn own_value(&self, name: OptionName) -> &Txt
+        requires { has_option self.now.class name ≡ true }
+        ensures { value_in self.now.values name ≡ Some result.now }
+    {
+        match self.values.get(&name) {
+            Some(value) => value,
+            None => unreachable!(),
+        }
     }
 
     /// The size that `-width` or `-height` says; none for another option, and where the class has none.
