@@ -1,2 +1,4 @@
 mod Blocks
 mod Marks
+mod Toggles
+mod Wholes

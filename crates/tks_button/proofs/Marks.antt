@@ -17,7 +17,7 @@ abbrev but_first : List (List ℕ) → List (List ℕ)
 but_first [] = []
 but_first (line ∷ others) = line ∷ map (λ other. indent ++ other) others
 
-some_line : (text : List ℕ) → 0 < length (lines text)
+pub some_line : (text : List ℕ) → 0 < length (lines text)
 some_line text = omega (arith, length-slice_split (λ b. b == 10) text)
 
 behind_newline : (ls : List (List ℕ)) → 0 < length ls → onto_first 32 (onto_first 32 (onto_first 32 (onto_first 32 (but_first ls)))) ≡ map (λ other. indent ++ other) ls

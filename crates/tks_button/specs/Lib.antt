@@ -5,3 +5,4 @@ pub mod Label
 pub mod Action
 pub mod Button
 pub mod Checkbutton
+pub mod Laws
