@@ -121,3 +121,6 @@ impl Button {
         })
     }
 }
+
+#[cfg(test)]
+mod tests;

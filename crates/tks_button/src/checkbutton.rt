@@ -169,3 +169,6 @@ impl Checkbutton {
         })
     }
 }
+
+#[cfg(test)]
+mod tests;

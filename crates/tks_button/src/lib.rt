@@ -10,6 +10,8 @@ mod frame;
 mod label;
 mod laws;
 mod mark;
+#[cfg(test)]
+mod testing;
 
 pub use button::Button;
 pub use checkbutton::Checkbutton;

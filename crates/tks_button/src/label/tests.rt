@@ -1,30 +1,8 @@
 use super::*;
 use crate::frame::Frame;
+use crate::testing::{area_of, compare, drawn, told, words_of};
 use std::process::Abort;
 use std::test::Fail;
-
-// The words of a row, with spaces between them; `/` stands for a newline, `~` for a tab, `_` for a space.
-fn words_of(alloc: Global, shown: &str) -> Result<Seq<Txt>, Fail> {
-    let mut words = Seq::new(alloc);
-    for shown_word in shown.split(' ') {
-        let mut word = Txt::new(alloc);
-        for byte in shown_word.as_bytes() {
-            word.push(byte_of(*byte))?;
-        }
-        words.push(word)?;
-    }
-    Ok(words)
-}
-
-// The byte that one of a row stands for.
-fn byte_of(byte: u8) -> u8 {
-    match byte {
-        b'/' => b'\n',
-        b'~' => b'\t',
-        b'_' => b' ',
-        other => other,
-    }
-}
 
 // A label, and what its command said with these words behind its path.
 fn label_called(alloc: Global, shown: &str) -> Result<(Label, Result<Said, Failure>), Fail> {
@@ -44,34 +22,18 @@ fn label_of(alloc: Global, options: &str) -> Result<Label, Fail> {
     }
 }
 
-// Rows of cells with a bar between any two, and dots for spaces.
-fn drawn(alloc: Global, cells: &Seq<Seq<u8>>) -> Result<String, Fail> {
-    let mut text = String::new(alloc);
-    for row in cells.as_slice() {
-        if !text.is_empty() {
-            text.push('|')?;
-        }
-        for cell in row.as_slice() {
-            text.push(if *cell == b' ' { '.' } else { *cell as char })?;
-        }
-    }
-    Ok(text)
-}
-
 // Draws a label in an area as large as the picture that is wanted.
-fn compare(rt: &impl Abort, alloc: Global, label: &Label, want: &str) -> Result<(), Fail> {
-    let first = want.split('|').next().ok_or("no picture")?;
-    let cells = label.shown(first.len(), want.split('|').count())?;
-    let text = drawn(alloc, &cells)?;
-    assert_eq!(rt; text.as_str(), want);
-    Ok(())
+fn compare_label(rt: &impl Abort, alloc: Global, label: &Label, want: &str) -> Result<(), Fail> {
+    let (width, height) = area_of(want)?;
+    let cells = label.shown(width, height)?;
+    compare(rt, alloc, &cells, want)
 }
 
 // Draws the label of a row.
 fn draw_row(rt: &impl Abort, alloc: Global, row: &str) -> Result<(), Fail> {
     let (options, want) = row.split_once(" => ").ok_or("no such row")?;
     let label = label_of(alloc, options)?;
-    compare(rt, alloc, &label, want)
+    compare_label(rt, alloc, &label, want)
 }
 
 // Worked out by hand from the rule: a block of lines at its anchor, halves rounded down, cut to the area.
@@ -135,16 +97,6 @@ fn labels_ask_for_their_lines(rt: HostRuntime) -> Result<(), Fail> {
         ask_row(&rt, rt.alloc(), row)?;
     }
     Ok(())
-}
-
-// The text of an answer or of an error.
-fn told(alloc: Global, said: Result<Said, Failure>) -> Result<Txt, Fail> {
-    match said {
-        Ok(Said::Text(text)) => Ok(text),
-        Ok(Said::Run(_script)) => Err("no script is run")?,
-        Err(Failure::Script(fault)) => Ok(fault.text(alloc)?),
-        Err(Failure::NoMemory) => Err("out of memory")?,
-    }
 }
 
 // Calls the command of a label with the words of a row, the path first.
@@ -212,6 +164,6 @@ fn the_first_window_is_a_frame(rt: HostRuntime) -> Result<(), Fail> {
 fn a_label_takes_another_text(rt: HostRuntime) -> Result<(), Fail> {
     let label = label_of(rt.alloc(), "-text ab -anchor e")?;
     let text = Txt::from_bytes(rt.alloc(), b"xyz")?;
-    compare(&rt, rt.alloc(), &label.with_text(&text)?, ".xyz")?;
-    compare(&rt, rt.alloc(), &label.try_clone()?, "..ab")
+    compare_label(&rt, rt.alloc(), &label.with_text(&text)?, ".xyz")?;
+    compare_label(&rt, rt.alloc(), &label.try_clone()?, "..ab")
 }
