@@ -1,4 +1,4 @@
--- What a button answers (button(n)); it asks for and shows what a label does.
+-- What a button answers (button(n)); what it asks for and shows is a label's.
 use Rattle.std.specs.Prelude.{ℕ, List, Option, Some, Ok}
 use Rattle.tks_opt.specs.Calls as calls
 use Rattle.tks_opt.specs.Calls.{Called}

@@ -1,4 +1,5 @@
--- What a label asks for and shows (label(n); that sizes are counts of characters is this project's own rule).
+-- What a label asks for and shows, and a button too (label(n), button(n); that sizes are counts of characters is this
+-- project's own rule).
 use Rattle.std.specs.Prelude.{ℕ, ◌==◌, if◌then◌else◌, List, length}
 use Rattle.tks_opt.specs.Cells.{rows}
 use Rattle.tks_opt.specs.Options.{Options}

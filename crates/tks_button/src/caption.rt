@@ -1,4 +1,4 @@
-//! What a label, and every button, takes from its options: a text, and where it stands.
+//! What labels and buttons take from their options: a text, and where it stands.
 ghost use Rattle.std.specs.Prelude.{◌≡◌, ◌<◌, ◌^◌, IfOk};
 ghost use Rattle.tks_button.specs.Label.{requested_width, requested_height, shown};
 ghost use Rattle.tks_button.specs.Sizes.{text_of, anchor_of};

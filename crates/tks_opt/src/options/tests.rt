@@ -146,3 +146,12 @@ fn a_refused_pair_changes_nothing(rt: HostRuntime) -> Result<(), Fail> {
     }
     Ok(())
 }
+
+#[test]
+fn an_option_of_the_class_has_a_value(rt: HostRuntime) -> Result<(), Fail> {
+    let path = Txt::from_bytes(rt.alloc(), b".f.w")?;
+    let options = Options::new(rt.alloc(), Class::Checkbutton, &path)?;
+    let value = options.own_value(OptionName::Variable);
+    assert_eq!(rt; value.as_bytes(), b"w".as_slice());
+    Ok(())
+}
