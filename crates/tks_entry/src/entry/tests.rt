@@ -330,17 +330,12 @@ fn drawn(alloc: Global, cells: &Seq<Seq<u8>>) -> Result<String, Fail> {
     Ok(text)
 }
 
-// An entry with these options, and a text in which the cursor stands at an index.
-fn entry_of(alloc: Global, shown: &str) -> Result<EntryWidget, Fail> {
+// A new entry that these commands, with `;` between any two, were called of.
+fn entry_of(alloc: Global, commands: &str) -> Result<EntryWidget, Fail> {
     let mut entry = new_entry(alloc)?;
-    let mut parts = shown.split(' ');
-    for subcommand in ["insert 0", "icursor", "configure -width", "configure -show"] {
-        let word = parts.next().ok_or("no such row")?;
-        let words = format!(in alloc; "{subcommand} {word}")?;
-        match called(alloc, &mut entry, words.as_str())? {
-            Ok(_) => {}
-            Err(_) => Err("not accepted")?,
-        }
+    for words in commands.split(';') {
+        let said = called(alloc, &mut entry, words)?;
+        told(alloc, said)?;
     }
     Ok(entry)
 }
@@ -366,27 +361,27 @@ fn draw_row(rt: &impl Abort, alloc: Global, row: &str) -> Result<(), Fail> {
     compare_picture(rt, alloc, &entry, want)
 }
 
-// A text, the cursor, `-width` and `-show`. Worked out by hand from the rule: from the character max(0, cursor - w + 1)
+// Worked out by hand from the rule: from the character max(0, cursor - w + 1)
 // on, w the width that the entry asks for, in the first row.
 fn pictures() -> &'static str {
-    "abcdefgh 0 5 {} => abcde\n\
-abcdefgh 4 5 {} => abcde\n\
-abcdefgh 5 5 {} => bcdef\n\
-abcdefgh 7 5 {} => defgh\n\
-abcdefgh end 5 {} => efgh.\n\
-abcdefgh end 5 {} => efgh....\n\
-abcdefgh end 5 {} => efg\n\
-abcdefgh 2 1 {} => c\n\
-abcdefgh end 1 {} => .\n\
-abcdefgh end 20 {} => abcdefgh..|..........\n\
-abcdefgh 0 0 {} => abcdefgh\n\
-abcdefgh end 0 {} => bcdefgh.\n\
-{} 0 0 {} => .|.\n\
-{} 0 3 * => ...\n\
-abcdefgh 3 20 * => ********..\n\
-abcdefgh end 5 *# => ****.\n\
-abcdefgh 3 20 ~ => ..........\n\
-a~b/c_d 0 9 {} => a.b.c.d..|.........|........."
+    "insert 0 abcdefgh;icursor 0;configure -width 5 -show {} => abcde\n\
+insert 0 abcdefgh;icursor 4;configure -width 5 -show {} => abcde\n\
+insert 0 abcdefgh;icursor 5;configure -width 5 -show {} => bcdef\n\
+insert 0 abcdefgh;icursor 7;configure -width 5 -show {} => defgh\n\
+insert 0 abcdefgh;icursor end;configure -width 5 -show {} => efgh.\n\
+insert 0 abcdefgh;icursor end;configure -width 5 -show {} => efgh....\n\
+insert 0 abcdefgh;icursor end;configure -width 5 -show {} => efg\n\
+insert 0 abcdefgh;icursor 2;configure -width 1 -show {} => c\n\
+insert 0 abcdefgh;icursor end;configure -width 1 -show {} => .\n\
+insert 0 abcdefgh;icursor end;configure -width 20 -show {} => abcdefgh..|..........\n\
+insert 0 abcdefgh;icursor 0;configure -width 0 -show {} => abcdefgh\n\
+insert 0 abcdefgh;icursor end;configure -width 0 -show {} => bcdefgh.\n\
+insert 0 {};icursor 0;configure -width 0 -show {} => .|.\n\
+insert 0 {};icursor 0;configure -width 3 -show * => ...\n\
+insert 0 abcdefgh;icursor 3;configure -width 20 -show * => ********..\n\
+insert 0 abcdefgh;icursor end;configure -width 5 -show *# => ****.\n\
+insert 0 abcdefgh;icursor 3;configure -width 20 -show ~ => ..........\n\
+insert 0 a~b/c_d;icursor 0;configure -width 9 -show {} => a.b.c.d..|.........|........."
 }
 
 #[test]
@@ -409,10 +404,10 @@ fn ask_row(rt: &impl Abort, alloc: Global, row: &str) -> Result<(), Fail> {
 
 // Worked out by hand from the rule: `-width`, or where that is 0 the length of the text, at least 1.
 fn sizes() -> &'static str {
-    "abcdefgh 0 5 {} => 5 1\n\
-abcdefgh 0 0 * => 8 1\n\
-{} 0 0 {} => 1 1\n\
-a/b 0 10000 {} => 10000 1"
+    "insert 0 abcdefgh;icursor 0;configure -width 5 -show {} => 5 1\n\
+insert 0 abcdefgh;icursor 0;configure -width 0 -show * => 8 1\n\
+insert 0 {};icursor 0;configure -width 0 -show {} => 1 1\n\
+insert 0 a/b;icursor 0;configure -width 10000 -show {} => 10000 1"
 }
 
 #[test]
@@ -423,16 +418,25 @@ fn entries_ask_for_their_width(rt: HostRuntime) -> Result<(), Fail> {
     Ok(())
 }
 
+// An entry with 6 as its cursor, 5 cells wide.
+fn narrow(alloc: Global) -> Result<EntryWidget, Fail> {
+    entry_of(alloc, "insert 0 abcdefgh;icursor 6;configure -width 5")
+}
+
 #[test]
 fn another_text_keeps_the_cursor(rt: HostRuntime) -> Result<(), Fail> {
     deletion_undoes_insertion();
-    let entry = entry_of(rt.alloc(), "abcdefgh 6 5 {}")?;
-    let short = entry.with_text(&Txt::from_bytes(rt.alloc(), b"xyz")?)?;
+    let text = Txt::from_bytes(rt.alloc(), b"xyz")?;
+    let short = narrow(rt.alloc())?.with_text(&text)?;
     assert_eq!(rt; short.cursor(), 6);
     assert_eq!(rt; short.cursor_place(), 3);
-    compare_picture(&rt, rt.alloc(), &short, "xyz..")?;
-    compare_picture(&rt, rt.alloc(), &short.with_text(entry.text())?, "cdefg")?;
-    compare_picture(&rt, rt.alloc(), &entry.try_clone()?, "cdefg")
+    compare_picture(&rt, rt.alloc(), &short, "xyz..")
+}
+
+#[test]
+fn a_copy_shows_the_same(rt: HostRuntime) -> Result<(), Fail> {
+    let copy = narrow(rt.alloc())?.try_clone()?;
+    compare_picture(&rt, rt.alloc(), &copy, "cdefg")
 }
 
 #[test]
