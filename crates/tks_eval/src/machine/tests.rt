@@ -8,7 +8,8 @@ use std::process::Abort;
 use std::test::Fail;
 use tks_parse::parse;
 
-// A host with a count: `up` adds one to it, `zero` sets it to 0, and `top` does so and wants its word run at global level.
+// A host with a count: `up` adds one to it, `zero` sets it to 0, and `top` does so and wants its word run at global
+// level.
 #[derive(Drop)]
 struct Counter {
     alloc: Global,
