@@ -3,7 +3,8 @@
 use Rattle.std.specs.Prelude.{ℕ, Bool, false, ◌+◌, ◌==◌, ◌||◌, if◌then◌else◌, codes, List, [], ◌∷◌}
 use Rattle.tks_text.specs.Text.{same_text}
 use Rattle.tks_vars.specs.Variables.{Variables}
-use Rattle.tks_eval.specs.Outcome.{Answer, Unknown, Replies, Runs, PassesLimit, Meaning}
+use Rattle.tks_eval.specs.Outcome.{Answer, Unknown, Comes, PassesLimit, Meaning}
+use Rattle.tks_eval.specs.declared.host.Plan.TheVariants as plan
 
 -- the script to run, which is empty where there is no word
 abbrev pub script_in : List (List ℕ) → List ℕ
@@ -12,9 +13,9 @@ script_in (script ∷ words) = script
 
 abbrev pub count_named : ℕ → Variables → List ℕ → List (List ℕ) → Answer ℕ
 count_named n variables name words =
-    if same_text name (codes "up") then (if n == 4294967295 then PassesLimit else Replies 0 [] (n + 1) variables)
-    else (if same_text name (codes "zero") then Replies 0 [] 0 variables
-    else (if same_text name (codes "top") then Runs (script_in words) 0 variables
+    if same_text name (codes "up") then (if n == 4294967295 then PassesLimit else Comes (plan.Answer 0 []) (n + 1) variables)
+    else (if same_text name (codes "zero") then Comes (plan.Answer 0 []) 0 variables
+    else (if same_text name (codes "top") then Comes (plan.Eval (script_in words)) 0 variables
     else Unknown))
 
 abbrev pub counts : ℕ → Variables → List (List ℕ) → Answer ℕ

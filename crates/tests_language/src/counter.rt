@@ -31,6 +31,12 @@ impl Host for Counter {
 
     ghost state = { λ c. c.count };
 
+    ghost use Rattle.std.specs.Prelude.{Unit};
+
+    ghost Place = { Unit {0} };
+
+    ghost place = { λ _. tt };
+
     ghost meaning = { counting };
 
     fn call(&mut self, _variables: &mut Vars, words: &[Txt]) -> Result<Option<Plan>, Stop> {

@@ -3,3 +3,4 @@ pub mod Destroys
 pub mod Errors
 pub mod Packs
 pub mod Results
+pub mod Wider

@@ -8,7 +8,8 @@ use Rattle.tks_tcl.specs.Cause.{Cause, Fault, OverLimit, fits}
 use Rattle.tks_vars.specs.Variables.{Variables}
 use Rattle.tks_tree.specs.Windows.{of_path}
 use Rattle.tks_state.specs.World.{World}
-use Rattle.tks_eval.specs.Outcome.{Answer, Unknown, Replies, PassesLimit}
+use Rattle.tks_eval.specs.Outcome.{Answer, Unknown, Comes, PassesLimit}
+use Rattle.tks_eval.specs.declared.host.Plan.TheVariants as plan
 use Rattle.tks_cmd.specs.Changes.{Changed}
 use Rattle.tks_cmd.specs.Windows.{make_does, destroy_does}
 use Rattle.tks_cmd.specs.Widgets.{window_does}
@@ -45,12 +46,12 @@ module _ (limits : Limits) where
 
   -- an error, whose text passes no limit
   abbrev pub errs : ScriptFault → World → Variables → Answer World
-  errs fault w variables = if fits limits (fault_text fault) then Replies 1 (fault_text fault) w variables else PassesLimit
+  errs fault w variables = if fits limits (fault_text fault) then Comes (plan.Answer 1 (fault_text fault)) w variables else PassesLimit
 
   -- an error of the command's own leaves the world as it was
   abbrev pub answered : World → Variables → Option (Result Changed Cause) → Answer World
   answered w variables None = Unknown
-  answered w variables (Some (Ok x)) = if fits limits x.0 then Replies 0 x.0 x.1 variables else PassesLimit
+  answered w variables (Some (Ok x)) = if fits limits x.0 then Comes (plan.Answer 0 x.0) x.1 variables else PassesLimit
   answered w variables (Some (Err (Fault fault))) = errs fault w variables
   answered w variables (Some (Err OverLimit)) = PassesLimit
 

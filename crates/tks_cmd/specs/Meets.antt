@@ -31,7 +31,7 @@ RunsSo (Err interrupt.NoMemory) old new given = Unit {0}
 -- the end by an error's text; want of memory may come anywhere
 abbrev pub ErrsSo : Limits → ScriptFault → Result Plan Stop → Type 0
 ErrsSo limits fault (Ok (plan.Answer code text)) = (code ≡ 1) × (text ≡ fault_text fault) × (fits limits (fault_text fault) ≡ true)
-ErrsSo limits fault (Ok (plan.Eval script)) = ⊥
+ErrsSo limits fault (Ok other) = ⊥
 ErrsSo limits fault (Err stop.TooLarge) = fits limits (fault_text fault) ≡ false
 ErrsSo limits fault (Err stop.NoMemory) = Unit {0}
 ErrsSo limits fault (Err why) = ⊥

@@ -50,6 +50,7 @@ module _ {S : Type 0} (host : Meaning S) (limits : Limits) where
   resume_stopped left (frame.Turns stage.Next loop ∷ below) why = resume_stopped left below why
   resume_stopped left (frame.Procedure ∷ below) why = resume_stopped left below why
   resume_stopped left (frame.Global ∷ below) why = resume_stopped left below why
+  resume_stopped left (frame.Scripts window scripts ∷ below) why = resume_stopped left below why
 
   -- a stop on top is a stop of the whole
   pub resume_stops : (left : ℕ) (stack : List Frame) (outcome : Outcome S) (why : Stop) → StopsSo outcome why → StopsSo (resume host limits left stack outcome) why

@@ -19,16 +19,18 @@ use Rattle.tks_expr.specs.Tree.{Expr, Literal, Made, One, Two, Both, Either, Cho
 use Rattle.tks_expr.specs.Operation.{truth_of, applied, applied_unary, result_of}
 use Rattle.tks_expr.specs.Reading.{expr_of}
 use Rattle.tks_expr.specs.Value.{choice}
-use Rattle.tks_eval.specs.Outcome.{Outcome, End, Stopped, TooLarge, Next, Level, Answer, Unknown, Replies, Runs, PassesLimit, Meaning, after_step, after, after_body, after_next, caught, joined, fails, given}
+use Rattle.tks_eval.specs.Outcome.{Outcome, End, Stopped, TooLarge, Next, Level, Answer, Unknown, Comes, PassesLimit, Meaning, after_step, after, after_body, after_next, caught, joined, fails, given}
 use Rattle.tks_eval.specs.Names.{control_named}
 use Rattle.tks_eval.specs.Branches.{Condition, branches}
 use Rattle.tks_eval.specs.Procedures.{entered, proc_form}
-use Rattle.tks_eval.specs.Evaluation.{element_name, with_value, words_in, foreach_form, text_done, and_then, done, without_frame, returned, global_does, parts_do, made_text, value_does, expression_does, chosen, after_truth, tested, wrong_words, result_told, expr_does, script_does, branches_do, form_does, behind_body, turn_does, turns, loop_does, while_does, for_does, catch_ends, catch_does, each, settled, procedure_does, control_does, host_does, plain_does, command_does, call, words_do, commands_do, evaluate}
+use Rattle.tks_eval.specs.Evaluation.{element_name, with_value, words_in, foreach_form, text_done, and_then, done, without_frame, returned, at_global, global_does, after_script, scripts_do, plan_does, parts_do, made_text, value_does, expression_does, chosen, after_truth, tested, wrong_words, result_told, expr_does, script_does, branches_do, form_does, behind_body, turn_does, turns, loop_does, while_does, for_does, catch_ends, catch_does, each, settled, procedure_does, control_does, host_does, plain_does, command_does, call, words_do, commands_do, evaluate}
 use Rattle.tks_eval.specs.Values.{told_text, by_truth, truth_told}
 use Rattle.tks_eval.specs.declared.branches.Branches.{Branches}
 use Rattle.tks_eval.specs.declared.branches.Test.{Test}
 use Rattle.tks_eval.specs.declared.loops.Loop.{Loop}
 use Rattle.tks_eval.specs.declared.control.Control.{Control}
+use Rattle.tks_eval.specs.declared.host.Plan.{Plan}
+use Rattle.tks_eval.specs.declared.host.Plan.TheVariants as plan
 use Rattle.tks_eval.specs.declared.control.Control.TheVariants as control
 
 module _ {S : Type 0} where
@@ -100,11 +102,13 @@ module _ {S : Type 0} where
   returned_spends bound (End code text state variables fuel) h =
       elim (code == 2) as (λ b. Spends bound (cond b (End 0 text state variables fuel) (End code text state variables fuel))) [ true ↦ h | false ↦ h ]
 
+  at_global_spends : (inner : Level S) → Thrifty inner → (text : List ℕ) (bound : ℕ) → Within bound (at_global inner text)
+  at_global_spends inner thrifty text bound state variables fuel h =
+      frame_spends bound (inner (script_of text) state (pushed_global variables) fuel) (script_spends inner thrifty (script_of text) bound state (pushed_global variables) fuel h)
+
   global_spends : (inner : Level S) → Thrifty inner → (text : List ℕ) (bound : ℕ) → Within bound (global_does inner text)
   global_spends inner thrifty text bound state variables fuel h =
-      let outcome = inner (script_of text) state (pushed_global variables) fuel in
-      returned_spends bound (without_frame outcome)
-      (frame_spends bound outcome (script_spends inner thrifty (script_of text) bound state (pushed_global variables) fuel h))
+      returned_spends bound (at_global inner text state variables fuel) (at_global_spends inner thrifty text bound state variables fuel h)
 
   module _ (limits : Limits) where
     pub fails_spends : (fault : ScriptFault) (bound : ℕ) → Within bound (fails limits fault)
@@ -307,6 +311,34 @@ module _ {S : Type 0} where
           settled_spends bound (without_frame (inner (script_of x.0) state x.1 fuel))
           (frame_spends bound (inner (script_of x.0) state x.1 fuel) (script_spends inner thrifty (script_of x.0) bound state x.1 fuel h)))
 
+module _ {S : Type 0} (host : Meaning S) where
+  script_ended_spends : (bound : ℕ) (outcome : Outcome S) (next : Next S) → Spends bound outcome → Within bound next → Spends bound (after_script host outcome next)
+  script_ended_spends bound (Stopped why) next h k = tt
+  script_ended_spends bound (End code text state variables fuel) next h k =
+      let goes : Spends bound (cond (code == 3) (End 0 [] state variables fuel) (next state variables fuel)) =
+      elim (code == 3) as (λ b. Spends bound (cond b (End 0 [] state variables fuel) (next state variables fuel))) [ true ↦ h | false ↦ k state variables fuel h ] in
+      elim (code == 1) as (λ b. Spends bound (cond b (End 0 [] (host.faulted state text) variables fuel) (cond (code == 3) (End 0 [] state variables fuel) (next state variables fuel)))) [
+        | true ↦ h
+        | false ↦ goes
+      ]
+
+  module _ (inner : Level S) (thrifty : Thrifty inner) where
+    scripts_spend : (window : ℕ) (scripts : List (List ℕ)) (bound : ℕ) → Within bound (scripts_do host inner window scripts)
+    scripts_spend window [] bound state variables fuel h = h
+    scripts_spend window (script ∷ scripts) bound state variables fuel h =
+        let step : ℕ → Outcome S = λ u. after_script host (at_global inner script state variables u) (scripts_do host inner window scripts) in
+        elim (host.alive state window) as (λ b. Spends bound (cond b (after_step fuel step) (End 0 [] state variables fuel))) [
+          | true ↦ step_spends bound fuel step h (λ less k.
+              script_ended_spends bound (at_global inner script state variables less) (scripts_do host inner window scripts)
+              (at_global_spends inner thrifty script bound state variables less k) (scripts_spend window scripts bound))
+          | false ↦ h
+        ]
+
+    plan_spends : (p : Plan) (bound : ℕ) → Within bound (plan_does host inner p)
+    plan_spends (plan.Answer code text) bound state variables fuel h = h
+    plan_spends (plan.Eval script) bound state variables fuel h = global_spends inner thrifty script bound state variables fuel h
+    plan_spends (plan.Dispatch window scripts) bound state variables fuel h = scripts_spend window scripts bound state variables fuel h
+
 module _ {S : Type 0} (host : Meaning S) (limits : Limits) where
   module _ (inner : Level S) (thrifty : Thrifty inner) where
     control_spends : (c : Control) (first : List ℕ) (words : List (List ℕ)) (bound : ℕ) → Within bound (control_does host limits inner c first words)
@@ -325,8 +357,7 @@ module _ {S : Type 0} (host : Meaning S) (limits : Limits) where
     control_spends control.While first words bound state variables fuel h = while_spends limits inner thrifty first words bound state variables fuel h
 
     host_spends : (first : List ℕ) (words : List (List ℕ)) (answer : Answer S) (bound : ℕ) → Within bound (host_does host limits inner first words answer)
-    host_spends first words (Replies code text state' variables') bound state variables fuel h = h
-    host_spends first words (Runs script state' variables') bound state variables fuel h = global_spends inner thrifty script bound state' variables' fuel h
+    host_spends first words (Comes p state' variables') bound state variables fuel h = plan_spends host inner thrifty p bound state' variables' fuel h
     host_spends first words PassesLimit bound state variables fuel h = tt
     host_spends first words Unknown bound state variables fuel h =
         procedure_spends limits inner thrifty first words (map.get variables.procedures first) bound state variables fuel h

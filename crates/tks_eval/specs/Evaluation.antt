@@ -17,7 +17,7 @@ use Rattle.tks_tcl.specs.Lists.{concatenated, joined_by}
 use Rattle.tks_tcl.specs.Plain as commands
 use Rattle.tks_tcl.specs.Plain.{plain}
 use Rattle.tks_tcl.specs.Variables.{stores}
-use Rattle.tks_eval.specs.Outcome.{Outcome, End, Stopped, TooDeep, TooLarge, OutOfSteps, Next, Level, Answer, Unknown, Replies, Runs, PassesLimit, Meaning, after_step, after, after_body, after_next, caught, joined, fails, given}
+use Rattle.tks_eval.specs.Outcome.{Outcome, End, Stopped, TooDeep, TooLarge, OutOfSteps, Next, Level, Answer, Unknown, Comes, PassesLimit, Meaning, after_step, after, after_body, after_next, caught, joined, fails, given}
 use Rattle.tks_eval.specs.Names.{control_named}
 use Rattle.tks_expr.specs.Tree.{Expr}
 use Rattle.tks_expr.specs.Value.{value}
@@ -29,6 +29,8 @@ use Rattle.tks_eval.specs.declared.branches.Test.{Test}
 use Rattle.tks_eval.specs.declared.loops.Loop.{Loop}
 use Rattle.tks_eval.specs.Procedures.{entered, proc_form}
 use Rattle.tks_eval.specs.declared.control.Control.{Control}
+use Rattle.tks_eval.specs.declared.host.Plan.{Plan}
+use Rattle.tks_eval.specs.declared.host.Plan.TheVariants as plan
 use Rattle.tks_eval.specs.declared.control.Control.TheVariants as control
 
 -- the name of an element
@@ -89,9 +91,13 @@ abbrev pub returned : {S : Type 0} → Outcome S → Outcome S
 returned (Stopped why) = Stopped why
 returned (End code text state variables fuel) = if code == 2 then End 0 text state variables fuel else End code text state variables fuel
 
--- a script that a command of the host wants run, with the globals as the present frame
+-- a script at global level: with the globals as the present frame
+abbrev pub at_global : {S : Type 0} → Level S → List ℕ → Next S
+at_global inner text state variables fuel = without_frame (inner (script_of text) state (pushed_global variables) fuel)
+
+-- a script that a command of the host wants run
 abbrev pub global_does : {S : Type 0} → Level S → List ℕ → Next S
-global_does inner text state variables fuel = returned (without_frame (inner (script_of text) state (pushed_global variables) fuel))
+global_does inner text state variables fuel = returned (at_global inner text state variables fuel)
 
 module _ {S : Type 0} (limits : Limits) where
   -- ---- words
@@ -237,6 +243,32 @@ module _ {S : Type 0} (limits : Limits) where
       given limits (entered limits first words variables procedure) state variables fuel (λ x.
       settled (without_frame (inner (script_of x.0) state x.1 fuel)))
 
+module _ {S : Type 0} (host : Meaning S) where
+  -- ---- plans
+
+  -- what follows one of the scripts of an event (bind(n), "MULTIPLE MATCHES"; that an error ends them and joins the
+  -- faults is this project's own rule)
+  abbrev pub after_script : Outcome S → Next S → Outcome S
+  after_script (Stopped why) next = Stopped why
+  after_script (End code text state variables fuel) next =
+      if code == 1 then End 0 [] (host.faulted state text) variables fuel
+      else (if code == 3 then End 0 [] state variables fuel
+      else next state variables fuel)
+
+  -- the scripts of an event that are left, all chosen before the first ran: each is a step, and runs at global level; a
+  -- window that is gone ends them
+  abbrev pub scripts_do : Level S → ℕ → List (List ℕ) → Next S
+  scripts_do inner window [] state variables fuel = End 0 [] state variables fuel
+  scripts_do inner window (script ∷ scripts) state variables fuel =
+      if host.alive state window then after_step fuel (λ fuel. after_script (at_global inner script state variables fuel) (scripts_do inner window scripts))
+      else End 0 [] state variables fuel
+
+  -- what comes of a plan
+  abbrev pub plan_does : Level S → Plan → Next S
+  plan_does inner (plan.Answer code text) state variables fuel = End code text state variables fuel
+  plan_does inner (plan.Eval script) state variables fuel = global_does inner script state variables fuel
+  plan_does inner (plan.Dispatch window scripts) state variables fuel = scripts_do inner window scripts state variables fuel
+
 module _ {S : Type 0} (host : Meaning S) (limits : Limits) where
   -- proc name params body
   abbrev pub proc_does : List ℕ → List (List ℕ) → Next S
@@ -258,8 +290,7 @@ module _ {S : Type 0} (host : Meaning S) (limits : Limits) where
 
   -- a command that the host has, or else a procedure
   abbrev pub host_does : Level S → List ℕ → List (List ℕ) → Answer S → Next S
-  host_does inner first words (Replies code text state' variables') state variables fuel = End code text state' variables' fuel
-  host_does inner first words (Runs script state' variables') state variables fuel = global_does inner script state' variables' fuel
+  host_does inner first words (Comes p state' variables') state variables fuel = plan_does host inner p state' variables' fuel
   host_does inner first words PassesLimit state variables fuel = Stopped TooLarge
   host_does inner first words Unknown state variables fuel =
       procedure_does limits inner first words (map.get variables.procedures first) state variables fuel

@@ -4,7 +4,7 @@ use Rattle.std.specs.Prelude.{◌≡◌, ◌≢◌, ◌≤◌, ℕ, zero, suc, �
 use Rattle.tks_text.specs.declared.limits.Limits.{Limits}
 use Rattle.tks_parse.specs.Tree.{Script, no_command, join_scripts}
 use Rattle.tks_vars.specs.Variables.{Variables}
-use Rattle.tks_eval.specs.Outcome.{Outcome, End, Stopped, Meaning, Next, after}
+use Rattle.tks_eval.specs.Outcome.{Outcome, End, Stopped, Answer, Unknown, Comes, PassesLimit, Meaning, mapped, Next, after}
 use Rattle.tks_eval.specs.Evaluation.{tested, turn_does, loop_does, done, evaluate}
 use Rattle.tks_eval.specs.declared.loops.Loop.{Loop}
 
@@ -32,6 +32,29 @@ TextIsOfSecondHalf {S = S} host = (limits : Limits) (depth : ℕ) (p q : Script)
     → evaluate host limits depth (join_scripts p q) state variables fuel ≡ after (evaluate host limits depth p state variables fuel) (λ text. evaluate host limits depth q)
 
 -- ---- limits
+
+-- an answer's state has P
+abbrev pub AnswerHas : {S : Type 0} → (S → Type 0) → Answer S → Type 0
+AnswerHas P Unknown = Unit {0}
+AnswerHas P (Comes plan state variables) = P state
+AnswerHas P PassesLimit = Unit {0}
+
+-- in states that have P, a host answers in those that come of another's by f as the other does, unless that passed a
+-- limit; all else is the same, and P stays
+pub record HostStays {S T : Type 0} (P : S → Type 0) (f : S → T) (host : Meaning S) (host' : Meaning T) : Type 0 where
+  pub commands : (state : S) → P state → (variables : Variables) (words : List (List ℕ)) → host.commands state variables words ≢ PassesLimit → host'.commands (f state) variables words ≡ mapped f (host.commands state variables words)
+  pub keeps : (state : S) → P state → (variables : Variables) (words : List (List ℕ)) → AnswerHas P (host.commands state variables words)
+  pub owns : (state : S) → P state → (name : List ℕ) → host'.owns (f state) name ≡ host.owns state name
+  pub alive : (state : S) → P state → (window : ℕ) → host'.alive (f state) window ≡ host.alive state window
+  pub faulted : (state : S) → P state → (text : List ℕ) → host'.faulted (f state) text ≡ f (host.faulted state text)
+  pub faulted_keeps : (state : S) → P state → (text : List ℕ) → P (host.faulted state text)
+
+-- what ends within limits, levels and fuel for one host ends alike within wider ones for another that stays by it
+abbrev pub EndsStayBy : {S T : Type 0} → (S → Type 0) → (S → T) → Meaning S → Meaning T → Limits → Limits → Type 0
+EndsStayBy {S = S} {T = T} P f host host' limits wider = (depth deeper : ℕ) → depth ≤ deeper
+    → (script : Script) (state : S) → P state → (variables : Variables) (fuel more : ℕ) (code : ℕ) (text : List ℕ) (state' : S) (variables' : Variables) (left : ℕ)
+    → evaluate host limits depth script state variables fuel ≡ End code text state' variables' left
+    → P state' × (evaluate host' wider deeper script (f state) variables (fuel + more) ≡ End code text (f state') variables' (left + more))
 
 -- what ends within limits, levels and fuel ends alike within wider ones, and leaves so much more of the fuel
 abbrev pub EndsStay : {S : Type 0} → Meaning S → Limits → Limits → Type 0

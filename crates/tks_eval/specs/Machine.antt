@@ -8,7 +8,7 @@ use Rattle.tks_vars.specs.Variables.{Variables}
 use Rattle.tks_eval.specs.Outcome.{Outcome, End, Meaning, Next, after, after_body, caught, joined, fails, given}
 use Rattle.tks_expr.specs.Tree.{Expr, Literal, Made, One, Two, Both, Either, Choice}
 use Rattle.tks_expr.specs.declared.tree.Link.{Link}
-use Rattle.tks_eval.specs.Evaluation.{element_name, with_value, parts_do, words_in, words_do, commands_do, evaluate, value_does, after_truth, branches_do, catch_ends, each, settled, without_frame, returned}
+use Rattle.tks_eval.specs.Evaluation.{element_name, with_value, parts_do, words_in, words_do, commands_do, evaluate, value_does, after_truth, branches_do, catch_ends, each, settled, without_frame, returned, after_script, scripts_do}
 use Rattle.tks_eval.specs.Values.{after_value}
 use Rattle.tks_eval.specs.Loops.{after_stage}
 use Rattle.tks_eval.specs.Meets.{StopsSo}
@@ -47,6 +47,7 @@ module _ {S : Type 0} (host : Meaning S) (limits : Limits) where
   after_frame left (frame.Turns stage loop) outcome = after_stage limits (evaluate host limits left) stage loop outcome
   after_frame left frame.Procedure outcome = settled limits (without_frame outcome)
   after_frame left frame.Global outcome = returned (without_frame outcome)
+  after_frame left (frame.Scripts window scripts) outcome = after_script host (without_frame outcome) (scripts_do host (evaluate host limits left) window scripts)
 
   -- how many scripts may be opened in one another behind a frame
   abbrev pub left_below : ℕ → Frame → ℕ
@@ -119,6 +120,7 @@ frame_weight (frame.Catch name) = 1
 frame_weight (frame.Each name body elements) = 1
 frame_weight frame.Procedure = 1
 frame_weight frame.Global = 1
+frame_weight (frame.Scripts window scripts) = 1
 
 abbrev pub stack_weight : List Frame → ℕ
 stack_weight [] = 0

@@ -11,12 +11,11 @@ use Rattle.tks_tcl.specs.declared.interrupt.Interrupt.{Interrupt}
 use Rattle.tks_tcl.specs.declared.interrupt.Interrupt.TheVariants as interrupt
 use Rattle.tks_tcl.specs.declared.stop.Stop.{Stop}
 use Rattle.tks_tcl.specs.declared.stop.Stop.TheVariants as stop
-use Rattle.tks_eval.specs.Outcome.{Outcome, End, Stopped, OutOfSteps, TooDeep, TooLarge, Answer, Unknown, Replies, Runs, PassesLimit}
+use Rattle.tks_eval.specs.Outcome.{Outcome, End, Stopped, OutOfSteps, TooDeep, TooLarge, Answer, Unknown, Comes, PassesLimit}
 use Rattle.tks_tcl.specs.Cause.{fits}
 use Rattle.tks_eval.specs.declared.frame.Ending.{Ending}
 use Rattle.tks_eval.specs.declared.ended.Ended.{Ended}
 use Rattle.tks_eval.specs.declared.host.Plan.{Plan}
-use Rattle.tks_eval.specs.declared.host.Plan.TheVariants as plan
 use Rattle.tks_eval.specs.declared.halt.Halt.{Halt}
 use Rattle.tks_eval.specs.declared.halt.Halt.TheVariants as halt
 
@@ -25,8 +24,7 @@ use Rattle.tks_eval.specs.declared.halt.Halt.TheVariants as halt
 -- what a call returned is the host's answer; a host stops at a limit or for want of memory alone
 abbrev pub AnswersSo : {S : Type 0} → Answer S → Result (Option Plan) Stop → S → S → Variables → Variables → Type 0
 AnswersSo answer (Ok None) old new variables variables' = (answer ≡ Unknown) × (new ≡ old) × (variables' ≡ variables)
-AnswersSo answer (Ok (Some (plan.Answer code text))) old new variables variables' = answer ≡ Replies code text new variables'
-AnswersSo answer (Ok (Some (plan.Eval script))) old new variables variables' = answer ≡ Runs script new variables'
+AnswersSo answer (Ok (Some p)) old new variables variables' = answer ≡ Comes p new variables'
 AnswersSo answer (Err stop.TooLarge) old new variables variables' = answer ≡ PassesLimit
 AnswersSo answer (Err stop.NoMemory) old new variables variables' = Unit {0}
 AnswersSo answer (Err why) old new variables variables' = ⊥

@@ -8,6 +8,7 @@ use Rattle.tks_parse.specs.Tree.{Script}
 use Rattle.tks_vars.specs.Variables.{Variables}
 use Rattle.tks_tcl.specs.Cause as tcl
 use Rattle.tks_tcl.specs.Cause.{Fault, OverLimit, fits}
+use Rattle.tks_eval.specs.declared.host.Plan.{Plan}
 
 -- why a run stops; no script sees it
 pub data Why : Type 0 where
@@ -28,13 +29,18 @@ Next S = S → Variables → ℕ → Outcome S
 abbrev pub Level : Type 0 → Type 0
 Level S = Script → Next S
 
--- what a host comes to at a command: it has none of this name, an end, a script that it wants run at global level, or it
--- would pass a limit
+-- what a host comes to at a command: it has none of this name, a plan with the state and the variables that are left,
+-- or it would pass a limit
 pub data Answer (S : Type 0) : Type 0 where
   Unknown : Answer S
-  Replies : (code : ℕ) (text : List ℕ) (state : S) (variables : Variables) → Answer S
-  Runs : (script : List ℕ) (state : S) (variables : Variables) → Answer S
+  Comes : (plan : Plan) (state : S) (variables : Variables) → Answer S
   PassesLimit : Answer S
+
+-- the same answer with other states, one for each
+abbrev pub mapped : {S T : Type 0} → (S → T) → Answer S → Answer T
+mapped f Unknown = Unknown
+mapped f (Comes plan state variables) = Comes plan (f state) variables
+mapped f PassesLimit = PassesLimit
 
 -- what a host does and says in each of its states
 pub record Meaning (S : Type 0) : Type 0 where

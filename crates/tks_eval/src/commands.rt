@@ -9,7 +9,7 @@ ghost use Rattle.tks_eval.specs.declared.frame.Frame.TheVariants as frame;
 use crate::control::Control;
 use crate::frame::{Ending, Frame, Now};
 use crate::halt::{Halt, error_about};
-use crate::host::{Host, Plan};
+use crate::host::Host;
 use crate::machine::Machine;
 use crate::procedures::{enter, run_proc};
 use crate::rest::Rest;
@@ -52,6 +52,7 @@ impl Machine {
         end: Ending,
         limits: &Limits,
     ) -> Result<Now, Halt>
+        ensures same_place { H.place host.new ≡ H.place host.old }
         ensures falls { Falls result (frame_weight (frame.Commands rest fault levels)) self.old self.new }
         ensures goes { GoesSo H.meaning limits.now (resume H.meaning limits.now self.old.left (frame.Commands rest fault levels ∷ self.old.stack) (End end.code end.text (H.state host.old) variables.old self.old.fuel)) result self.new (H.state host.new) variables.new }
     {
@@ -95,6 +96,7 @@ impl Machine {
         words: &[Txt],
         limits: &Limits,
     ) -> Result<Now, Halt>
+        ensures same_place { H.place host.new ≡ H.place host.old }
         ensures falls { Falls result 1 self.old self.new }
         ensures goes { GoesSo H.meaning limits.now (resume H.meaning limits.now self.old.left self.old.stack (call H.meaning limits.now (evaluate H.meaning limits.now self.old.left) words.now (H.state host.old) variables.old self.old.fuel)) result self.new (H.state host.new) variables.new }
     {
@@ -112,8 +114,7 @@ impl Machine {
             return Ok(Now::At(Ending { code, text }));
         }
         match host.call(variables, words)? {
-            Some(Plan::Answer(code, text)) => Ok(Now::At(Ending { code, text })),
-            Some(Plan::Eval(script)) => self.run_global(alloc, host, variables, script, limits),
+            Some(plan) => self.run_plan(alloc, host, variables, plan, limits),
             None => self.run_procedure(alloc, host, variables, command, rest, limits),
         }
     }

@@ -62,6 +62,11 @@ pub enum Frame {
     Procedure,
     /// A script at global level.
     Global,
+    /// One of the scripts of an event in a window, with those behind it.
+    Scripts {
+        window: u64,
+        scripts: Rest<Txt>,
+    },
 }
 
 /// What the machine is at.

@@ -3,7 +3,7 @@ ghost use Rattle.tks_eval.specs.Outcome.{Meaning};
 ghost use Rattle.tks_eval.specs.Meets.{AnswersSo, FaultsSo};
 
 use tks_tcl::Stop;
-use tks_text::Txt;
+use tks_text::{Seq, Txt};
 use tks_vars::Vars;
 
 /// What a command of a host comes to.
@@ -13,6 +13,10 @@ pub enum Plan {
     Answer(u8, Txt),
     /// A script to run at global level: the command ends as this does, `return` counting as code 0.
     Eval(Txt),
+    /// Scripts to run at global level one after the other, each a step, as long as the window of this number is
+    /// there: `break` ends them, an error joins the faults and ends them, `return` and `continue` go on. The command
+    /// ends with code 0 and the empty text.
+    Dispatch(u64, Seq<Txt>),
 }
 
 /// What runs the commands that the language doesn't have: a state, and commands that change it and the
@@ -23,12 +27,19 @@ pub trait Host {
     /// The state now.
     ghost state: { Self → Self.State };
 
+    /// What names a place that is lent to the host, if one is.
+    ghost Place: { Type 0 };
+
+    /// The place in which the state is kept. It stays.
+    ghost place: { Self → Place };
+
     /// What the host does and says in each state.
     ghost meaning: { Meaning Self.State };
 
     /// Runs a command, whose name is the first word. `None` where the host has none of this name; nothing
     /// has changed then. It stops by `TooLarge` and `NoMemory` alone.
     fn call(&mut self, variables: &mut Vars, words: &[Txt]) -> Result<Option<Plan>, Stop>
+        ensures same_place { place self.new ≡ place self.old }
         ensures answers { AnswersSo (meaning.commands (state self.old) variables.old words.now) result (state self.old) (state self.new) variables.old variables.new };
 
     /// Whether no procedure may have this name.
@@ -41,5 +52,6 @@ pub trait Host {
 
     /// Joins an error's text to the faults. It stops by `NoMemory` alone.
     fn fault(&mut self, text: &Txt) -> Result<(), Stop>
+        ensures same_place { place self.new ≡ place self.old }
         ensures faulted { FaultsSo result (state self.new) (meaning.faulted (state self.old) text.now) };
 }

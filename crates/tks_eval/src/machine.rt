@@ -1,14 +1,14 @@
-ghost use Rattle.std.specs.Prelude.{◌≡◌, ◌+◌, ◌*◌, ◌∷◌};
+ghost use Rattle.std.specs.Prelude.{◌≡◌, ◌+◌, ◌*◌, ◌∷◌, []};
 ghost use Rattle.tks_parse.specs.Tree.{script_size};
-ghost use Rattle.tks_eval.specs.Outcome.{End};
-ghost use Rattle.tks_eval.specs.Evaluation.{evaluate};
+ghost use Rattle.tks_eval.specs.Outcome.{End, fails};
+ghost use Rattle.tks_eval.specs.Evaluation.{evaluate, plan_does};
 ghost use Rattle.tks_eval.specs.Meets.{EndsSo, FailsSo, TakesStep};
-ghost use Rattle.tks_eval.specs.Machine.{resume, frame_weight, GoesSo, Falls};
+ghost use Rattle.tks_eval.specs.Machine.{resume, outcome_now, frame_weight, GoesSo, Falls};
 
 use crate::ended::Ended;
 use crate::frame::{Ending, Frame, Now};
 use crate::halt::Halt;
-use crate::host::Host;
+use crate::host::{Host, Plan};
 use crate::rest::Rest;
 use std::alloc::Global;
 use tks_parse::Script;
@@ -26,7 +26,6 @@ pub struct Machine {
 }
 
 /// Runs a script.
-#[tactic(auto, using(crate::proofs::Halts::fails_halts))]
 pub fn eval<H: Host>(
     alloc: Global,
     host: &mut H,
@@ -34,14 +33,85 @@ pub fn eval<H: Host>(
     script: Script,
     limits: &Limits,
 ) -> Result<Ended, Stop>
-    ensures { EndsSo (evaluate H.meaning limits.now limits.now.depth script (H.state host.old) variables.old limits.now.fuel) result (H.state host.new) variables.new }
+    ensures same_place { H.place host.new ≡ H.place host.old }
+    ensures ends { EndsSo (evaluate H.meaning limits.now limits.now.depth script (H.state host.old) variables.old limits.now.fuel) result (H.state host.new) variables.new }
 {
-    let mut machine = Machine {
-        stack: Rest::new(alloc),
-        left: limits.depth,
-        fuel: limits.fuel,
-    };
-    let mut now = Now::Open(script);
+    let machine = Machine::at_rest(alloc, limits);
+    let ended = machine.run(alloc, host, variables, Now::Open(script), limits)?;
+    Ok(ended)
+}
+
+/// Does what a plan says, with all the steps that an input has.
+#[tactic(auto, using(crate::proofs::Halts::fails_halts))]
+pub fn eval_plan<H: Host>(
+    alloc: Global,
+    host: &mut H,
+    variables: &mut Vars,
+    plan: Plan,
+    limits: &Limits,
+) -> Result<Ended, Stop>
+    ensures same_place { H.place host.new ≡ H.place host.old }
+    ensures ends { EndsSo (plan_does H.meaning (evaluate H.meaning limits.now limits.now.depth) plan (H.state host.old) variables.old limits.now.fuel) result (H.state host.new) variables.new }
+{
+    let mut machine = Machine::at_rest(alloc, limits);
+    match machine.run_plan(alloc, host, variables, plan, limits) {
+        Ok(now) => {
+            let ended = machine.run(alloc, host, variables, now, limits)?;
+            Ok(ended)
+        }
+        Err(Halt::Fault(fault)) => {
+            let ended = machine.run_behind(alloc, host, variables, fault, limits)?;
+            Ok(ended)
+        }
+        Err(Halt::Stop(why)) => Err(why),
+    }
+}
+
+impl Machine {
+    // Nothing waits.
+    fn at_rest(alloc: Global, limits: &Limits) -> Machine
+        ensures { result ≡ record { stack = []; left = limits.now.depth; fuel = limits.now.fuel } }
+    {
+        Machine {
+            stack: Rest::new(alloc),
+            left: limits.depth,
+            fuel: limits.fuel,
+        }
+    }
+
+    // Goes on behind an error up to the end of the whole.
+    #[tactic(auto, using(crate::proofs::Halts::fails_halts))]
+    fn run_behind<H: Host>(
+        self,
+        alloc: Global,
+        host: &mut H,
+        variables: &mut Vars,
+        fault: ScriptFault,
+        limits: &Limits,
+    ) -> Result<Ended, Stop>
+        ensures same_place { H.place host.new ≡ H.place host.old }
+        ensures ends { EndsSo (resume H.meaning limits.now self.left self.stack (fails limits.now fault (H.state host.old) variables.old self.fuel)) result (H.state host.new) variables.new }
+    {
+        let end = failed(alloc, &fault, limits)?;
+        let ended = self.run(alloc, host, variables, Now::At(end), limits)?;
+        Ok(ended)
+    }
+
+    // Goes on up to the end of the whole.
+    #[tactic(auto, using(crate::proofs::Halts::fails_halts))]
+    fn run<H: Host>(
+        self,
+        alloc: Global,
+        host: &mut H,
+        variables: &mut Vars,
+        now: Now,
+        limits: &Limits,
+    ) -> Result<Ended, Stop>
+        ensures same_place { H.place host.new ≡ H.place host.old }
+        ensures ends { EndsSo (resume H.meaning limits.now self.left self.stack (outcome_now H.meaning limits.now self.left now (H.state host.old) variables.old self.fuel)) result (H.state host.new) variables.new }
+    {
+    let mut machine = self;
+    let mut now = now;
     'steps: loop {
         let before = machine.fuel;
         'turns: loop {
@@ -71,6 +141,7 @@ pub fn eval<H: Host>(
                 continue 'steps;
             }
         }
+    }
     }
 }
 
@@ -136,6 +207,7 @@ impl Machine {
         end: Ending,
         limits: &Limits,
     ) -> Result<Now, Halt>
+        ensures same_place { H.place host.new ≡ H.place host.old }
         ensures falls { Falls result (frame_weight frame) self.old self.new }
         ensures goes { GoesSo H.meaning limits.now (resume H.meaning limits.now self.old.left (frame ∷ self.old.stack) (End end.code end.text (H.state host.old) variables.old self.old.fuel)) result self.new (H.state host.new) variables.new }
     {
@@ -171,6 +243,9 @@ impl Machine {
             }
             Frame::Procedure => self.after_procedure(host, variables, end, limits),
             Frame::Global => self.after_global(host, variables, end, limits),
+            Frame::Scripts { window, scripts } => {
+                self.after_script(alloc, host, variables, window, scripts, end, limits)
+            }
         }
     }
 }

@@ -176,6 +176,7 @@ impl Machine {
         rest: Rest<Word>,
         limits: &Limits,
     ) -> Result<Now, Halt>
+        ensures same_place { H.place host.new ≡ H.place host.old }
         ensures falls { Falls result (4 * words_size (words_of rest) + 1) self.old self.new }
         ensures goes { GoesSo H.meaning limits.now (resume H.meaning limits.now self.old.left self.old.stack (words_do H.meaning limits.now (evaluate H.meaning limits.now self.old.left) (words_of rest) words (H.state host.old) variables.old self.old.fuel)) result self.new (H.state host.new) variables.new }
     {
@@ -212,6 +213,7 @@ impl Machine {
         end: Ending,
         limits: &Limits,
     ) -> Result<Now, Halt>
+        ensures same_place { H.place host.new ≡ H.place host.old }
         ensures falls { Falls result (frame_weight (frame.Command words expand rest)) self.old self.new }
         ensures goes { GoesSo H.meaning limits.now (resume H.meaning limits.now self.old.left (frame.Command words expand rest ∷ self.old.stack) (End end.code end.text (H.state host.old) variables.old self.old.fuel)) result self.new (H.state host.new) variables.new }
     {

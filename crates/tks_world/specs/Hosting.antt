@@ -6,14 +6,13 @@ use Rattle.tks_vars.specs.Variables.{no_variables}
 use Rattle.tks_state.specs.World.{World}
 use Rattle.tks_state.specs.Windows.{kept_of}
 use Rattle.tks_cmd.specs.Commands.{does}
-use Rattle.tks_eval.specs.Outcome.{Answer, Unknown, Replies, Runs, PassesLimit, Meaning}
+use Rattle.tks_eval.specs.Outcome.{Answer, Unknown, Comes, PassesLimit, Meaning}
 use Rattle.tks_world.specs.declared.host.Setting.{Setting}
 
 -- a command's answer, within the same limits
 abbrev pub within_limits : Limits → Answer World → Answer Setting
 within_limits limits Unknown = Unknown
-within_limits limits (Replies code text world variables) = Replies code text (record { world = world; limits = limits }) variables
-within_limits limits (Runs script world variables) = Runs script (record { world = world; limits = limits }) variables
+within_limits limits (Comes plan world variables) = Comes plan (record { world = world; limits = limits }) variables
 within_limits limits PassesLimit = PassesLimit
 
 abbrev pub hosting : Meaning Setting

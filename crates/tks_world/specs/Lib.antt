@@ -1,3 +1,4 @@
 pub mod Hosting
 pub mod Step
 pub mod Meets
+pub mod Laws

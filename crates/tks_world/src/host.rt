@@ -30,6 +30,12 @@ impl Host for WorldHost {
 
     ghost state = { λ h. h.setting };
 
+    ghost use Rattle.std.specs.Prelude.{Unit};
+
+    ghost Place = { Unit {0} };
+
+    ghost place = { λ _. tt };
+
     ghost meaning = { hosting };
 
     #[tactic(auto, using(crate::proofs::Answers::answers_within))]

@@ -41,8 +41,8 @@ returns-in_err-code-clause-goes g c =
     c.in_err-code.field-0.0 c.in_err-code.ensures in
     rw (whole, step) search rules
 
-pub returns-in_err-code-2-clause-goes : goal.returns-in_err-code-2-clause-goes
-returns-in_err-code-2-clause-goes g c =
+pub returns-in_err-plan-clause-goes : goal.returns-in_err-plan-clause-goes
+returns-in_err-plan-clause-goes g c =
     let first = c.in-Some.command.now in
     let behind = c.in-Some.rest.now in
     let whole : c.args.words.now ≡ first ∷ behind = search rules in
@@ -52,9 +52,18 @@ returns-in_err-code-2-clause-goes g c =
     let state = g.H.Host.state c.args.host.now in
     let unknown : (plain limits c.args.words.now c.args.variables.now ≡ None) × (c.plain.new.variables ≡ c.args.variables.now) = search rules in
     let same = unknown.1 in
-    let why = c.in_err-code-2.field-0.0 in
-    let answers = subst (λ v. AnswersSo (host.commands state v c.args.words.now) (Err why) state (g.H.Host.state c.call.new.self) v c.call.new.variables) same c.in_err-code-2.ensures.answers in
+    let why = c.in_err-plan.field-0.0 in
+    let answers = subst (λ v. AnswersSo (host.commands state v c.args.words.now) (Err why) state (g.H.Host.state c.call.new.self) v c.call.new.variables) same c.in_err-plan.ensures.answers in
     let halts = host_halts host limits c.take_step.new.self state c.args.variables.now
     (evaluate host limits c.args.self.now.left) first behind (host.commands state c.args.variables.now c.args.words.now) state (g.H.Host.state c.call.new.self) c.args.variables.now c.call.new.variables
     why answers in
+    rw (whole, step) search rules
+
+pub returns-in-Some-3-clause-goes : goal.returns-in-Some-3-clause-goes
+returns-in-Some-3-clause-goes g c =
+    let first = c.in-Some.command.now in
+    let behind = c.in-Some.rest.now in
+    let whole : c.args.words.now ≡ first ∷ behind = search rules in
+    let step : c.args.self.now.fuel ≡ suc c.take_step.new.self.fuel = c.in_ok-take_step.ensures.step in
+    let goes = rw c.take_step.ensures.kept at c.run_plan.ensures.goes in
     rw (whole, step) search rules

@@ -1,0 +1,5 @@
+use Rattle.tks_world.proofs.Wider.{steps_stay}
+use Rattle.tks_world.proofs.laws.wider_limits_keep_steps.Goals as goal
+
+pub returns : goal.returns
+returns c = λ limits wider wide. steps_stay limits wider wide
