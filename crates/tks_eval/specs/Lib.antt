@@ -8,4 +8,3 @@ pub mod Loops
 pub mod Laws
 pub mod Meets
 pub mod Machine
-pub mod Counter

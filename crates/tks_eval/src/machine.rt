@@ -174,6 +174,3 @@ impl Machine {
         }
     }
 }
-
-#[cfg(test)]
-mod tests;

@@ -139,6 +139,3 @@ pub fn result_of(alloc: Global, text: &Txt) -> Result<Txt, Failure>
         Err(_) => Err(fault_of(ErrorNumber::OutOfRange)),
     }
 }
-
-#[cfg(test)]
-mod tests;

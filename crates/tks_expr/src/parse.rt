@@ -11,9 +11,6 @@ ghost use Rattle.tks_expr.specs.Seen.{step_of};
 ghost use Rattle.tks_expr.specs.Sign.{join_at};
 ghost use Rattle.tks_expr.specs.View.{expr_of as node_expr, linked};
 
-#[cfg(test)]
-mod tests;
-
 use crate::literal::literal_len;
 use crate::operator::Unary;
 use crate::sign::{Join, join_at, unary_of};

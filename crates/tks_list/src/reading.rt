@@ -154,6 +154,3 @@ pub fn split(alloc: Global, text: &Txt) -> Result<Seq<Txt>, ListFault>
 {
     read_list(alloc, text)
 }
-
-#[cfg(test)]
-mod tests;

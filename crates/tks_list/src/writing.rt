@@ -191,6 +191,3 @@ pub fn join(alloc: Global, list: &[Txt]) -> Result<Txt, AllocError>
     }
     Ok(text)
 }
-
-#[cfg(test)]
-mod tests;

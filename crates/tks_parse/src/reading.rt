@@ -8,9 +8,6 @@ ghost use Rattle.tks_parse.specs.Gives.{GivesStep, GivesRun, taken_piece, run_of
 ghost use Rattle.tks_parse.specs.Reading.{escape_step, braced_name_step, nested_step, index_step, variable_step, part_step, parts_at, quoted_at, plain_word, prefixed_word, word_step, words_at, command_step, commands_at, nest, index, script_of};
 ghost use Rattle.tks_parse.specs.Script.{Spells};
 
-#[cfg(test)]
-mod tests;
-
 use crate::braces::{comment_len, read_braced};
 use crate::builder::{Builder, Piece};
 use crate::class::{braced_name_len, is_fold, is_separator, name_len};

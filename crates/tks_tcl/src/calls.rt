@@ -81,6 +81,3 @@ pub fn plain(
         Err(Interrupt::NoMemory) => Err(Stop::NoMemory),
     }
 }
-
-#[cfg(test)]
-mod tests;

@@ -120,6 +120,3 @@ pub fn escape(text: &[u8]) -> Option<(u8, usize)>
         [letter, ..] => in_text(u64::from(character(*letter)), 1),
     }
 }
-
-#[cfg(test)]
-mod tests;

@@ -33,25 +33,3 @@ impl Class {
         }
     }
 }
-
-#[cfg(test)]
-mod tests {
-    use super::*;
-
-    #[test]
-    fn classes_have_their_names(rt: HostRuntime) {
-        let table = [
-            (Class::Root, b"Tk".as_slice()),
-            (Class::Frame, b"Frame"),
-            (Class::Label, b"Label"),
-            (Class::Button, b"Button"),
-            (Class::Checkbutton, b"Checkbutton"),
-            (Class::Entry, b"Entry"),
-            (Class::Listbox, b"Listbox"),
-            (Class::Text, b"Text"),
-        ];
-        for (class, name) in table {
-            assert_eq!(rt; class.name(), name);
-        }
-    }
-}

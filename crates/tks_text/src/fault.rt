@@ -154,6 +154,3 @@ impl<T: Drop> From<AllocFailed<T>> for Failure {
         Failure::NoMemory
     }
 }
-
-#[cfg(test)]
-mod tests;

@@ -155,6 +155,3 @@ pub fn decimal_of(alloc: Global, integer: i64) -> Result<Txt, AllocError>
     let mut digits = Buffer::new();
     Txt::from_text(alloc, digits.format(integer).as_bytes())
 }
-
-#[cfg(test)]
-mod tests;

@@ -32,18 +32,3 @@ impl Limits {
         }
     }
 }
-
-#[cfg(test)]
-mod tests {
-    use super::*;
-
-    #[test]
-    fn format1_has_its_limits(rt: HostRuntime) {
-        let limits = Limits::format1();
-        assert_eq!(rt; limits.fuel, 10_000);
-        assert_eq!(rt; limits.depth, 32);
-        assert_eq!(rt; limits.text, 65_536);
-        assert_eq!(rt; limits.items, 4_096);
-        assert_eq!(rt; limits.pending, 64);
-    }
-}

@@ -74,23 +74,3 @@ impl<T: Drop> Seq<T> {
         self.items[index] = item;
     }
 }
-
-#[cfg(test)]
-mod tests {
-    use super::*;
-    use std::test::Fail;
-
-    #[test]
-    fn keeps_items_in_order(rt: HostRuntime) -> Result<(), Fail> {
-        let mut list = Seq::new(rt.alloc());
-        assert!(rt; list.is_empty());
-        for item in [7_u32, 8, 9] {
-            list.push(item)?;
-        }
-        assert_eq!(rt; list.len(), 3);
-        list.set(1, 5);
-        assert_eq!(rt; list.as_slice(), [7, 5, 9].as_slice());
-        assert!(rt; !list.is_empty());
-        Ok(())
-    }
-}

@@ -55,29 +55,3 @@ impl Size {
         self.height
     }
 }
-
-#[cfg(test)]
-mod tests {
-    use super::*;
-
-    #[test]
-    fn grids_have_one_to_200_by_100_cells(rt: HostRuntime) {
-        let table = [
-            (20, 3, true),
-            (1, 1, true),
-            (200, 100, true),
-            (0, 1, false),
-            (1, 0, false),
-            (201, 100, false),
-            (200, 101, false),
-        ];
-        for (width, height, fits) in table {
-            let size = Size::new(width, height);
-            assert_eq!(rt; size.is_some(), fits, "{width} by {height}");
-            if let Some(size) = size {
-                assert_eq!(rt; size.width(), width);
-                assert_eq!(rt; size.height(), height);
-            }
-        }
-    }
-}

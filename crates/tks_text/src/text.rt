@@ -219,6 +219,3 @@ impl Hash for Txt {
         self.as_bytes().hash(state);
     }
 }
-
-#[cfg(test)]
-mod tests;

@@ -26,27 +26,3 @@ pub fn truth_of_word(text: &[u8]) -> Option<bool>
         None
     }
 }
-
-#[cfg(test)]
-mod tests {
-    use super::*;
-
-    #[test]
-    fn six_words_are_truth_values(rt: HostRuntime) {
-        let table = [
-            ("true", Some(true)),
-            ("yes", Some(true)),
-            ("on", Some(true)),
-            ("false", Some(false)),
-            ("no", Some(false)),
-            ("off", Some(false)),
-            ("True", None),
-            ("tru", None),
-            ("1", None),
-            ("", None),
-        ];
-        for (text, want) in table {
-            assert_eq!(rt; truth_of_word(text.as_bytes()), want);
-        }
-    }
-}

@@ -399,6 +399,3 @@ fn clone_frames(
     }
     Ok(copy)
 }
-
-#[cfg(test)]
-mod tests;

@@ -1,0 +1,152 @@
+//! Scripts on a second host, also under narrow limits.
+
+use crate::commands::push_text;
+use crate::counter::Counter;
+use std::alloc::Global;
+use tks_eval::{Ended, Host, eval};
+use tks_parse::parse;
+use tks_tcl::Stop;
+use tks_text::{Limits, Txt};
+use tks_vars::Vars;
+
+// How a script ends on a host from nothing. A script that can't be held is one that stops for want of memory.
+fn ended(alloc: Global, host: &mut Counter, script: &Txt, limits: &Limits) -> Result<Ended, Stop> {
+    let script = parse(alloc, script)?;
+    eval(alloc, host, &mut Vars::new(alloc), script, limits)
+}
+
+// What a script comes to: its code and its text, or why it stops.
+fn end(alloc: Global, script: &str, limits: &Limits) -> Option<String> {
+    let script = Txt::from_bytes(alloc, script.as_bytes()).ok()?;
+    match ended(alloc, &mut Counter { alloc, count: 0 }, &script, limits) {
+        Ok(
+            Ended {
+                code,
+                text,
+                fuel: _,
+            },
+        ) => {
+            let mut shown = format!(in alloc; "{code} ").ok()?;
+            push_text(&mut shown, &text)?;
+            Some(shown)
+        }
+        Err(stop) => format!(in alloc; "{stop}").ok(),
+    }
+}
+
+// Whether the script of a row comes to what stands behind its arrow.
+fn ends_so(alloc: Global, row: &str, limits: &Limits) -> Option<bool> {
+    let (script, want) = row.split_once(" => ")?;
+    Some(end(alloc, script, limits)?.as_str() == want)
+}
+
+// What tclsh makes of scripts at global level (tools/rows/global_level.tcl).
+fn rows_of_tcl() -> &'static str {
+    "set n 5; proc f {} {set n 1; top {set n}}; f => 0 5\n\
+set n 5; proc f {} {set n 1; top {set n 2}; set n}; list [f] $n => 0 1 2\n\
+proc f {} {set n 1; top {info exists n}}; f => 0 0\n\
+proc f {} {top {global x; set x 3}; info exists x}; list [f] $x => 0 0 3\n\
+proc f {} {top {set a(k) 7}; global a; set a(k)}; f => 0 7\n\
+set n 9; proc g {} {set n 1; top {set n}}; proc f {n} {top g}; f 4 => 0 9\n\
+proc f {} {set n 1; top {proc g {} {global n; incr n}}; list [g] [g] $n}; set n 6; f => 0 7 8 1\n\
+set n 5; proc f {n} {top {top {incr n}}; set n}; list [f 1] $n => 0 1 6\n\
+proc f {n} {foreach x {1 2 3} {if {$x == 2} {top break}}; list $x $n}; f 4 => 0 2 4\n\
+proc f {} {foreach x {1 2 3} {top continue; lappend r $x}; info exists r}; f => 0 0\n\
+proc f {n} {list [catch {top {set n 8; error e}} m] $m $n}; list [f 1] $n => 0 {1 e 1} 8\n\
+top {set a 1}; set a => 0 1\n\
+top {} => 0 "
+}
+
+// What this project's rules make of commands of the host.
+fn own_rows() -> &'static str {
+    "up; up; zero => 0 \n\
+top {return v} => 0 v\n\
+proc f {} {top {return v}; list after}; f => 0 after\n\
+proc f {n} {set x [top {set n 2; return $n}]; list $x $n}; f 1 => 0 2 1\n\
+catch {top {return v}} => 0 0\n\
+top break => 3 \n\
+top {set q} => 1 E11 q\n\
+proc up {} {} => 1 E17 up\n\
+proc top {} {} => 1 E17 top\n\
+proc nest {n} {set s up; while {$n > 0} {set s [list top $s]; incr n -1}; set s}; eval [nest 30] => 0 \n\
+proc nest {n} {set s up; while {$n > 0} {set s [list top $s]; incr n -1}; set s}; eval [nest 31] => scripts too deep in one another\n\
+proc f {} {top f}; catch f => scripts too deep in one another\n\
+foreach x {1 2} {return $x} => 2 1\n\
+for {} 1 {continue} {} => 4 "
+}
+
+#[test]
+fn scripts_on_a_second_host(rt: HostRuntime) {
+    let limits = Limits::format1();
+    for row in rows_of_tcl().lines() {
+        assert_eq!(rt; ends_so(rt.alloc(), row, &limits), Some(true), "at {row}");
+    }
+    for row in own_rows().lines() {
+        assert_eq!(rt; ends_so(rt.alloc(), row, &limits), Some(true), "at {row}");
+    }
+}
+
+// Scripts under 3 steps, 3 scripts open, texts of 12 bytes and lists of 2 members.
+fn rows_of_limits() -> &'static str {
+    "up; up; up => 0 \n\
+up; up; up; up => out of steps\n\
+catch {up; up} => 0 0\n\
+catch {up; up; up} => out of steps\n\
+foreach x {1} {up} => 0 \n\
+foreach x {1} {up; up} => out of steps\n\
+list [list [list a]] => 0 a\n\
+list [list [list [list a]]] => scripts too deep in one another\n\
+list 12345678901[list 2] => 0 123456789012\n\
+list 12345678901[list 23] => too large\n\
+eval list 1234567 => 0 1234567\n\
+eval list 12345678 => too large\n\
+set a 1; set b 2; set c 3 => too large\n\
+proc f {} {}; proc g {} {}; proc h {} {} => too large\n\
+proc f {a b c} {}; f 1 2 3 => too large\n\
+top {up; up} => 0 \n\
+top {up; up; up} => out of steps\n\
+top {top {}} => 0 \n\
+top {top {top {}}} => scripts too deep in one another\n\
+catch {top {top {}}} => scripts too deep in one another\n\
+if 1 {up} => 0 \n\
+if 1 {up; up} => out of steps\n\
+if 0 {} elseif 1 {} => 0 \n\
+if 0 {} elseif 1 {up} => out of steps\n\
+up; if + {} => 1 E20\n\
+up; up; if + {} => out of steps\n\
+for {up} 0 {} {} => 0 \n\
+for {up; up} 0 {} {} => out of steps\n\
+expr 1234 + 12345 => 0 13579\n\
+expr 12345 + 12345 => too large"
+}
+
+#[test]
+fn limits_stop_scripts(rt: HostRuntime) {
+    let limits = Limits {
+        fuel: 3,
+        depth: 3,
+        text: 12,
+        items: 2,
+        pending: 64,
+    };
+    for row in rows_of_limits().lines() {
+        assert_eq!(rt; ends_so(rt.alloc(), row, &limits), Some(true), "at {row}");
+    }
+}
+
+// Whether a host keeps what its commands did, and the steps are counted.
+fn counts(alloc: Global) -> Option<bool> {
+    let mut host = Counter { alloc, count: 0 };
+    let script = Txt::from_bytes(alloc, b"up; foreach x {a b} {up}").ok()?;
+    let fuel = ended(alloc, &mut host, &script, &Limits::format1())
+        .ok()?
+        .fuel;
+    let told = host.fault(&script).is_ok() && !host.alive(1);
+    let owned = host.owns(&Txt::from_bytes(alloc, b"up").ok()?);
+    Some(fuel == 9_994 && host.count == 3 && told && owned)
+}
+
+#[test]
+fn steps_and_states_are_counted(rt: HostRuntime) {
+    assert_eq!(rt; counts(rt.alloc()), Some(true));
+}
