@@ -12,7 +12,7 @@ ask {expr 1 + 2 * 3} {expr {(1 + 2) * 3}} {set a 7; expr {$a % 3 - -$a}} {expr {
     {expr {3 eq true}} {expr {1 || 0 && 2 | 3}} {expr {1 ? 2 : 3 ? 4 : 5}} {expr {0 ? 2 : 0 ? 4 : 5}} \
     {expr {1 ? 2 ? 3 : 4 : 5}} {expr {1 || 0 ? 2 + 3 : 4}} {expr {0x1F+017}} {set {a b} 3; expr {${a b}}} \
     {expr {$a < [set n] + "$n$a" * {2}}} "expr {  7\t\n}" {expr "1 +" 2} {expr {"$x"}} {expr {{$x}}} {expr {[set x]}} \
-    {expr {yes ? 3 : 4}} {expr {off ? 3 : 4}}
+    {expr {yes ? 3 : 4}} {expr {off ? 3 : 4}} {expr {([])}}
 
 session "expressions: what Tcl's manual groups otherwise than tclsh"
 row {expr {1 <= 2 >= 3 != 4 ne 5 >> 6}} ok 1

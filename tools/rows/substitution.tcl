@@ -45,6 +45,7 @@ row {set e \U1} ok U1
 row {set e \x414} ok A4
 row {set e \x9g} ok \tg
 row "set e \"a\\\n \t x\"" ok {a x}
+row "set e \"a\\\n\nx\"" ok "a \nx"
 foreach escape {a b f r v 0 177 377 x7f xff u80 u1041 u1234} {
     row "set e \\$escape" error E06
 }

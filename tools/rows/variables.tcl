@@ -14,6 +14,7 @@ foreach {script answer} {
     {set i 9223372036854775807} {ok 9223372036854775807}  {incr i} {error E14}  {set i} {ok 9223372036854775807}
     {incr i -1} {ok 9223372036854775806}  {set i -9223372036854775809} {ok -9223372036854775809}  {incr i y} {error E14}
     {set p 1; unset p q} {error {E11 q}}  {set p} {ok 1}  {unset p p} {error {E11 p}}  {set p} {ok 1}
+    {incr nothing 08} {error {E13 08}}  {info exists nothing} {ok 0}
     {set nothing; set after 1} {error {E11 nothing}}  {info exists after} {ok 0}
 } {
     row $script {*}$answer

@@ -5,14 +5,20 @@ use crate::counter::Counter;
 use std::alloc::Global;
 use tks_eval::{Ended, Host, eval};
 use tks_parse::parse;
+use tks_tcl::Stop;
 use tks_text::{Limits, Txt};
 use tks_vars::Vars;
 
-// What a script comes to from nothing: its code and its text, or why it stops.
+// How a script ends on a host from nothing. A script that can't be held is one that stops for want of memory.
+fn ended(alloc: Global, host: &mut Counter, script: &Txt, limits: &Limits) -> Result<Ended, Stop> {
+    let script = parse(alloc, script)?;
+    eval(alloc, host, &mut Vars::new(alloc), script, limits)
+}
+
+// What a script comes to: its code and its text, or why it stops.
 fn end(alloc: Global, script: &str, limits: &Limits) -> Option<String> {
-    let script = parse(alloc, &Txt::from_bytes(alloc, script.as_bytes()).ok()?).ok()?;
-    let mut host = Counter { alloc, count: 0 };
-    match eval(alloc, &mut host, &mut Vars::new(alloc), script, limits) {
+    let script = Txt::from_bytes(alloc, script.as_bytes()).ok()?;
+    match ended(alloc, &mut Counter { alloc, count: 0 }, &script, limits) {
         Ok(
             Ended {
                 code,
@@ -131,21 +137,13 @@ fn limits_stop_scripts(rt: HostRuntime) {
 // Whether a host keeps what its commands did, and the steps are counted.
 fn counts(alloc: Global) -> Option<bool> {
     let mut host = Counter { alloc, count: 0 };
-    let script = parse(
-        alloc,
-        &Txt::from_text(alloc, b"up; foreach x {a b} {up}").ok()?,
-    )
-    .ok()?;
-    let ended = eval(
-        alloc,
-        &mut host,
-        &mut Vars::new(alloc),
-        script,
-        &Limits::format1(),
-    );
-    host.fault(&Txt::from_text(alloc, b"E18").ok()?).ok()?;
-    let owned = host.owns(&Txt::from_text(alloc, b"up").ok()?);
-    Some(ended.ok()?.fuel == 9_994 && host.count == 3 && owned && !host.alive(1))
+    let script = Txt::from_bytes(alloc, b"up; foreach x {a b} {up}").ok()?;
+    let fuel = ended(alloc, &mut host, &script, &Limits::format1())
+        .ok()?
+        .fuel;
+    let told = host.fault(&script).is_ok() && !host.alive(1);
+    let owned = host.owns(&Txt::from_bytes(alloc, b"up").ok()?);
+    Some(fuel == 9_994 && host.count == 3 && told && owned)
 }
 
 #[test]

@@ -4,16 +4,13 @@ use std::alloc::Global;
 use tks_list::backslash_form;
 use tks_text::{Txt, TxtFault, is_text, is_text_byte};
 
-// A text that grew by each of its calls.
+// A text that grew by its calls.
 fn grown(alloc: Global) -> Option<Txt> {
-    let mut text = Txt::new(alloc);
-    text.push(b'a').ok()?;
-    text.push_byte(b'\n').ok()?;
-    text.append(&Txt::from_text(alloc, b"bc").ok()?).ok()?;
-    text.append_front(&Txt::from_text(alloc, b"defg").ok()?, 2)
-        .ok()?;
-    text.append_front(&Txt::from_text(alloc, b"h").ok()?, 2)
-        .ok()?;
+    let mut text = Txt::from_bytes(alloc, b"a\n").ok()?;
+    text.append(&Txt::from_bytes(alloc, b"bc").ok()?).ok()?;
+    let more = Txt::from_bytes(alloc, b"defg").ok()?;
+    text.append_front(&more, 2).ok()?;
+    text.append_front(&more, 5).ok()?;
     Some(text)
 }
 
@@ -25,8 +22,8 @@ fn grows_and_compares(alloc: Global) -> Option<bool> {
     copy.push_byte(b' ').ok()?;
     Some(
         same && copy != text
-            && text.as_bytes() == b"a\nbcdeh".as_slice()
-            && text.len() == 7
+            && text.as_bytes() == b"a\nbcdedefg".as_slice()
+            && text.len() == 10
             && !text.is_empty(),
     )
 }
@@ -51,7 +48,7 @@ fn is_refused(alloc: Global, byte: u8) -> bool {
 // Whether a byte that stands in no text is named by its place, and leaves the text as it was.
 fn names_bad_bytes(alloc: Global) -> Option<bool> {
     let refused = Txt::from_bytes(alloc, b"ab\x07c\x7f");
-    let mut text = Txt::from_text(alloc, b"ab").ok()?;
+    let mut text = Txt::from_bytes(alloc, b"ab").ok()?;
     let pushed = text.push(0x7f);
     Some(
         matches!(&refused, Err(TxtFault::Byte(2)))

@@ -3,37 +3,38 @@
 use std::alloc::{AllocError, AllocFailed, Global};
 use tks_text::{Class, ErrorNumber, Failure, Limits, ScriptFault, Seq, Size, Txt};
 
-// Whether a fault about a subject, or about none, has this text.
-fn has_text(
-    alloc: Global,
-    number: ErrorNumber,
-    subject: Option<&[u8]>,
-    want: &[u8],
-) -> Option<bool> {
-    let subject = match subject {
-        Some(bytes) => Some(Txt::from_bytes(alloc, bytes).ok()?),
-        None => None,
-    };
-    Some(ScriptFault { number, subject }.text(alloc).ok()?.as_bytes() == want)
+// Whether a fault has this text.
+fn has_text(alloc: Global, fault: &ScriptFault, want: &[u8]) -> Option<bool> {
+    Some(fault.text(alloc).ok()?.as_bytes() == want)
+}
+
+// Whether an error about a subject has this text.
+fn tells(alloc: Global, number: ErrorNumber, subject: &[u8], want: &[u8]) -> Option<bool> {
+    let subject = Txt::from_bytes(alloc, subject).ok()?;
+    has_text(alloc, &ScriptFault::about(number, &subject).ok()?, want)
 }
 
 #[test]
 fn faults_have_numbers_and_texts(rt: HostRuntime) {
-    let alloc = rt.alloc();
-    assert_eq!(rt; ErrorNumber::MissingCloseBrace.number(), 1);
-    assert_eq!(rt; ErrorNumber::NoSuchVariable.number(), 11);
-    assert_eq!(rt; ErrorNumber::BadPath.number(), 30);
-    assert_eq!(rt; ErrorNumber::NoSuchAfterId.number(), 45);
+    for (number, want) in [
+        (ErrorNumber::MissingCloseBrace, 1),
+        (ErrorNumber::NoSuchVariable, 11),
+        (ErrorNumber::BadPath, 30),
+        (ErrorNumber::NoSuchAfterId, 45),
+    ] {
+        assert!(rt; number.number() == want, "number {want}");
+    }
+    let fault = ScriptFault {
+        number: ErrorNumber::TextAfterCloseQuote,
+        subject: None,
+    };
+    assert_eq!(rt; has_text(rt.alloc(), &fault, b"E04"), Some(true));
     assert_eq!(rt;
-        has_text(alloc, ErrorNumber::TextAfterCloseQuote, None, b"E04"),
+        tells(rt.alloc(), ErrorNumber::NoSuchVariable, b"x y", b"E11 x y"),
         Some(true)
     );
     assert_eq!(rt;
-        has_text(alloc, ErrorNumber::NoSuchVariable, Some(b"x y"), b"E11 x y"),
-        Some(true)
-    );
-    assert_eq!(rt;
-        has_text(alloc, ErrorNumber::NoSuchAfterId, Some(b""), b"E45 "),
+        tells(rt.alloc(), ErrorNumber::NoSuchAfterId, b"", b"E45 "),
         Some(true)
     );
     assert!(rt; matches!(&Failure::from(AllocError), Failure::NoMemory));
@@ -65,14 +66,18 @@ fn grids_have_one_to_200_by_100_cells(rt: HostRuntime) {
 
 #[test]
 fn classes_have_their_names(rt: HostRuntime) {
-    assert_eq!(rt; Class::Root.name(), b"Tk".as_slice());
-    assert_eq!(rt; Class::Frame.name(), b"Frame".as_slice());
-    assert_eq!(rt; Class::Label.name(), b"Label".as_slice());
-    assert_eq!(rt; Class::Button.name(), b"Button".as_slice());
-    assert_eq!(rt; Class::Checkbutton.name(), b"Checkbutton".as_slice());
-    assert_eq!(rt; Class::Entry.name(), b"Entry".as_slice());
-    assert_eq!(rt; Class::Listbox.name(), b"Listbox".as_slice());
-    assert_eq!(rt; Class::Text.name(), b"Text".as_slice());
+    for (class, name) in [
+        (Class::Root, b"Tk".as_slice()),
+        (Class::Frame, b"Frame"),
+        (Class::Label, b"Label"),
+        (Class::Button, b"Button"),
+        (Class::Checkbutton, b"Checkbutton"),
+        (Class::Entry, b"Entry"),
+        (Class::Listbox, b"Listbox"),
+        (Class::Text, b"Text"),
+    ] {
+        assert!(rt; class.name() == name, "{name:?}");
+    }
 }
 
 #[test]

@@ -121,6 +121,3 @@ impl Button {
         })
     }
 }
-
-#[cfg(test)]
-mod tests;

@@ -169,6 +169,3 @@ impl Checkbutton {
         })
     }
 }
-
-#[cfg(test)]
-mod tests;

@@ -112,6 +112,3 @@ impl Label {
         })
     }
 }
-
-#[cfg(test)]
-mod tests;

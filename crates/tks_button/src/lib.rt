@@ -10,8 +10,6 @@ mod frame;
 mod label;
 mod laws;
 mod mark;
-#[cfg(test)]
-mod testing;
 
 pub use button::Button;
 pub use checkbutton::Checkbutton;

@@ -78,6 +78,3 @@ pub fn command(
         Err(Interrupt::NoMemory) => Err(Stop::NoMemory),
     }
 }
-
-#[cfg(test)]
-mod tests;

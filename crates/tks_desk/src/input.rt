@@ -133,6 +133,3 @@ fn front_of_line(bytes: &[u8], most: u64) -> (usize, bool)
     }
     (bytes.len(), false)
 }
-
-#[cfg(test)]
-mod tests;

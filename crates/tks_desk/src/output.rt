@@ -66,6 +66,3 @@ fn put_escaped_byte<W: Write>(writer: &mut W, byte: u8) -> Result<(), RunFault>
         _ => put(writer, &[byte]),
     }
 }
-
-#[cfg(test)]
-mod tests;

@@ -248,6 +248,3 @@ fn behind(alloc: Global, text: &Txt, place: usize) -> Result<Txt, AllocError>
     let rest = Txt::from_text(alloc, rest)?;
     Ok(rest)
 }
-
-#[cfg(test)]
-mod tests;

@@ -28,6 +28,3 @@ pub fn boolean_of(text: &Txt) -> Option<bool>
         _ => None,
     }
 }
-
-#[cfg(test)]
-mod tests;

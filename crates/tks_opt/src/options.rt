@@ -196,6 +196,3 @@ impl Options {
         })
     }
 }
-
-#[cfg(test)]
-mod tests;

@@ -258,6 +258,3 @@ impl Packing {
         Ok(areas)
     }
 }
-
-#[cfg(test)]
-mod tests;

@@ -41,6 +41,3 @@ pub fn window_at(world: &World, column: u16, row: u16) -> Result<Option<WindowId
         None => Ok(None),
     }
 }
-
-#[cfg(test)]
-mod tests;

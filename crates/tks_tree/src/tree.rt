@@ -376,6 +376,3 @@ fn remove_within(windows: &mut IndexMap<Txt, Entry>, place: usize)
         );
     }
 }
-
-#[cfg(test)]
-mod tests;

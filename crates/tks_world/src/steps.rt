@@ -95,6 +95,3 @@ fn outside_loop(alloc: Global, fuel: u64, limits: &Limits) -> Result<Ended, Stop
         fuel,
     })
 }
-
-#[cfg(test)]
-mod tests;

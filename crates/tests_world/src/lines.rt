@@ -1,0 +1,200 @@
+//! Runs over readers and writers that a row has not: such as break, are narrow, or hold long lines.
+
+use crate::worlds::first_world;
+use std::alloc::Global;
+use std::io;
+use std::io::{BufRead, ErrorKind, Read, Write};
+use tks_desk::{Plain, RunEnd, RunFault, run};
+
+// Shows its text three bytes at a time, interrupts every other try, and fails in place of the end.
+#[derive(Drop)]
+struct Broken<'a> {
+    rest: &'a [u8],
+    interrupts: bool,
+}
+
+impl Read for Broken<'_> {
+    fn read(&mut self, _buf: &mut [u8]) -> io::Result<usize> {
+        Err(io::Error::from(ErrorKind::Unsupported))
+    }
+}
+
+impl BufRead for Broken<'_> {
+    fn fill_buf(&mut self) -> io::Result<&[u8]> {
+        self.interrupts = !self.interrupts;
+        if self.interrupts {
+            return Err(io::Error::from(ErrorKind::Interrupted));
+        }
+        if self.rest.is_empty() {
+            return Err(io::Error::from(ErrorKind::BrokenPipe));
+        }
+        let shown = self.rest.len().min(3);
+        Ok(&self.rest[..shown])
+    }
+
+    fn consume(&mut self, amount: usize) {
+        let taken = self.rest.len().min(amount);
+        self.rest = &self.rest[taken..];
+    }
+}
+
+// Takes two bytes a write, interrupts every other one, fails once it holds `most`, and, where told so, at a flush.
+#[derive(Drop)]
+struct Narrow {
+    held: Vec<u8>,
+    most: usize,
+    interrupts: bool,
+    flushes: bool,
+}
+
+impl Write for Narrow {
+    fn write(&mut self, buf: &[u8]) -> io::Result<usize> {
+        self.interrupts = !self.interrupts;
+        if self.interrupts {
+            return Err(io::Error::from(ErrorKind::Interrupted));
+        }
+        let room = self.most.saturating_sub(self.held.len());
+        if room == 0 {
+            return Err(io::Error::from(ErrorKind::StorageFull));
+        }
+        let taken = buf.len().min(room).min(2);
+        self.held.extend_from_slice(&buf[..taken])?;
+        Ok(taken)
+    }
+
+    fn flush(&mut self) -> io::Result<()> {
+        if self.flushes {
+            Ok(())
+        } else {
+            Err(io::Error::from(ErrorKind::StorageFull))
+        }
+    }
+}
+
+// How a run ended.
+fn told(end: &Result<RunEnd, RunFault>) -> &'static str {
+    match end {
+        Ok(RunEnd::Quit) => "quit",
+        Ok(RunEnd::EndOfInput) => "end",
+        Err(RunFault::Read) => "read fault",
+        Err(RunFault::Write) => "write fault",
+        Err(RunFault::Memory) => "memory fault",
+    }
+}
+
+// What a session of a grid of 20 by 3 writes for an input, and then how the run ends.
+fn talk<R: BufRead>(alloc: Global, reader: &mut R) -> Option<String> {
+    let mut session = Plain::new(alloc, first_world(alloc, 20, 3)?);
+    let mut written = Vec::new(alloc);
+    let end = run(alloc, reader, &mut written, &mut session);
+    written.extend_from_slice(told(&end).as_bytes()).ok()?;
+    String::from_utf8(written).ok()
+}
+
+// Whether an input is answered so.
+fn answers(alloc: Global, mut input: &[u8], want: &str) -> bool {
+    talk(alloc, &mut input).is_some_and(|talked| talked.as_str() == want)
+}
+
+#[test]
+fn runs_end_so(rt: HostRuntime) {
+    let rows: [(&[u8], &str); 9] = [
+        (b"", "end"),
+        (b"cmd", "ok 1\nend"),
+        (b"quit\ncmd set x 5\n", "bye\nquit"),
+        (b"cmd set x 5\nquit", "ok 1 5\nbye\nquit"),
+        (b"cmd set x \x80\ncmd\n", "bad line\nok 1\nend"),
+        (b"cmd set x \x7f", "bad line\nend"),
+        (b"load 7\nset a 2", "ok 1 2\nend"),
+        (b"load 7\nset a \x80\ncmd\n", "bad line\nok 1\nend"),
+        (b"load 8\nset a 2\nquit\n", "ok 1 2\nbye\nquit"),
+    ];
+    for (input, want) in rows {
+        assert!(rt; answers(rt.alloc(), input, want), "before {want}");
+    }
+}
+
+// Not a byte behind `quit` is taken.
+#[test]
+fn the_rest_stays(rt: HostRuntime) {
+    let mut reader: &[u8] = b"cmd\nquit\ncmd\n";
+    let talked = talk(rt.alloc(), &mut reader);
+    assert!(rt; talked.is_some_and(|talked| talked.as_str() == "ok 1\nbye\nquit"));
+    assert_eq!(rt; reader, b"cmd\n".as_slice());
+}
+
+// The line that has `front` before as many of one text as are wanted, and then the line `cmd set x`.
+fn repeated(alloc: Global, front: &str, text: &str, count: usize) -> Option<Vec<u8>> {
+    let mut line = Vec::from_slice(alloc, front.as_bytes()).ok()?;
+    for _ in 0..count {
+        line.extend_from_slice(text.as_bytes()).ok()?;
+    }
+    line.extend_from_slice(b"\ncmd set x\n").ok()?;
+    Some(line)
+}
+
+// Long lines: the steps of an input, the bytes of a script, of a line, of a load.
+const LONG: [(&str, &str, usize, &str); 10] = [
+    ("cmd set x 5\ncmd ", "set x;", 10_000, "ok 1 5\nok 2 5\nok 3 5\nend"),
+    ("cmd set x 5\ncmd ", "set x;", 10_001, "ok 1 5\nrefused budget\nok 2 5\nend"),
+    ("cmd set x 5", " ", 65_529, "ok 1 5\nok 2 5\nend"),
+    ("cmd set x 5", " ", 65_530, "refused bad\nerror 1 E11 x\nend"),
+    ("cmd set x 5", " ", 65_589, "refused bad\nerror 1 E11 x\nend"),
+    ("cmd set x 5", " ", 65_590, "bad line\nerror 1 E11 x\nend"),
+    ("cmd set x 5", " ", 200_000, "bad line\nerror 1 E11 x\nend"),
+    ("load 65536\nset x 5", " ", 65_529, "ok 1 5\nok 2 5\nend"),
+    ("load 65537\nset x 5", " ", 65_530, "refused bad\nerror 1 E11 x\nend"),
+    ("load 1048576\nset x 5", " ", 1_048_569, "refused bad\nerror 1 E11 x\nend"),
+];
+
+#[test]
+fn long_lines(rt: HostRuntime) {
+    for (front, text, count, want) in LONG {
+        let input = repeated(rt.alloc(), front, text, count);
+        assert!(rt; input.is_some_and(|input| answers(rt.alloc(), &input, want)), "at {count}");
+    }
+}
+
+#[test]
+fn a_reader_that_breaks(rt: HostRuntime) {
+    let rows: [(&[u8], &str); 3] = [
+        (b"cmd set x 5\ncmd set", "ok 1 5\nread fault"),
+        (b"load 7\nset a 2\nload 7\nset", "ok 1 2\nread fault"),
+        (b"cmd set x 5\n", "ok 1 5\nread fault"),
+    ];
+    for (rest, want) in rows {
+        let mut reader = Broken {
+            rest,
+            interrupts: false,
+        };
+        let talked = talk(rt.alloc(), &mut reader);
+        assert!(rt; talked.is_some_and(|talked| talked.as_str() == want), "before {want}");
+    }
+}
+
+#[test]
+fn a_writer_that_breaks(rt: HostRuntime) {
+    let rows: [(usize, bool, &[u8]); 5] = [
+        (0, true, b""),
+        (9, true, b"ok 1 5\nok"),
+        (13, true, b"ok 1 5\nok 2 6"),
+        (15, true, b"ok 1 5\nok 2 6\no"),
+        (100, false, b"ok 1 5\n"),
+    ];
+    for (most, flushes, want) in rows {
+        let Some(world) = first_world(rt.alloc(), 20, 3) else {
+            return assert!(rt; false, "no world");
+        };
+        let mut reader: &[u8] = b"cmd set x 5\ncmd set x 6\ncmd set x 7\n";
+        let mut writer = Narrow {
+            held: Vec::new(rt.alloc()),
+            most,
+            interrupts: false,
+            flushes,
+        };
+        let mut session = Plain::new(rt.alloc(), world);
+        let end = run(rt.alloc(), &mut reader, &mut writer, &mut session);
+        assert_eq!(rt; told(&end), "write fault");
+        assert_eq!(rt; writer.held.as_slice(), want);
+    }
+}

@@ -1,0 +1,84 @@
+//! Where windows lie, and which one lies at a cell.
+
+use crate::worlds::world_of;
+use std::alloc::Global;
+use tks_screen::window_at;
+use tks_state::World;
+use tks_tree::WindowId;
+
+// The path of a window.
+fn path_of(alloc: Global, world: &World, window: WindowId) -> Option<String> {
+    let mut path = String::new(alloc);
+    for byte in world.tree().window(window)?.path.as_bytes() {
+        path.push(*byte as char).ok()?;
+    }
+    Some(path)
+}
+
+// The windows that are shown, other than `.`, with their places.
+fn places(alloc: Global, world: &World) -> Option<String> {
+    let mut places = String::new(alloc);
+    for placed in &world.shown_windows().ok()? {
+        if !placed.window.is_root() {
+            if !places.is_empty() {
+                places.push(',').ok()?;
+            }
+            let path = path_of(alloc, world, placed.window)?;
+            let area = placed.area;
+            let place = format!(in alloc; "{path} {} {} {} {}", area.x, area.y, area.width, area.height);
+            places.push_str(place.ok()?.as_str()).ok()?;
+        }
+    }
+    Some(places)
+}
+
+// Where windows lie on a grid of 20 by 10: by tools/rows/places.tcl with wish 8.6.13.
+fn rows() -> &'static str {
+    "frame .f -width 5 -height 2;frame .f.a -width 9 -height 1;pack .f.a -side left;pack .f => .f 5 0 9 1,.f.a 5 0 9 1\n\
+frame .f -width 5 -height 2;frame .f.a -width 9 -height 1;pack .f.a;pack .f;pack propagate .f 0 => .f 7 0 5 2,.f.a 7 0 5 1\n\
+frame .f;frame .f.a -width 3 -height 1;frame .f.b -width 4 -height 2;pack .f.a -side left;pack .f.b -side right;pack .f -side bottom -anchor e => .f 13 8 7 2,.f.a 13 8 3 1,.f.b 16 8 4 2\n\
+frame .f;frame .f.g;frame .f.g.h -width 7 -height 3;pack .f.g.h -padx 1;pack .f.g -pady 1;pack .f -expand 1 -fill both => .f 0 0 20 10,.f.g 5 1 9 3,.f.g.h 6 1 7 3\n\
+frame .f;frame .f.a -width 3 -height 3;pack .f.a;frame .g -width 2 -height 2;pack .g -side right -anchor s => .g 18 8 2 2\n\
+frame .a -width 4 -height 12;frame .b -width 6 -height 6;pack .a;pack .b => .a 8 0 4 10\n\
+frame .f;frame .f.a -width 30 -height 4;frame .f.b -width 5 -height 5;pack .f.a -side left;pack .f.b -side left;pack .f => .f 0 0 20 5,.f.a 0 0 20 4\n\
+frame .f;frame .f.a -width 3 -height 3;frame .f.b -width 2 -height 2;pack .f.a;pack .f.b;pack .f;pack forget .f.a => .f 9 0 2 2,.f.b 9 0 2 2\n\
+frame .f;frame .f.a -width 3 -height 3;frame .f.b -width 2 -height 2;pack .f.a;pack .f.b;pack .f -anchor w;destroy .f.b => .f 0 0 3 3,.f.a 0 0 3 3\n\
+frame .f;frame .f.a -width 3 -height 3;pack .f.a;pack .f;pack forget .f => \n\
+frame .b -width 2 -height 2;frame .a -width 3 -height 1;frame .b.c -width 1 -height 1;pack .a;pack .b;pack .b.c -side right => .b 9 1 1 1,.b.c 9 1 1 1,.a 8 0 3 1\n\
+frame .f;frame .f.a -width 3 -height 2;frame .f.a.x -width 8 -height 1;pack .f.a -side bottom;pack .f.a.x -fill y -ipadx 2;pack .f -side left -fill y => .f 0 0 12 10,.f.a 0 9 12 1,.f.a.x 0 9 12 1"
+}
+
+#[test]
+fn windows_lie_where_they_lie_in_wish(rt: HostRuntime) {
+    for row in rows().lines() {
+        let (script, want) = row.split_once(" => ").unwrap_or((row, "no answer"));
+        let told = world_of(rt.alloc(), 20, 10, script)
+            .and_then(|world| places(rt.alloc(), &world));
+        assert!(rt; told.is_some_and(|told| told.as_str() == want), "at {script}");
+    }
+}
+
+// The last character of the path of the window in each cell, row by row.
+fn seen(alloc: Global, world: &World) -> Option<String> {
+    let mut seen = String::new(alloc);
+    for row in 0..3 {
+        for column in 0..20 {
+            let window = window_at(world, column, row).ok()??;
+            let path = path_of(alloc, world, window)?;
+            seen.push(path.chars().next_back()?).ok()?;
+        }
+    }
+    Some(seen)
+}
+
+#[test]
+fn each_cell_shows_its_window(rt: HostRuntime) {
+    let script = "frame .f;label .f.a -text abc;pack .f.a -side left;pack .f -anchor w";
+    let Some(world) = world_of(rt.alloc(), 20, 3, script) else {
+        return assert!(rt; false, "no world");
+    };
+    let want = "aaa.........................................................";
+    let told = seen(rt.alloc(), &world);
+    assert!(rt; told.is_some_and(|told| told.as_str() == want));
+    assert!(rt; matches!(window_at(&world, 20, 0), Ok(None)));
+}

@@ -1,0 +1,115 @@
+//! The order of the focus, and the numbers of windows.
+
+use std::alloc::Global;
+use tks_text::{Class, Txt};
+use tks_tree::{Tree, WindowId};
+
+// The tree of frames of these paths, with spaces between them.
+fn planted(alloc: Global, paths: &str) -> Option<Tree> {
+    let mut tree = Tree::new(alloc).ok()?;
+    for path in paths.split(' ') {
+        let path = Txt::from_bytes(alloc, path.as_bytes()).ok()?;
+        tree.create(&path, Class::Frame).ok()?;
+    }
+    Some(tree)
+}
+
+// The next window in the order of the focus, where it has this path and this one is the one before it.
+fn next(tree: &Tree, from: WindowId, path: &str) -> Option<WindowId> {
+    let next = tree.next_in_focus_order(from, |_| true).ok()?;
+    let back = tree.previous_in_focus_order(next, |_| true).ok()?;
+    let is_path = tree.window(next)?.path.as_bytes() == path.as_bytes();
+    if is_path && back.number() == from.number() {
+        Some(next)
+    } else {
+        None
+    }
+}
+
+// Whether the order of the focus, from `.` on, is this; and where no window takes it, it stays.
+fn has_order(alloc: Global, made: &str, order: &str) -> Option<bool> {
+    let tree = planted(alloc, made)?;
+    let mut window = WindowId::root();
+    for path in order.split(' ') {
+        window = next(&tree, window, path)?;
+    }
+    let stays = tree.next_in_focus_order(window, |_| false).ok()?;
+    Some(stays.number() == window.number())
+}
+
+// Windows in the order in which they are made, and that of the focus: by tools/rows/focus.tcl with wish 8.6.13.
+const ORDERS: [(&str, &str); 4] = [
+    (
+        ".a .b .b.c .a.d .b.c.e .b.f .b.c.g .b.c.h .a.d.i .j .a.k .b.c.g.l",
+        ".a .a.d .a.d.i .a.k .b .b.c .b.c.e .b.c.g .b.c.g.l .b.c.h .b.f .j",
+    ),
+    (
+        ".a .b .c .a.d .e .f .c.g .b.h .a.d.i .c.g.j .a.d.k .a.d.i.l",
+        ".a .a.d .a.d.i .a.d.i.l .a.d.k .b .b.h .c .c.g .c.g.j .e .f",
+    ),
+    (
+        ".a .a.b .c .a.d .c.e .a.f .g .h .c.i .h.j .a.f.k .l",
+        ".a .a.b .a.d .a.f .a.f.k .c .c.e .c.i .g .h .h.j .l",
+    ),
+    (
+        ".a .a.b .a.b.c .a.b.c.d .a.b.c.d.e .a.b.c.d.f .g .a.h .a.b.c.d.e.i .j .k .a.b.l",
+        ".a .a.b .a.b.c .a.b.c.d .a.b.c.d.e .a.b.c.d.e.i .a.b.c.d.f .a.b.l .a.h .g .j .k",
+    ),
+];
+
+#[test]
+fn the_focus_goes_as_in_wish(rt: HostRuntime) {
+    for (made, order) in ORDERS {
+        assert_eq!(rt; has_order(rt.alloc(), made, order), Some(true), "at {made}");
+    }
+}
+
+// The number of a window that is made anew where one was, on a tree whose copy keeps two children of `.`.
+fn second_number(alloc: Global) -> Option<u64> {
+    let mut tree = planted(alloc, ".a .b")?;
+    let copy = tree.try_clone().ok()?;
+    let path = Txt::from_bytes(alloc, b".b").ok()?;
+    let window = tree.resolve(&path).ok()?;
+    tree.destroy(window).ok()?;
+    let window = tree.create(&path, Class::Label).ok()?;
+    if copy.children(WindowId::root()).ok()?.len() == 2 && copy.len() == 3 && tree.len() == 3 {
+        Some(window.number())
+    } else {
+        None
+    }
+}
+
+#[test]
+fn numbers_are_given_out_once(rt: HostRuntime) {
+    assert_eq!(rt; second_number(rt.alloc()), Some(3));
+}
+
+// The paths that are left where the window of a number is destroyed, or of all where none is.
+fn left(alloc: Global, number: u64) -> Option<String> {
+    let mut tree = planted(alloc, ".a .ab .a.b .a.b.c .ab.d")?;
+    let is_refused = tree.destroy(WindowId::of(number)).is_err();
+    let mut paths = String::new(alloc);
+    paths.push(if is_refused { '!' } else { ' ' }).ok()?;
+    for place in 0..tree.len() {
+        for byte in tree.nth(place)?.path.as_bytes() {
+            paths.push(*byte as char).ok()?;
+        }
+        paths.push(' ').ok()?;
+    }
+    Some(paths)
+}
+
+#[test]
+fn windows_go_with_those_in_them(rt: HostRuntime) {
+    let table = [
+        (1, " . .ab .ab.d "),
+        (2, " . .a .a.b .a.b.c "),
+        (3, " . .a .ab .ab.d "),
+        (0, "!. .a .ab .a.b .a.b.c .ab.d "),
+        (6, " . .a .ab .a.b .a.b.c .ab.d "),
+    ];
+    for (number, want) in table {
+        let left = left(rt.alloc(), number);
+        assert!(rt; left.is_some_and(|left| left.as_str() == want), "at {number}");
+    }
+}

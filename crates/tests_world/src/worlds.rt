@@ -1,0 +1,167 @@
+//! Steps under small limits, copies, and the parts of a world.
+
+use std::alloc::Global;
+use tks_cmd::command;
+use tks_eval::Plan;
+use tks_text::{Limits, Size, Txt};
+use tks_vars::Vars;
+use tks_world::{Input, Reply, World, step};
+
+/// The world before any input, on a grid of so many cells.
+pub fn first_world(alloc: Global, width: u16, height: u16) -> Option<World> {
+    World::first(alloc, Size::new(width, height)?).ok()
+}
+
+/// The world behind a script that is accepted with code 0.
+pub fn world_of(alloc: Global, width: u16, height: u16, script: &str) -> Option<World> {
+    let mut world = first_world(alloc, width, height)?;
+    let input = Input::Script(Txt::from_bytes(alloc, script.as_bytes()).ok()?);
+    let reply = step(alloc, &mut world, &input, &Limits::format1()).ok()?;
+    if reply.code == 0 { Some(world) } else { None }
+}
+
+// A reply's number, code and text.
+fn shown(alloc: Global, reply: &Reply) -> Option<String> {
+    let mut shown = format!(in alloc; "{} {} ", reply.number, reply.code).ok()?;
+    for byte in reply.text.as_bytes() {
+        shown.push(*byte as char).ok()?;
+    }
+    Some(shown)
+}
+
+// What a script does to a world: its reply, or why it is refused.
+fn answer(alloc: Global, world: &mut World, limits: &Limits, script: &str) -> Option<String> {
+    let input = Input::Script(Txt::from_bytes(alloc, script.as_bytes()).ok()?);
+    match step(alloc, world, &input, limits) {
+        Ok(reply) => shown(alloc, &reply),
+        Err(why) => format!(in alloc; "{why}").ok(),
+    }
+}
+
+// The first row whose script isn't answered as it says, of rows for one world.
+fn differing<'a>(
+    alloc: Global,
+    world: &mut World,
+    limits: &Limits,
+    rows: &[(&'a str, &str)],
+) -> &'a str {
+    for (script, want) in rows {
+        match answer(alloc, world, limits, script) {
+            Some(told) if told.as_str() == *want => {}
+            _ => return script,
+        }
+    }
+    "none"
+}
+
+#[test]
+fn limits_are_kept(rt: HostRuntime) {
+    let alloc = rt.alloc();
+    let limits = Limits::format1();
+    let Some(mut world) = first_world(alloc, 20, 3) else {
+        return assert!(rt; false, "no world");
+    };
+    let rows = [
+        ("set x 12345", "1 0 12345"),
+        ("$x$x", "2 1 E09 1234512345"),
+    ];
+    assert_eq!(rt; differing(alloc, &mut world, &limits, &rows), "none");
+    let closed = Limits { depth: 0, ..limits };
+    let rows = [("set x", "scripts too deep in one another")];
+    assert_eq!(rt; differing(alloc, &mut world, &closed, &rows), "none");
+    let one_item = Limits { items: 1, ..limits };
+    let rows = [("set y 1", "too large"), ("set x 12346", "3 0 12346")];
+    assert_eq!(rt; differing(alloc, &mut world, &one_item, &rows), "none");
+    let short = Limits { text: 8, ..limits };
+    let rows = [
+        ("$x$x", "too large"),
+        ("set x 123", "bad input"),
+        ("set x 12", "4 0 12"),
+    ];
+    assert_eq!(rt; differing(alloc, &mut world, &short, &rows), "none");
+}
+
+// What words with spaces between them come to, in the form of a row.
+fn command_answer(alloc: Global, world: &mut World, limits: &Limits, row: &str) -> Option<String> {
+    let mut words = Vec::new(alloc);
+    for word in row.split(' ') {
+        let text = Txt::from_bytes(alloc, word.as_bytes()).ok()?;
+        words.push(text).ok()?;
+    }
+    let mut variables = Vars::new(alloc);
+    match command(alloc, world, &mut variables, words.as_slice(), limits) {
+        Ok(Some(Plan::Answer(code, text))) => {
+            let reply = Reply {
+                number: 0,
+                code,
+                text,
+            };
+            shown(alloc, &reply)
+        }
+        Ok(_) => None,
+        Err(why) => format!(in alloc; "{why:?}").ok(),
+    }
+}
+
+// Limits of three windows and of seven bytes: an error stands before a limit, and its text is under one too.
+const ROWS: [(&str, &str); 12] = [
+    ("frame .a", "0 0 .a"),
+    ("label .b", "0 0 .b"),
+    ("frame .c", "TooLarge"),
+    ("frame .a", "0 1 E31 .a"),
+    ("frame .c -f 1", "0 1 E34 -f"),
+    ("destroy .a", "0 0 "),
+    ("frame .cdefgh", "0 0 .cdefgh"),
+    ("pack .b .cdefgh", "0 0 "),
+    ("pack slaves .", "TooLarge"),
+    ("frame .cdefgh", "TooLarge"),
+    ("destroy .b", "0 0 "),
+    ("frame .cdefghi", "TooLarge"),
+];
+
+#[test]
+fn limits_of_windows_are_kept(rt: HostRuntime) {
+    let alloc = rt.alloc();
+    let limits = Limits {
+        items: 3,
+        text: 7,
+        ..Limits::format1()
+    };
+    let Some(mut world) = first_world(alloc, 20, 3) else {
+        return assert!(rt; false, "no world");
+    };
+    for (row, want) in ROWS {
+        let told = command_answer(alloc, &mut world, &limits, row);
+        assert!(rt; told.is_some_and(|told| told.as_str() == want), "at {row}");
+    }
+}
+
+#[test]
+fn a_copy_goes_its_own_way(rt: HostRuntime) {
+    let alloc = rt.alloc();
+    let limits = Limits::format1();
+    let Some(mut world) = world_of(alloc, 20, 3, "set x 5") else {
+        return assert!(rt; false, "no world");
+    };
+    let Ok(mut copy) = world.try_clone() else {
+        return assert!(rt; false, "no copy");
+    };
+    let rows = [("set x 6", "2 0 6")];
+    assert_eq!(rt; differing(alloc, &mut world, &limits, &rows), "none");
+    let rows = [("set x", "2 0 5")];
+    assert_eq!(rt; differing(alloc, &mut copy, &limits, &rows), "none");
+    assert_eq!(rt; copy.grid().width(), 20);
+    assert_eq!(rt; copy.grid().height(), 3);
+}
+
+#[test]
+fn a_world_counts_and_keeps_variables(rt: HostRuntime) {
+    let Some(mut world) = first_world(rt.alloc(), 20, 3) else {
+        return assert!(rt; false, "no world");
+    };
+    assert_eq!(rt; world.accepted(), 0);
+    world.count_input();
+    assert_eq!(rt; world.accepted(), 1);
+    let before = world.replace_variables(Vars::new(rt.alloc()));
+    assert_eq!(rt; before.depth(), world.variables().depth());
+}
