@@ -1,6 +1,6 @@
 -- The host of the tests: a count, with a command that adds one to it, one that sets it to 0, and one that does so and
--- wants its word run at global level.
-use Rattle.std.specs.Prelude.{ℕ, Bool, false, ◌+◌, ◌==◌, ◌||◌, if◌then◌else◌, codes, List, [], ◌∷◌}
+-- wants its word run at global level. A window is there while the count is below its number; a fault makes it 1000.
+use Rattle.std.specs.Prelude.{ℕ, Bool, not, nat_le, ◌+◌, ◌==◌, ◌||◌, if◌then◌else◌, codes, List, [], ◌∷◌}
 use Rattle.tks_text.specs.Text.{same_text}
 use Rattle.tks_vars.specs.Variables.{Variables}
 use Rattle.tks_eval.specs.Outcome.{Answer, Unknown, Comes, PassesLimit, Meaning}
@@ -26,4 +26,4 @@ abbrev pub is_counting : List ℕ → Bool
 is_counting name = same_text name (codes "up") || same_text name (codes "zero") || same_text name (codes "top")
 
 abbrev pub counting : Meaning ℕ
-counting = record { commands = counts; owns = λ n name. is_counting name; alive = λ n window. false; faulted = λ n text. n }
+counting = record { commands = counts; owns = λ n name. is_counting name; alive = λ n window. not (nat_le window n); faulted = λ n text. 1000 }

@@ -9,7 +9,7 @@ use tks_text::Txt;
 use tks_vars::Vars;
 
 /// A host with a count: `up` adds one to it, `zero` sets it to 0, and `top` does so and wants its word run at global
-/// level.
+/// level. A window is there while the count is below its number; a fault makes it 1000.
 #[derive(Drop)]
 pub struct Counter {
     pub alloc: Global,
@@ -67,11 +67,12 @@ impl Host for Counter {
             || name.as_bytes() == b"top".as_slice()
     }
 
-    fn alive(&self, _window: u64) -> bool {
-        false
+    fn alive(&self, window: u64) -> bool {
+        u64::from(self.count) < window
     }
 
     fn fault(&mut self, _text: &Txt) -> Result<(), Stop> {
+        self.count = 1000;
         Ok(())
     }
 }

@@ -3,10 +3,10 @@
 use crate::commands::push_text;
 use crate::counter::Counter;
 use std::alloc::Global;
-use tks_eval::{Ended, Host, eval};
+use tks_eval::{Ended, Host, Plan, eval, eval_plan};
 use tks_parse::parse;
 use tks_tcl::Stop;
-use tks_text::{Limits, Txt};
+use tks_text::{Limits, Seq, Txt};
 use tks_vars::Vars;
 
 // How a script ends on a host from nothing. A script that can't be held is one that stops for want of memory.
@@ -141,12 +141,51 @@ fn counts(alloc: Global) -> Option<bool> {
     let fuel = ended(alloc, &mut host, &script, &Limits::format1())
         .ok()?
         .fuel;
-    let told = host.fault(&script).is_ok() && !host.alive(1);
+    let is_there = host.alive(4) && !host.alive(3);
     let owned = host.owns(&Txt::from_bytes(alloc, b"up").ok()?);
-    Some(fuel == 9_994 && host.count == 3 && told && owned)
+    Some(fuel == 9_994 && host.count == 3 && is_there && owned)
 }
 
 #[test]
 fn steps_and_states_are_counted(rt: HostRuntime) {
     assert_eq!(rt; counts(rt.alloc()), Some(true));
+}
+
+// The count and the steps left behind the scripts of an event, ` | ` between them, for the window of a number.
+fn dispatched(alloc: Global, window: u64, scripts: &str) -> Option<(u32, u64)> {
+    let mut chosen = Seq::new(alloc);
+    for script in scripts.split(" | ") {
+        chosen
+            .push(Txt::from_bytes(alloc, script.as_bytes()).ok()?)
+            .ok()?;
+    }
+    let mut host = Counter { alloc, count: 0 };
+    let plan = Plan::Dispatch(window, chosen);
+    let limits = Limits::format1();
+    let ended = eval_plan(alloc, &mut host, &mut Vars::new(alloc), plan, &limits).ok()?;
+    if ended.code == 0 && ended.text.is_empty() {
+        Some((host.count, ended.fuel))
+    } else {
+        None
+    }
+}
+
+// Worked out by hand from the rule: each script is a step, `break` and a window that is gone end them, an error joins
+// the faults and ends them, `continue` and `return` go on.
+const EVENTS: [(u64, &str, u32, u64); 8] = [
+    (9, "up | up", 2, 9_996),
+    (9, "up; up | up", 3, 9_995),
+    (2, "up | up | up", 2, 9_996),
+    (0, "up", 0, 10_000),
+    (9, "up | break | up", 1, 9_996),
+    (9, "up | continue | up", 2, 9_994),
+    (9, "up | return | up", 2, 9_994),
+    (9, "up | error e | up", 1000, 9_996),
+];
+
+#[test]
+fn scripts_of_an_event(rt: HostRuntime) {
+    for (window, scripts, count, left) in EVENTS {
+        assert_eq!(rt; dispatched(rt.alloc(), window, scripts), Some((count, left)), "at {scripts}");
+    }
 }

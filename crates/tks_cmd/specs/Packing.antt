@@ -1,12 +1,11 @@
 -- The forms of `pack` (pack(n); which errors there are, and their order, are this project's own).
-use Rattle.std.specs.Prelude.{ℕ, Bool, false, not, ◌&&◌, ◌==◌, is_some, if◌then◌else◌, codes, List, [], ◌∷◌, ◌++◌, take, drop, Option, Some, None, Result, Ok, Err}
+use Rattle.std.specs.Prelude.{ℕ, ℤ, pos, negsuc, Bool, true, false, not, ◌&&◌, ◌==◌, is_some, if◌then◌else◌, codes, List, [], ◌∷◌, ◌++◌, take, drop, Option, Some, None, Result, Ok, Err}
 use Rattle.std.specs.List.{prefix_len}
 use Rattle.tks_text.specs.Text.{same_text}
-use Rattle.tks_text.specs.declared.fault.ErrorNumber.TheVariants.{NotAnInteger}
 use Rattle.tks_tcl.specs.Cause.{Cause, Fault, about, after, value_or_fault, wrong_words}
-use Rattle.tks_tcl.specs.Words.{truth_text}
+use Rattle.tks_tcl.specs.Words.{truth_text, integer_in}
 use Rattle.tks_list.specs.Quoting.{joined}
-use Rattle.tks_opt.specs.Values.{boolean}
+use Rattle.tks_text.specs.Truth.{truth_of_word}
 use Rattle.tks_pack.specs.Settings.{default_settings, with_options}
 use Rattle.tks_pack.specs.Packing.{Packed, nothing_packed}
 use Rattle.tks_pack.specs.declared.packing.Content.{Content}
@@ -108,15 +107,20 @@ slaves_does command words w = wrong_words command
 
 -- ---- pack propagate window ?boolean?
 
--- a truth value, or the error about the text
+-- an integer is true where it isn't 0
+abbrev pub is_true : ℤ → Bool
+is_true (pos n) = not (n == 0)
+is_true (negsuc n) = true
+
+-- a truth value: one of the words, or an integer, or the error of reading one
 abbrev pub truth_read : List ℕ → Option Bool → Result Bool Cause
-truth_read text None = Err (Fault (about NotAnInteger text))
+truth_read text None = after (integer_in text) (λ z. Ok (is_true z))
 truth_read text (Some b) = Ok b
 
 abbrev pub propagate_does : List ℕ → List (List ℕ) → World → Result Changed Cause
 propagate_does command (path ∷ []) w = after (window_of w path) (λ n. Ok (truth_text (packing_of w n).propagates, w))
 propagate_does command (path ∷ value ∷ []) w =
-    after (window_of w path) (λ n. after (truth_read value (boolean value)) (λ b. silent (with_propagation w n b)))
+    after (window_of w path) (λ n. after (truth_read value (truth_of_word value)) (λ b. silent (with_propagation w n b)))
 propagate_does command words w = wrong_words command
 
 -- ---- pack

@@ -2,7 +2,7 @@
 ghost use Rattle.std.specs.Prelude.{◌≡◌, ◌≤◌, ◌++◌, ◌∷◌, length, IfOk, OnOk};
 ghost use Rattle.tks_tcl.specs.Words.{truth_text};
 ghost use Rattle.tks_tcl.specs.Meets.{GivesSo};
-ghost use Rattle.tks_opt.specs.Values.{boolean};
+ghost use Rattle.tks_text.specs.Truth.{truth_of_word};
 ghost use Rattle.tks_tree.specs.Path.{begins_dot};
 ghost use Rattle.tks_cmd.specs.Packing.{window_of, windows_of, stands_in_one, or_on_root, content_of, contents_of, packed_each, begins_dash, window_count, options_read, packed_all, configure_does, unpacked_all, forget_does, packing_of, path_of, paths_of, slaves_text, slaves_does, truth_read, propagate_does, form_does, pack_does};
 ghost use Rattle.tks_cmd.specs.Meets.{KeepsSo};
@@ -10,11 +10,10 @@ ghost use Rattle.tks_cmd.specs.Meets.{KeepsSo};
 use crate::windows::{are_paired, not_on_root};
 use std::alloc::{AllocError, Global};
 use tks_list::join;
-use tks_opt::boolean_of;
 use tks_pack::{Content, Settings, with_options};
 use tks_state::World;
-use tks_tcl::{Interrupt, error_about, wrong_words};
-use tks_text::{ErrorNumber, Seq, Txt};
+use tks_tcl::{Interrupt, integer_in, wrong_words};
+use tks_text::{Seq, Txt, truth_of_word};
 use tks_tree::{Tree, WindowId};
 
 // The window of a path, which must be there.
@@ -221,14 +220,13 @@ fn propagates(world: &World, window: WindowId) -> bool
     }
 }
 
-// A truth value.
-#[tactic(auto, using(tks_tcl::proofs::Causes::tells))]
+// A truth value: one of the words, or an integer.
 fn truth_of(text: &Txt) -> Result<bool, Interrupt>
-    ensures { GivesSo (λ b. b) result (truth_read text.now (boolean text.now)) }
+    ensures { GivesSo (λ b. b) result (truth_read text.now (truth_of_word text.now)) }
 {
-    match boolean_of(text) {
+    match truth_of_word(text.as_bytes()) {
         Some(truth) => Ok(truth),
-        None => Err(error_about(ErrorNumber::NotAnInteger, text)),
+        None => Ok(integer_in(text)? != 0),
     }
 }
 

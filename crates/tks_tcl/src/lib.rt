@@ -20,4 +20,4 @@ pub use laws::wider_limits_keep_answers;
 pub use lists::{concatenated, joined_by};
 pub use stop::Stop;
 pub use variables::store;
-pub use words::list_in;
+pub use words::{integer_in, list_in};
