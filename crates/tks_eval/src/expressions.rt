@@ -1,11 +1,12 @@
-ghost use Rattle.std.specs.Prelude.{◌≡◌, ◌≤◌, ◌∷◌};
+ghost use Rattle.std.specs.Prelude.{◌≡◌, ◌≤◌, ◌∷◌, ◌+◌};
 ghost use Rattle.tks_text.specs.Fault.{Gives};
 ghost use Rattle.tks_expr.specs.Reading.{expr_of};
 ghost use Rattle.tks_eval.specs.Outcome.{End};
 ghost use Rattle.tks_eval.specs.Meets.{ReadsSo};
 ghost use Rattle.tks_eval.specs.Evaluation.{evaluate, value_does, expr_does};
-ghost use Rattle.tks_eval.specs.Values.{signs_applied, truth_shown, links_do};
+ghost use Rattle.tks_eval.specs.Values.{signs_applied, truth_shown, join_on, links_do};
 ghost use Rattle.tks_eval.specs.Machine.{resume, value_weight, links_weight, value_frame_weight, GoesSo, Falls};
+ghost use Rattle.tks_expr.specs.declared.sign.Join.TheVariants as joins;
 ghost use Rattle.tks_eval.specs.declared.frame.Frame.TheVariants as frames;
 ghost use Rattle.tks_eval.specs.declared.expressions.ValueFrame.TheVariants as waits;
 
@@ -185,7 +186,6 @@ impl Machine {
     }
 
     // Goes on with the links of a chain, behind an operand that came to this text.
-    #[tactic(auto, using(crate::proofs::Halts::truth_halts))]
     fn next_link<H: Host>(
         &mut self,
         alloc: Global,
@@ -209,28 +209,60 @@ impl Machine {
                     .push(Frame::Value(ValueFrame::Right(operator, text, links)))?;
                 Ok(Now::Value(right))
             }
-            Join::And => {
-                if truth_of(&text)? {
-                    self.stack.push(Frame::Value(ValueFrame::Truth(links)))?;
-                    return Ok(Now::Value(right));
-                }
-                self.stack.push(Frame::Value(ValueFrame::Links(links)))?;
-                Ok(Now::At(Ending {
-                    code: 0,
-                    text: Txt::from_text(alloc, b"0")?,
-                }))
-            }
-            Join::Or => {
-                if truth_of(&text)? {
-                    self.stack.push(Frame::Value(ValueFrame::Links(links)))?;
-                    return Ok(Now::At(Ending {
-                        code: 0,
-                        text: Txt::from_text(alloc, b"1")?,
-                    }));
-                }
-                self.stack.push(Frame::Value(ValueFrame::Truth(links)))?;
-                Ok(Now::Value(right))
-            }
+            Join::And => self.after_left_of_and(alloc, host, variables, right, links, text, limits),
+            Join::Or => self.after_left_of_or(alloc, host, variables, right, links, text, limits),
         }
+    }
+
+    // Goes on with `&&`, whose left operand came to this text.
+    #[tactic(auto, using(crate::proofs::Halts::truth_halts))]
+    fn after_left_of_and<H: Host>(
+        &mut self,
+        alloc: Global,
+        host: &H,
+        variables: &Vars,
+        right: Expr,
+        links: Rest<Link>,
+        text: Txt,
+        limits: &Limits,
+    ) -> Result<Now, Halt>
+        ensures falls { Falls result (value_weight right + 3 + links_weight links) self.old self.new }
+        ensures goes { GoesSo H.meaning limits.now (resume H.meaning limits.now self.old.left self.old.stack (links_do limits.now (evaluate H.meaning limits.now self.old.left) links (join_on limits.now (evaluate H.meaning limits.now self.old.left) joins.And right text (H.state host.now) variables.now self.old.fuel))) result self.new (H.state host.now) variables.now }
+    {
+        if truth_of(&text)? {
+            self.stack.push(Frame::Value(ValueFrame::Truth(links)))?;
+            return Ok(Now::Value(right));
+        }
+        self.stack.push(Frame::Value(ValueFrame::Links(links)))?;
+        Ok(Now::At(Ending {
+            code: 0,
+            text: Txt::from_text(alloc, b"0")?,
+        }))
+    }
+
+    // Goes on with `||`, whose left operand came to this text.
+    #[tactic(auto, using(crate::proofs::Halts::truth_halts))]
+    fn after_left_of_or<H: Host>(
+        &mut self,
+        alloc: Global,
+        host: &H,
+        variables: &Vars,
+        right: Expr,
+        links: Rest<Link>,
+        text: Txt,
+        limits: &Limits,
+    ) -> Result<Now, Halt>
+        ensures falls { Falls result (value_weight right + 3 + links_weight links) self.old self.new }
+        ensures goes { GoesSo H.meaning limits.now (resume H.meaning limits.now self.old.left self.old.stack (links_do limits.now (evaluate H.meaning limits.now self.old.left) links (join_on limits.now (evaluate H.meaning limits.now self.old.left) joins.Or right text (H.state host.now) variables.now self.old.fuel))) result self.new (H.state host.now) variables.now }
+    {
+        if truth_of(&text)? {
+            self.stack.push(Frame::Value(ValueFrame::Links(links)))?;
+            return Ok(Now::At(Ending {
+                code: 0,
+                text: Txt::from_text(alloc, b"1")?,
+            }));
+        }
+        self.stack.push(Frame::Value(ValueFrame::Truth(links)))?;
+        Ok(Now::Value(right))
     }
 }
