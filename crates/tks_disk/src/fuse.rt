@@ -81,7 +81,8 @@ impl<D: Disk> Disk for Fuse<D> {
         ensures rests { D.honest self.old.disk → Rests (D.view self.old.disk) (D.view self.new.disk) }
         ensures burns { Burns D.failures result self.old self.new }
     {
-        spend(&mut self.calls_left, &mut self.refused)?;
+        let may_len = spend(&mut self.calls_left, &mut self.refused);
+        may_len?;
         self.disk.len(side)
     }
 
@@ -93,7 +94,8 @@ impl<D: Disk> Disk for Fuse<D> {
         ensures rests { D.honest self.old.disk → Rests (D.view self.old.disk) (D.view self.new.disk) }
         ensures burns { Burns D.failures result self.old self.new }
     {
-        spend(&mut self.calls_left, &mut self.refused)?;
+        let may_read = spend(&mut self.calls_left, &mut self.refused);
+        may_read?;
         self.disk.read_at(side, at, buf)
     }
 
@@ -103,7 +105,8 @@ impl<D: Disk> Disk for Fuse<D> {
         ensures writes { D.honest self.old.disk → Writes side at bytes.now result (D.view self.old.disk) (D.view self.new.disk) }
         ensures burns { Burns D.failures result self.old self.new }
     {
-        spend(&mut self.calls_left, &mut self.refused)?;
+        let may_write = spend(&mut self.calls_left, &mut self.refused);
+        may_write?;
         self.disk.write_at(side, at, bytes)
     }
 
@@ -113,7 +116,8 @@ impl<D: Disk> Disk for Fuse<D> {
         ensures syncs { D.honest self.old.disk → Syncs side result (D.view self.old.disk) (D.view self.new.disk) }
         ensures burns { Burns D.failures result self.old self.new }
     {
-        spend(&mut self.calls_left, &mut self.refused)?;
+        let may_sync = spend(&mut self.calls_left, &mut self.refused);
+        may_sync?;
         self.disk.sync(side)
     }
 

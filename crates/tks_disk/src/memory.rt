@@ -36,22 +36,30 @@ impl Model for MemoryDisk {
 impl MemoryDisk {
     ghost use Rattle.std.specs.Prelude.{IfOk};
     ghost use Rattle.tks_disk.specs.DiskModel.{Images};
-    ghost use Rattle.tks_disk.specs.Memory.{fresh, images, BothLeave};
+    ghost use Rattle.tks_disk.specs.Memory.{fresh, images, BothLeave, AreConsistent};
     ghost use Rattle.tks_disk.specs.MemorySide.{left_of};
+
+    /// A disk of these sides, with no past.
+    fn of(sides: Sides) -> MemoryDisk
+        requires { AreConsistent sides }
+        ensures { result ≡ record { sides = sides; past = []; failures = 0 } }
+    {
+        MemoryDisk {
+            sides,
+            past: Trail::new(),
+            failed: Trail::new(),
+        }
+    }
 
     /// Two empty sides. A crash leaves them empty.
     pub fn new(alloc: Global) -> MemoryDisk
         ensures empty { result ≡ fresh [] [] }
         ensures only { (i : Images) → BothLeave result.sides i → i ≡ record { a = []; b = [] } }
     {
-        MemoryDisk {
-            sides: Sides {
-                a: MemorySide::new(alloc),
-                b: MemorySide::new(alloc),
-            },
-            past: Trail::new(),
-            failed: Trail::new(),
-        }
+        MemoryDisk::of(Sides {
+            a: MemorySide::new(alloc),
+            b: MemorySide::new(alloc),
+        })
     }
 
     /// It keeps to the laws of `Disk`.
@@ -71,14 +79,11 @@ impl MemoryDisk {
     {
         let a = self.sides.a.left(alloc, a)?;
         let b = self.sides.b.left(alloc, b)?;
-        Ok(MemoryDisk {
-            sides: Sides {
-                a: MemorySide::holding(alloc, a)?,
-                b: MemorySide::holding(alloc, b)?,
-            },
-            past: Trail::new(),
-            failed: Trail::new(),
-        })
+        let sides = Sides {
+            a: MemorySide::holding(alloc, a)?,
+            b: MemorySide::holding(alloc, b)?,
+        };
+        Ok(MemoryDisk::of(sides))
     }
 }
 

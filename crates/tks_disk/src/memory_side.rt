@@ -74,10 +74,11 @@ impl MemorySide {
     pub fn read_at(&self, at: usize, buf: &mut [u8]) -> usize
         ensures { ReadsAt at result self.now.bytes buf.old buf.new }
     {
-        if at >= self.bytes.len() {
+        let bytes = self.bytes.as_slice();
+        if at >= bytes.len() {
             return 0;
         }
-        let rest = &self.bytes[at..];
+        let rest = &bytes[at..];
         let n = rest.len().min(buf.len());
         buf[..n].copy_from_slice(&rest[..n]);
         n

@@ -1,0 +1,13 @@
+//! Tests of disks: random calls beside a plain program over bytes.
+#![tactic(auto)]
+
+mod dice;
+mod plain;
+mod trial;
+
+#[cfg(test)]
+mod tests;
+
+pub use dice::Dice;
+pub use plain::Plain;
+pub use trial::{call_agrees, reads_as};
