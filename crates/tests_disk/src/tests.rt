@@ -41,12 +41,43 @@ fn a_disk_in_memory_does_what_a_plain_program_does(rt: HostRuntime) {
     }
 }
 
+const XS: [u8; 96] = [b'x'; 96];
+
+fn writes<D: Disk>(disk: &mut D, at: usize) -> bool {
+    disk.write_at(Side::A, at, b"x").is_ok()
+}
+
+// Appends bytes and syncs, and looks whether each call did all or nothing, also where memory was refused in it.
+fn does_all_or_nothing(alloc: Global) -> Option<bool> {
+    let mut disk = MemoryDisk::new(alloc);
+    let (mut written, mut synced) = (0, 0);
+    for _ in 0..40 {
+        written += writes(&mut disk, written) as usize;
+        if disk.sync(Side::A).is_ok() {
+            synced = written;
+        }
+        written += writes(&mut disk, written) as usize;
+        if !reads_as(&mut disk, Side::A, XS.get(..written)?)? {
+            return Some(false);
+        }
+    }
+    match disk.crash(alloc, Left::Old, Left::New) {
+        Ok(mut left) => reads_as(&mut left, Side::A, XS.get(..synced)?),
+        Err(_) => Some(true),
+    }
+}
+
+// To be run with each allocation refused in turn (`rt try --test --fail-alloc N`); here none is.
+#[test]
+fn a_refused_growth_changes_nothing(rt: HostRuntime) {
+    assert!(rt; does_all_or_nothing(rt.alloc()) == Some(true));
+}
+
 // Makes 16 writes of a byte each, of which so many are let through, and looks at what stands then.
 fn fuse_stops(alloc: Global, calls: u64) -> Option<bool> {
     let mut fuse = Fuse::new(MemoryDisk::new(alloc), calls);
     for at in 0..16 {
-        let passed = fuse.write_at(Side::A, at, b"x").is_ok();
-        if passed != ((at as u64) < calls) {
+        if writes(&mut fuse, at) != ((at as u64) < calls) {
             return Some(false);
         }
     }
@@ -55,7 +86,7 @@ fn fuse_stops(alloc: Global, calls: u64) -> Option<bool> {
         && fuse.sync(Side::A).is_err();
     let written = calls.min(16) as usize;
     let mut disk = fuse.into_inner();
-    let stands = reads_as(&mut disk, Side::A, b"xxxxxxxxxxxxxxxx".get(..written)?)?;
+    let stands = reads_as(&mut disk, Side::A, XS.get(..written)?)?;
     let mut left = disk.crash(alloc, Left::Old, Left::Old).ok()?;
     Some((failed || calls > 16) && stands && reads_as(&mut left, Side::A, b"")?)
 }

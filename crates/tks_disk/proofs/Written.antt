@@ -98,7 +98,7 @@ pub syncs : {E : Type 0} (side : Side) (old new : MemoryState) → AreConsistent
 syncs side old new was is past = record {
   same = ap images is ∙ same_reads side old.sides;
   durable = λ i left. is_durable side old.sides i (subst (λ (s : Sides). BothLeave s i) is left);
-  beside = λ d left. subst (λ (s : Sides). BothLeave s (with_side side (on side (images old.sides)) d)) (sym is) (keeps_beside side old.sides d left);
+  others = λ d left. subst (λ (s : Sides). BothLeave s (with_side side (on side (images old.sides)) d)) (sym is) (keeps_beside side old.sides d left);
   crash = λ i left. was_left side old.sides i was (subst (λ (s : Sides). BothLeave s i) is left);
   failed = tt;
   time = elapses old new past;

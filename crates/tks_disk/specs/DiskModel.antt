@@ -83,7 +83,7 @@ pub record Syncs {E : Type 0} (side : Side) (result : Result (Unit {0}) E) (old 
   -- after a sync that succeeded, a crash leaves of this side what it reads as
   pub durable : OnOk result ((i : Images) → new.may_leave i → on side i ≡ on side old.reads)
   -- and of the other side what it might have left before
-  pub beside : OnOk result ((d : Images) → old.may_leave d → new.may_leave (with_side side (on side old.reads) d))
+  pub others : OnOk result ((d : Images) → old.may_leave d → new.may_leave (with_side side (on side old.reads) d))
   pub crash : (i : Images) → new.may_leave i → old.may_leave i
   -- a sync that failed changes nothing of what a crash may leave
   pub failed : OnErr result ((i : Images) → old.may_leave i → new.may_leave i)

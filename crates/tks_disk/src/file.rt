@@ -1,5 +1,5 @@
 //! Single files, read and written at any place.
-ghost use Rattle.std.specs.Prelude.{◌≤◌, length, IfOk, IfSome};
+ghost use Rattle.std.specs.Prelude.{◌≡◌, ◌≤◌, length, MatchResult, IsErr, IfOk, IfSome};
 
 use crate::DeviceFault;
 use std::fs::OpenFile;
@@ -7,7 +7,9 @@ use std::io;
 use std::io::{ErrorKind, Read, Seek, SeekFrom, Write};
 
 /// A refusal of the system, whatever it was, is a failure of the device.
-pub fn device<T>(answer: io::Result<T>) -> Result<T, DeviceFault> {
+pub fn device<T>(answer: io::Result<T>) -> Result<T, DeviceFault>
+    ensures { MatchResult answer (λ value. result ≡ Ok value) (λ _. IsErr result) }
+{
     answer.map_err(|_| DeviceFault)
 }
 
