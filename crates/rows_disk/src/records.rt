@@ -26,16 +26,42 @@ fn stands<D: Disk>(disk: &mut D, index: usize) -> bool {
     disk.read_at(Side::A, index.saturating_mul(LEN), &mut buf) == Ok(LEN) && buf == record(index)
 }
 
+/// Whether the first so many records stand.
+fn all_stand<D: Disk>(disk: &mut D, count: usize) -> bool {
+    for index in 0..count {
+        if !stands(disk, index) {
+            return false;
+        }
+    }
+    true
+}
+
+/// Appends records, at most so many, until the device refuses one; how many it took.
+fn append_all<D: Disk>(disk: &mut D, count: usize) -> usize {
+    for index in 0..count {
+        if append(disk, index).is_err() {
+            return index;
+        }
+    }
+    count
+}
+
+fn told(fault: FileDiskFault) -> &'static str {
+    match fault {
+        FileDiskFault::Device => "the device failed",
+        FileDiskFault::NoMemory => "no memory",
+    }
+}
+
 /// Appends records until the device refuses one, and writes how many it took and whether these still stand.
 pub fn fill<R: Files + Print + AllocGlobal>(rt: &R, path: &str) -> io::Result<()> {
     match FileDisk::open(rt, rt.alloc(), path) {
         Ok(mut disk) => {
-            let taken = (0..MOST).take_while(|index| append(&mut disk, *index).is_ok()).count();
-            let all = (0..taken).all(|index| stands(&mut disk, index));
-            println!(rt; "{taken} records, then {}; all stand: {all}", if taken < MOST { "a failure" } else { "no failure" })
+            let taken = append_all(&mut disk, MOST);
+            let all = all_stand(&mut disk, taken);
+            println!(rt; "{taken} records of {MOST}; all stand: {all}")
         }
-        Err(FileDiskFault::Device) => println!(rt; "the device failed"),
-        Err(FileDiskFault::NoMemory) => println!(rt; "no memory"),
+        Err(fault) => rt.println(told(fault)),
     }
 }
 
@@ -43,15 +69,14 @@ pub fn fill<R: Files + Print + AllocGlobal>(rt: &R, path: &str) -> io::Result<()
 pub fn check<R: Files + Print + AllocGlobal>(rt: &R, path: &str, count: usize) -> io::Result<()> {
     match FileDisk::open(rt, rt.alloc(), path) {
         Ok(mut disk) => {
-            let all = (0..count).all(|index| stands(&mut disk, index));
+            let all = all_stand(&mut disk, count);
             println!(rt; "{count} records stand: {all}")
         }
-        Err(FileDiskFault::Device) => println!(rt; "the device failed"),
-        Err(FileDiskFault::NoMemory) => println!(rt; "no memory"),
+        Err(fault) => rt.println(told(fault)),
     }
 }
 
-/// Appends so many records, and writes the time that they took, in microseconds.
+/// Appends so many records, and writes how many were taken and the time of it, in microseconds.
 pub fn time<R: Files + Print + Clock + AllocGlobal>(
     rt: &R,
     path: &str,
@@ -60,11 +85,10 @@ pub fn time<R: Files + Print + Clock + AllocGlobal>(
     match FileDisk::open(rt, rt.alloc(), path) {
         Ok(mut disk) => {
             let start = Instant::now(rt)?;
-            let all = (0..count).all(|index| append(&mut disk, index).is_ok());
+            let taken = append_all(&mut disk, count);
             let took = start.elapsed(rt)?.as_micros();
-            println!(rt; "{count} records in {took} microseconds; all taken: {all}")
+            println!(rt; "{taken} records in {took} microseconds")
         }
-        Err(FileDiskFault::Device) => println!(rt; "the device failed"),
-        Err(FileDiskFault::NoMemory) => println!(rt; "no memory"),
+        Err(fault) => rt.println(told(fault)),
     }
 }

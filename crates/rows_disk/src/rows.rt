@@ -1,9 +1,8 @@
 //! Rows over real files, in the folder where the program stands.
 
 use std::alloc::Global;
-use std::fs;
-use std::io;
 use std::rt::Files;
+use std::{fs, io};
 use tests_disk::{Dice, Plain, call_agrees, reads_as};
 use tks_disk::{Disk, FileDisk, FileDiskFault, Left, Side};
 
@@ -63,23 +62,48 @@ pub fn run<R: Files + Print + AllocGlobal>(rt: &R) -> io::Result<()> {
         return println!(rt; "files that were missing: not opened");
     };
     let mut plain = Plain::new(alloc);
-    println!(rt; "files that were missing: opened, empty: {:?}", sides_read_as(alloc, &mut disk, &plain))?;
-    println!(rt; "2000 calls agree: {}", calls_agree(alloc, &mut disk, &mut plain))?;
-    println!(rt; "the files hold it: {}", file_holds(rt, &plain, "disk.a", Side::A) && file_holds(rt, &plain, "disk.b", Side::B))?;
+    println!(rt;
+        "files that were missing: opened, empty: {:?}",
+        sides_read_as(alloc, &mut disk, &plain)
+    )?;
+    println!(rt;
+        "2000 calls agree: {}",
+        calls_agree(alloc, &mut disk, &mut plain)
+    )?;
+    println!(rt;
+        "the files hold it: {}",
+        file_holds(rt, &plain, "disk.a", Side::A) && file_holds(rt, &plain, "disk.b", Side::B)
+    )?;
     drop(disk);
     reopened(rt, alloc, &plain)?;
     fs::create_dir(rt, "folder.b")?;
-    println!(rt; "a side that is a folder: {}", told(FileDisk::open(rt, alloc, "folder")))?;
-    println!(rt; "a folder that is missing: {}", told(FileDisk::open(rt, alloc, "no/such")))?;
-    println!(rt; "a path with a byte 0: {}", told(FileDisk::open(rt, alloc, "a\0b")))?;
+    println!(rt;
+        "a side that is a folder: {}",
+        told(FileDisk::open(rt, alloc, "folder"))
+    )?;
+    println!(rt;
+        "a folder that is missing: {}",
+        told(FileDisk::open(rt, alloc, "no/such"))
+    )?;
+    println!(rt;
+        "a path with a byte 0: {}",
+        told(FileDisk::open(rt, alloc, "a\0b"))
+    )?;
     clean(rt);
     Ok(())
 }
 
-fn reopened<R: Files + Print + AllocGlobal>(rt: &R, alloc: Global, plain: &Plain) -> io::Result<()> {
+fn reopened<R: Files + Print + AllocGlobal>(
+    rt: &R,
+    alloc: Global,
+    plain: &Plain,
+) -> io::Result<()> {
     let Ok(mut disk) = FileDisk::open(rt, alloc, PATH) else {
         return println!(rt; "files that are there: not opened");
     };
-    println!(rt; "files that are there: opened, as before: {:?}", sides_read_as(alloc, &mut disk, plain))?;
+    println!(rt;
+        "files that are there: opened, as before: {:?}",
+        sides_read_as(alloc, &mut disk, plain)
+    )?;
     println!(rt; "places past the end: {:?}", far_places(&mut disk))
 }

@@ -3,10 +3,9 @@
 
 mod dice;
 mod plain;
-mod trial;
-
 #[cfg(test)]
 mod tests;
+mod trial;
 
 pub use dice::Dice;
 pub use plain::Plain;

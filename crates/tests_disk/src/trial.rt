@@ -32,12 +32,7 @@ fn write_agrees<D: Disk>(
     Some(disk.write_at(side, at, some).is_ok())
 }
 
-fn read_agrees<D: Disk>(
-    disk: &mut D,
-    want: &[u8],
-    side: Side,
-    dice: &mut Dice,
-) -> Option<bool> {
+fn read_agrees<D: Disk>(disk: &mut D, want: &[u8], side: Side, dice: &mut Dice) -> Option<bool> {
     let at = dice.roll(ROOM);
     let mut buf = [0; 16];
     let (some, _) = buf.split_at_mut_checked(dice.roll(17))?;
