@@ -1,0 +1,3 @@
+mod Ranges
+mod Tearing
+mod Written

@@ -1,0 +1,6 @@
+pub mod DiskModel
+pub mod FileDisk
+pub mod Fuse
+pub mod Memory
+pub mod MemorySide
+pub mod Trail

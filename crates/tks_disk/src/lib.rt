@@ -1,0 +1,19 @@
+//! A disk of two sides: what a read returns now, and what a crash may leave.
+#![tactic(auto)]
+
+mod disk;
+mod file;
+mod file_disk;
+mod fuse;
+mod left;
+mod memory;
+mod memory_side;
+mod sides;
+mod span;
+mod trail;
+
+pub use disk::{DeviceFault, Disk, Side};
+pub use file_disk::{FileDisk, FileDiskFault};
+pub use fuse::Fuse;
+pub use left::Left;
+pub use memory::MemoryDisk;
