@@ -1,0 +1,3 @@
+pub mod Keysyms
+pub mod Modifiers
+pub mod Kinds

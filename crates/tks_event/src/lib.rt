@@ -1,0 +1,10 @@
+//! Events, and the patterns and sequences of events that bindings are made for.
+#![tactic(auto)]
+
+mod keysym;
+mod kind;
+mod modifiers;
+
+pub use keysym::{is_keysym, is_modifier_key, keysym_char};
+pub use kind::{Kind, is_button};
+pub use modifiers::{Modifier, Modifiers};
