@@ -4,7 +4,11 @@
 mod keysym;
 mod kind;
 mod modifiers;
+mod pattern;
+mod reading;
+mod words;
 
 pub use keysym::{is_keysym, is_modifier_key, keysym_char};
 pub use kind::{Kind, is_button};
 pub use modifiers::{Modifier, Modifiers};
+pub use pattern::{Pattern, Repeated};
