@@ -11,7 +11,7 @@ use Rattle.tks_text.specs.declared.fault.ScriptFault.{ScriptFault}
 use Rattle.tks_event.specs.Keysyms.{is_keysym, keysym_of}
 use Rattle.tks_event.specs.Modifiers.{modifier_named}
 use Rattle.tks_event.specs.Kinds.{kind_named, is_button, is_detail}
-use Rattle.tks_event.specs.Sequences.{all_events, max_events, is_name_char}
+use Rattle.tks_event.specs.Sequences.{all_events, max_events, is_name_char, is_some_text}
 use Rattle.tks_event.specs.Spelling.{is_separator, times_named, once, with_more, repeated, is_bare, virtual_one}
 use Rattle.tks_event.specs.declared.kind.Kind.{Kind}
 use Rattle.tks_event.specs.declared.kind.Kind.TheVariants as kind
@@ -100,22 +100,25 @@ pattern_at (c ∷ t) =
 
 -- ---- virtual events
 
-abbrev pub closes : (List ℕ → Bool) → List ℕ → Bool
-closes ends [] = false
-closes ends (c ∷ []) = false
-closes ends (c ∷ d ∷ v) = (c == 62) && ((d == 62) && ends v)
+-- a name that two `>` close, and what stands behind them
+abbrev pub name_closed : List ℕ → List ℕ → Option (List ℕ × List ℕ)
+name_closed n [] = None
+name_closed n (c ∷ []) = None
+name_closed n (c ∷ d ∷ v) = if is_some_text n && ((c == 62) && (d == 62)) then Some (n, v) else None
 
--- the name at the front of a text, where two `>` close it and the text may end so
-abbrev pub name_closed : (List ℕ → Bool) → List ℕ → Option (List ℕ)
-name_closed ends t =
-    let n = prefix_len is_name_char t in
-    if nat_lt 0 n && closes ends (drop n t) then Some (take n t) else None
+abbrev pub name_at : List ℕ → Option (List ℕ × List ℕ)
+name_at t = let n = prefix_len is_name_char t in name_closed (take n t) (drop n t)
 
--- the name of the virtual event that a text spells
-abbrev pub virtual_name : (List ℕ → Bool) → List ℕ → Option (List ℕ)
-virtual_name ends [] = None
-virtual_name ends (c ∷ []) = None
-virtual_name ends (c ∷ d ∷ t) = if (c == 60) && (d == 60) then name_closed ends t else None
+-- the name of the virtual event whose pattern stands at the front of a text, and what stands behind it
+unfoldable pub virtual_at : List ℕ → Option (List ℕ × List ℕ)
+virtual_at [] = None
+virtual_at (c ∷ []) = None
+virtual_at (c ∷ d ∷ t) = if (c == 60) && (d == 60) then name_at t else None
+
+-- the name, where what stands behind it may do so
+abbrev pub named_before : (List ℕ → Bool) → Option (List ℕ × List ℕ) → Option (List ℕ)
+named_before ends None = None
+named_before ends (Some x) = if ends x.1 then Some x.0 else None
 
 -- nothing but white space
 abbrev pub is_blank_text : List ℕ → Bool
@@ -139,7 +142,7 @@ virtual_or None other = other
 
 -- the pattern that a text spells, if it spells one
 unfoldable pub pattern_of : List ℕ → Option Repeated
-pattern_of t = virtual_or (virtual_name is_end t) (alone (pattern_at t))
+pattern_of t = virtual_or (named_before is_end (virtual_at t)) (alone (pattern_at t))
 
 -- ---- sequences
 
@@ -173,7 +176,7 @@ virtual_or_events None other = other
 
 -- the list of patterns that a text spells, if it spells one, however long
 unfoldable pub spelled_list : List ℕ → Option (List Pattern)
-spelled_list t = virtual_or_events (virtual_name is_blank_text (drop (prefix_len is_space t) t)) (some_events (patterns_in t))
+spelled_list t = virtual_or_events (named_before is_blank_text (virtual_at (drop (prefix_len is_space t) t))) (some_events (patterns_in t))
 
 -- ---- answers
 

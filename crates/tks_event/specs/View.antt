@@ -1,9 +1,15 @@
 -- What contracts see of what the code reads.
-use Rattle.std.specs.Prelude.{◌≡◌, ◌==◌, ℕ, Bool, false, List, [], ◌∷◌, drop, Option, Some, None, if◌then◌else◌}
+use Rattle.std.specs.Prelude.{bit_or, ◌≡◌, ◌==◌, ℕ, Bool, false, List, [], ◌∷◌, drop, Option, Some, None, if◌then◌else◌}
 use Rattle.std.specs.Option.{option_map}
+use Rattle.std.specs.Borrow.{Bor}
 use Rattle.std.specs.List.{prefix_len}
-use Rattle.tks_event.specs.Spelling.{is_separator}
-use Rattle.tks_event.specs.Reading.{Words, with_word, words_at}
+use Rattle.tks_event.specs.Keysyms.{keysym_of}
+use Rattle.tks_event.specs.Modifiers.{modifier_named, with_modifier}
+use Rattle.tks_event.specs.Spelling.{is_separator, times_named, repeated}
+use Rattle.tks_event.specs.Reading.{Words, with_word, words_at, named_by, then_behind}
+use Rattle.tks_event.specs.declared.kind.Kind.{Kind}
+use Rattle.tks_event.specs.declared.lead.Lead.{Lead}
+use Rattle.tks_event.specs.declared.modifiers.Modifier.{Modifier}
 use Rattle.tks_event.specs.declared.words.Word.{Word}
 use Rattle.tks_event.specs.declared.reading.Written.{Written}
 use Rattle.tks_event.specs.declared.pattern.Repeated.{Repeated}
@@ -21,3 +27,63 @@ word_then w (c ∷ u) = if c == 62 then Some (w ∷ [], u) else with_word w (wor
 -- a pattern as it is written
 abbrev pub written : Written → Repeated
 written w = record { pattern = record { near = false; kind = w.kind; modifiers = w.modifiers; detail = w.detail.now }; times = w.times }
+
+-- the same, and what stands behind it
+abbrev pub written_then : Option (Written × Bor (List ℕ)) → Option (Repeated × List ℕ)
+written_then o = option_map (λ x. (written x.0, x.1.now)) o
+
+-- ---- modifiers and repeat words
+
+abbrev pub no_lead : Lead
+no_lead = record { modifiers = 0; times = 1 }
+
+abbrev pub added_by : Lead → Option Modifier → Option ℕ → Option Lead
+added_by lead (Some m) n = Some (record { modifiers = with_modifier m lead.modifiers; times = lead.times })
+added_by lead None None = None
+added_by lead None (Some n) = if lead.times == 1 then Some (record { modifiers = lead.modifiers; times = n }) else None
+
+-- those words and one more, where it is a modifier or the first repeat word
+abbrev pub added : Lead → List ℕ → Option Lead
+added lead w = added_by lead (modifier_named w) (times_named w)
+
+-- the modifiers and the repeat word of a pattern with those before it, where there is no other repeat word
+abbrev pub joined_lead : Lead → ℕ → ℕ → Option Lead
+joined_lead lead set times =
+    if lead.times == 1 then Some (record { modifiers = bit_or set lead.modifiers; times = times })
+    else (if times == 1 then Some (record { modifiers = bit_or set lead.modifiers; times = lead.times }) else None)
+
+abbrev pub led_pattern : Lead → Kind → List ℕ → Repeated
+led_pattern lead k d = record { pattern = record { near = false; kind = k; modifiers = lead.modifiers; detail = d }; times = lead.times }
+
+-- a pattern with modifiers and a repeat word before it
+abbrev pub under_lead : Repeated → Lead → Repeated
+under_lead r lead =
+    record {
+      pattern = record { near = r.pattern.near; kind = r.pattern.kind; modifiers = lead.modifiers; detail = r.pattern.detail };
+      times = lead.times;
+    }
+
+abbrev pub with_lead : Lead → Repeated → Option Repeated
+with_lead lead r = option_map (under_lead r) (joined_lead lead r.pattern.modifiers r.times)
+
+abbrev pub led : Lead → Option (Repeated × List ℕ) → Option (Repeated × List ℕ)
+led lead None = None
+led lead (Some x) = then_behind (with_lead lead x.0) x.1
+
+-- what a word that is no modifier and no repeat word says with the words behind it
+abbrev pub typed_words : List ℕ → Words → Option (Repeated × List ℕ)
+typed_words w None = None
+typed_words w (Some x) = then_behind (named_by w x.0) x.1
+
+-- the keysym of a text of one character
+abbrev pub keysym_of_text : List ℕ → Option (List ℕ)
+keysym_of_text [] = None
+keysym_of_text (c ∷ []) = keysym_of c
+keysym_of_text (c ∷ d ∷ t) = None
+
+abbrev pub bytes_seen : Option (Bor (List ℕ)) → Option (List ℕ)
+bytes_seen o = option_map (λ b. b.now) o
+
+-- a name, and what stands behind it
+abbrev pub name_then : Option (Bor (List ℕ) × Bor (List ℕ)) → Option (List ℕ × List ℕ)
+name_then o = option_map (λ x. (x.0.now, x.1.now)) o

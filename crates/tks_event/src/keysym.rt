@@ -1,12 +1,13 @@
 //! Keysyms: the names of keys.
 ghost use Rattle.std.specs.Prelude.{◌≡◌, is_some};
 ghost use Rattle.std.specs.Option.{option_map};
+ghost use Rattle.tks_event.specs.View.{bytes_seen, keysym_of_text};
 ghost use Rattle.tks_event.specs.Keysyms.{named_in, is_among, is_alphanumeric, alphanumeric_of, first_signs, second_signs, third_signs, fourth_signs, keysym_char, editing_keys, moving_keys, function_keys, further_function_keys, is_modifier_key, is_function_key, is_keysym, name_in, sign_name};
 
 use tks_text::Txt;
 
 // Whether a character is a letter or a digit, which is its own keysym.
-pub(crate) fn is_alphanumeric(c: u8) -> bool
+fn is_alphanumeric(c: u8) -> bool
     ensures { result ≡ is_alphanumeric c }
 {
     matches!(c, b'0'..=b'9' | b'A'..=b'Z' | b'a'..=b'z')
@@ -324,7 +325,7 @@ fn fourth_sign_name(c: u8) -> Option<&'static [u8]>
 }
 
 // The keysym of a printing character that is no letter and no digit.
-pub(crate) fn sign_name(c: u8) -> Option<&'static [u8]>
+fn sign_name(c: u8) -> Option<&'static [u8]>
     ensures { option_map (λ n. n.now) result ≡ sign_name c }
 {
     if let Some(name) = first_sign_name(c) {
@@ -337,4 +338,20 @@ pub(crate) fn sign_name(c: u8) -> Option<&'static [u8]>
         return Some(name);
     }
     fourth_sign_name(c)
+}
+
+/// The keysym of a printing character, which is all of the text. `None` where the text isn't one printing character.
+#[tactic(auto, unfolding(crate::specs::Keysyms::keysym_of))]
+pub(crate) fn keysym_of(character: &[u8]) -> Option<&[u8]>
+    ensures { bytes_seen result ≡ keysym_of_text character.now }
+{
+    match character {
+        [c] => {
+            if is_alphanumeric(*c) {
+                return Some(character);
+            }
+            sign_name(*c)
+        }
+        _ => None,
+    }
 }

@@ -3,6 +3,7 @@
 
 mod keysym;
 mod kind;
+mod lead;
 mod modifiers;
 mod pattern;
 mod reading;

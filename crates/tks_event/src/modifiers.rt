@@ -1,5 +1,5 @@
 //! Modifiers, and sets of them.
-ghost use Rattle.std.specs.Prelude.{◌≡◌, ◌<◌, ◌==◌, bit_and, nat_lt, IfSome, Some, None, if◌then◌else◌};
+ghost use Rattle.std.specs.Prelude.{◌≡◌, ◌<◌, ◌==◌, bit_and, bit_or, nat_lt, IfSome, Some, None, if◌then◌else◌};
 ghost use Rattle.tks_event.specs.Keysyms.{named_in};
 ghost use Rattle.tks_event.specs.Modifiers.{bit_of, all_bits, has, with_modifier, key_modifiers, first_modifiers, later_modifiers, button_modifiers, later_button_modifiers, modifier_named, modifier_name, all_modifiers};
 
@@ -262,6 +262,16 @@ impl Modifiers {
     {
         Modifiers {
             bits: self.bits | modifier.bit(),
+        }
+    }
+
+    /// The set of the modifiers of both.
+    #[tactic(auto, using(crate::proofs::Sets::or_within))]
+    pub fn union(self, other: Modifiers) -> Modifiers
+        ensures { result ≡ bit_or self other }
+    {
+        Modifiers {
+            bits: self.bits | other.bits,
         }
     }
 
