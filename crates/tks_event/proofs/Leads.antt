@@ -153,7 +153,7 @@ more_than_once (row ∷ table) t n h e =
 repeat_more : (t : List ℕ) (n : ℕ) → times_named t ≡ Some n → (n == 1) ≡ false
 repeat_more t n e = more_than_once repeats t n refl e
 
-said_is : (w : List ℕ) (ws : List (List ℕ)) (m : Option Modifier) (n : Option ℕ) → modifier_named w ≡ m → times_named w ≡ n → said (w ∷ ws) ≡ said_by m n (named_by w ws) (said ws)
+pub said_is : (w : List ℕ) (ws : List (List ℕ)) (m : Option Modifier) (n : Option ℕ) → modifier_named w ≡ m → times_named w ≡ n → said (w ∷ ws) ≡ said_by m n (named_by w ws) (said ws)
 unfolding said
 said_is w ws m n e f = ap (λ y. said_by y (times_named w) (named_by w ws) (said ws)) e ∙ ap (λ y. said_by m y (named_by w ws) (said ws)) f
 

@@ -1,3 +1,5 @@
 pub mod Sets
 pub mod WordsRead
 pub mod Leads
+pub mod WordsTold
+pub mod Saying
