@@ -3,3 +3,4 @@ pub mod WordsRead
 pub mod Leads
 pub mod WordsTold
 pub mod Saying
+pub mod Spelled
