@@ -4,3 +4,4 @@ pub mod Leads
 pub mod WordsTold
 pub mod Saying
 pub mod Spelled
+pub mod WholeTexts

@@ -3,6 +3,7 @@
 
 mod keysym;
 mod kind;
+mod laws;
 mod lead;
 mod modifiers;
 mod pattern;
@@ -11,5 +12,6 @@ mod words;
 
 pub use keysym::{is_keysym, is_modifier_key, keysym_char};
 pub use kind::{Kind, is_button};
+pub use laws::{one_pattern, one_sequence};
 pub use modifiers::{Modifier, Modifiers};
 pub use pattern::{Pattern, Repeated};

@@ -1,0 +1,15 @@
+ghost use Rattle.std.specs.Prelude.{◌≡◌, ◌↔◌, List, ℕ, Some};
+ghost use Rattle.tks_event.specs.declared.pattern.Pattern.{Pattern};
+ghost use Rattle.tks_event.specs.declared.pattern.Repeated.{Repeated};
+ghost use Rattle.tks_event.specs.Reading.{pattern_of, spelled_list};
+ghost use Rattle.tks_event.specs.Spelling.{SpellsPattern, Spells};
+
+/// Each text spells one list of patterns, the one that is read, or none.
+pub fn one_sequence()
+    ensures { (t : List ℕ) (ps : List Pattern) → Spells t ps ↔ (spelled_list t ≡ Some ps) }
+{}
+
+/// Each text spells one pattern alone, the one that is read, or none.
+pub fn one_pattern()
+    ensures { (t : List ℕ) (r : Repeated) → SpellsPattern t r ↔ (pattern_of t ≡ Some r) }
+{}
