@@ -55,7 +55,7 @@ more_words w d t = longer_typed w d (words_at t) (words_some t)
 
 -- ---- what names a modifier or repeats names nothing else
 
-is_same_text : (t u : List ℕ) → same_text t u ≡ true → t ≡ u
+pub is_same_text : (t u : List ℕ) → same_text t u ≡ true → t ≡ u
 is_same_text [] [] e = refl
 is_same_text [] (d ∷ u) e = absurd cc
 is_same_text (c ∷ t) [] e = absurd cc

@@ -5,3 +5,6 @@ pub mod WordsTold
 pub mod Saying
 pub mod Spelled
 pub mod WholeTexts
+pub mod Legal
+pub mod Collecting
+pub mod Answering

@@ -139,7 +139,7 @@ none_at_end : (v : List ℕ) (r : Repeated) → pattern_at [] ≡ Some (r, v) �
 unfolding pattern_at
 none_at_end v r e = cc
 
-item_read : (u v : List ℕ) (r : Repeated) → PatternThen v r u → patterns_in u ≡ option_map (λ rs. r ∷ rs) (patterns_in v)
+pub item_read : (u v : List ℕ) (r : Repeated) → PatternThen v r u → patterns_in u ≡ option_map (λ rs. r ∷ rs) (patterns_in v)
 item_read [] v r h = let e = pattern_spelled v [] r h in absurd (none_at_end v r e)
 item_read (c ∷ u) v r h = patterns_item c u v r (pattern_begins v (c ∷ u) r h) (pattern_spelled v (c ∷ u) r h)
 

@@ -1,13 +1,16 @@
 //! Events, and the patterns and sequences of events that bindings are made for.
 #![tactic(auto)]
 
+mod collected;
 mod keysym;
 mod kind;
 mod laws;
 mod lead;
 mod modifiers;
+mod parsing;
 mod pattern;
 mod reading;
+mod sequence;
 mod words;
 
 pub use keysym::{is_keysym, is_modifier_key, keysym_char};
@@ -15,3 +18,4 @@ pub use kind::{Kind, is_button};
 pub use laws::{one_pattern, one_sequence};
 pub use modifiers::{Modifier, Modifiers};
 pub use pattern::{Pattern, Repeated};
+pub use sequence::Sequence;

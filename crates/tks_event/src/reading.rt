@@ -157,9 +157,9 @@ fn pressed<'a>(character: &'a [u8], rest: &'a [u8]) -> Option<(Written<'a>, &'a 
     Some((once(Kind::KeyPress, keysym), rest))
 }
 
-// The pattern of physical events that the text begins with, and what stands behind it.
+/// The pattern of physical events that the text begins with, and what stands behind it.
 #[tactic(auto, unfolding(crate::specs::Reading::pattern_at))]
-fn read_pattern(text: &[u8]) -> Option<(Written<'_>, &[u8])>
+pub(crate) fn read_pattern(text: &[u8]) -> Option<(Written<'_>, &[u8])>
     requires { IsText text.now }
     ensures value { written_then result ≡ pattern_at text.now }
     ensures shorter { IfSome result (λ x. length x.1.now < length text.now) }
@@ -208,9 +208,9 @@ fn name_closed<'a>(name: &'a [u8], text: &'a [u8]) -> Option<(&'a [u8], &'a [u8]
     Some((name, rest))
 }
 
-// The name of the virtual event that the text begins with, and what stands behind it.
+/// The name of the virtual event that the text begins with, and what stands behind it.
 #[tactic(auto, unfolding(crate::specs::Reading::virtual_at))]
-fn read_virtual(text: &[u8]) -> Option<(&[u8], &[u8])>
+pub(crate) fn read_virtual(text: &[u8]) -> Option<(&[u8], &[u8])>
     ensures { name_then result ≡ virtual_at text.now }
 {
     let (first, rest) = text.split_first()?;
