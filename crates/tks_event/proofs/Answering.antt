@@ -66,10 +66,10 @@ all_so items (r ∷ rs) h =
     cond_both (nat_lt max_events (length items + length (events_of r))) (record { items = items; is_too_long = true }) (record { items = items ++ events_of r; is_too_long = false })
     (λ k. KeptSo (all_kept k rs) (items ++ (events_of r ++ all_events rs)))
     (λ b. let over = ltb-true max_events (length items + length (events_of r)) b in
-      inr (omega (arith, length-append items (events_of r ++ all_events rs), length-append (events_of r) (all_events rs)), long_stays items rs))
+    inr (omega (arith, length-append items (events_of r ++ all_events rs), length-append (events_of r) (all_events rs)), long_stays items rs))
     (λ b. let fits = ltb-false max_events (length items + length (events_of r)) b in
-      subst (KeptSo (all_kept (record { items = items ++ events_of r; is_too_long = false }) rs)) (append_assoc items (events_of r) (all_events rs))
-      (all_so (items ++ events_of r) rs (omega (arith, length-append items (events_of r)))))
+    subst (KeptSo (all_kept (record { items = items ++ events_of r; is_too_long = false }) rs)) (append_assoc items (events_of r) (all_events rs))
+    (all_so (items ++ events_of r) rs (omega (arith, length-append items (events_of r)))))
 
 -- the answer to what was collected
 abbrev pub finished : List ℕ → Option Kept → Result (List Pattern) ScriptFault
@@ -155,3 +155,17 @@ sequence_so t (Err NoMemory) h = tt
 pub answer_legal : (t : List ℕ) (ps : List Pattern) → sequence_of t ≡ Ok ps → is_sequence ps ≡ true
 unfolding sequence_of
 answer_legal t ps h = let f = fits_so t (spelled_list t) ps refl h in spelled_legal t ps f.0 (le-leb (length ps) max_events f.1)
+
+one_so : (t : List ℕ) (o : Option Repeated) (fault : ScriptFault) → pattern_of t ≡ o → or_bad t o ≡ Err fault → (fault ≡ fault_about number.BadSequence t) × ((r : Repeated) → ¬ SpellsPattern t r)
+one_so t None fault e h = let same : fault ≡ fault_about number.BadSequence t = cc in (same, λ r s. let read = (pattern_one t r).0 s in absurd cc)
+one_so t (Some r) fault e h = absurd cc
+
+one_ok : (t : List ℕ) (o : Option Repeated) (r : Repeated) → pattern_of t ≡ o → or_bad t o ≡ Ok r → SpellsPattern t r
+one_ok t None r e h = absurd cc
+one_ok t (Some p) r e h = let same : p ≡ r = cc in subst (SpellsPattern t) same ((pattern_one t p).1 e)
+
+pub pattern_so : (t : List ℕ) (r : Result Repeated Failure) → Gives (λ r. r) r (one_pattern_of t) → SpellsPatternSo r t
+unfolding one_pattern_of
+pattern_so t (Ok r) h = one_ok t (pattern_of t) r refl h
+pattern_so t (Err (Script fault)) h = one_so t (pattern_of t) fault refl h
+pattern_so t (Err NoMemory) h = tt

@@ -55,7 +55,17 @@ of_either : {X : Type 0} (a b : Option X) (x : X) (P : Type 0) → or_else a b �
 of_either None b x P e f g = g e
 of_either (Some y) b x P e f g = f e
 
--- ---- keysyms are texts
+-- ---- keysyms
+
+abbrev pub SignsSo : (List ℕ → Bool) → Type 0
+SignsSo p =
+    (list_all (λ row. p row.0) first_signs ≡ true) × (list_all (λ row. p row.0) second_signs ≡ true) × (list_all (λ row. p row.0) third_signs ≡ true)
+    × (list_all (λ row. p row.0) fourth_signs ≡ true)
+
+abbrev pub KeysSo : (List ℕ → Bool) → Type 0
+KeysSo p =
+    (list_all p editing_keys ≡ true) × (list_all p moving_keys ≡ true) × (list_all p function_keys ≡ true) × (list_all p further_function_keys ≡ true)
+    × (list_all p modifier_keys ≡ true)
 
 byte_between : (c a b : ℕ) → nat_le a c && nat_le c b ≡ true → nat_le 32 a ≡ true → nat_le b 126 ≡ true → is_text_byte c ≡ true
 byte_between c a b h k l =
@@ -72,31 +82,38 @@ alphanumeric_byte c h =
     (λ f. or_case (nat_le 48 c && nat_le c 57) (nat_le 65 c && nat_le c 90) f (λ g. byte_between c 48 57 g refl refl) (λ g. byte_between c 65 90 g refl refl))
     (λ f. byte_between c 97 122 f refl refl)
 
-alphanumeric_text : (t : List ℕ) (c : ℕ) → alphanumeric_of t ≡ Some c → is_text t ≡ true
-alphanumeric_text [] c e = absurd cc
-alphanumeric_text (d ∷ []) c e =
-    cond_both (is_alphanumeric d) (Some d) None (λ o. o ≡ Some c → is_text (d ∷ []) ≡ true) (λ h f. and_from (is_text_byte d) true (alphanumeric_byte d h) refl) (λ h f. absurd cc) e
-alphanumeric_text (d ∷ f ∷ t) c e = absurd cc
+-- what holds of all names of keys, and of letters and digits, holds of each keysym
+module _ (p : List ℕ → Bool) (letters : (c : ℕ) → is_alphanumeric c ≡ true → p (c ∷ []) ≡ true) where
+  letter_so : (t : List ℕ) (c : ℕ) → alphanumeric_of t ≡ Some c → p t ≡ true
+  letter_so [] c e = absurd cc
+  letter_so (d ∷ []) c e = cond_both (is_alphanumeric d) (Some d) None (λ o. o ≡ Some c → p (d ∷ []) ≡ true) (λ h f. letters d h) (λ h f. absurd cc) e
+  letter_so (d ∷ f ∷ t) c e = absurd cc
 
-sign_text : (t : List ℕ) (table : List (List ℕ × ℕ)) → list_all (λ row. is_text row.0) table ≡ true → is_some (named_in table t) ≡ true → is_text t ≡ true
-sign_text t table h s = is_there (named_in table t) _ s (λ c e. of_named is_text table t c h e)
+  sign_so : (t : List ℕ) (table : List (List ℕ × ℕ)) → list_all (λ row. p row.0) table ≡ true → is_some (named_in table t) ≡ true → p t ≡ true
+  sign_so t table h s = is_there (named_in table t) _ s (λ c e. of_named p table t c h e)
 
-char_text : (t : List ℕ) → is_some (keysym_char t) ≡ true → is_text t ≡ true
-char_text t h =
-    some_else (alphanumeric_of t) _ _ h (λ s. is_there (alphanumeric_of t) _ s (λ c e. alphanumeric_text t c e))
-    (λ h. some_else (named_in first_signs t) _ _ h (sign_text t first_signs refl)
-    (λ h. some_else (named_in second_signs t) _ _ h (sign_text t second_signs refl)
-    (λ h. some_else (named_in third_signs t) _ _ h (sign_text t third_signs refl) (sign_text t fourth_signs refl))))
+  char_so : (t : List ℕ) → SignsSo p → is_some (keysym_char t) ≡ true → p t ≡ true
+  char_so t a h =
+      some_else (alphanumeric_of t) _ _ h (λ s. is_there (alphanumeric_of t) _ s (λ c e. letter_so t c e))
+      (λ h. some_else (named_in first_signs t) _ _ h (sign_so t first_signs a.0)
+      (λ h. some_else (named_in second_signs t) _ _ h (sign_so t second_signs a.1)
+      (λ h. some_else (named_in third_signs t) _ _ h (sign_so t third_signs a.2) (sign_so t fourth_signs a.3))))
+
+  pub keysym_so : (t : List ℕ) → SignsSo p → KeysSo p → is_keysym t ≡ true → p t ≡ true
+  unfolding is_keysym
+  keysym_so t a b h =
+      or_case (is_some (keysym_char t)) _ h (char_so t a)
+      (λ h. or_case (is_among editing_keys t) _ h (of_among p editing_keys t b.0)
+      (λ h. or_case (is_among moving_keys t) _ h (of_among p moving_keys t b.1)
+      (λ h. or_case (is_function_key t) (is_modifier_key t) h
+      (λ f. or_case (is_among function_keys t) (is_among further_function_keys t) f (of_among p function_keys t b.2) (of_among p further_function_keys t b.3))
+      (of_among p modifier_keys t b.4))))
+
+letter_text : (c : ℕ) → is_alphanumeric c ≡ true → is_text (c ∷ []) ≡ true
+letter_text c h = and_from (is_text_byte c) true (alphanumeric_byte c h) refl
 
 keysym_is_text : (t : List ℕ) → is_keysym t ≡ true → is_text t ≡ true
-unfolding is_keysym
-keysym_is_text t h =
-    or_case (is_some (keysym_char t)) _ h (char_text t)
-    (λ h. or_case (is_among editing_keys t) _ h (of_among is_text editing_keys t refl)
-    (λ h. or_case (is_among moving_keys t) _ h (of_among is_text moving_keys t refl)
-    (λ h. or_case (is_function_key t) (is_modifier_key t) h
-    (λ f. or_case (is_among function_keys t) (is_among further_function_keys t) f (of_among is_text function_keys t refl) (of_among is_text further_function_keys t refl))
-    (of_among is_text modifier_keys t refl))))
+keysym_is_text t h = keysym_so is_text letter_text t (refl, refl, refl, refl) (refl, refl, refl, refl, refl) h
 
 button_is_text : (t : List ℕ) → is_button t ≡ true → is_text t ≡ true
 button_is_text [] h = absurd cc

@@ -8,3 +8,5 @@ pub mod WholeTexts
 pub mod Legal
 pub mod Collecting
 pub mod Answering
+pub mod Bits
+pub mod SpelledBack

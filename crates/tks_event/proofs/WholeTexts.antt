@@ -42,17 +42,17 @@ closed_told m (c ∷ []) n v h e = absurd cc
 closed_told m (c ∷ d ∷ w) n v h e =
     cond_both (is_some_text m && ((c == 62) && (d == 62))) (Some (m, w)) None (λ o. o ≡ Some (n, v) → Named (60 ∷ 60 ∷ m ++ c ∷ d ∷ w) n v)
     (λ b f.
-      let p = and_parts (is_some_text m) ((c == 62) && (d == 62)) b in
-      let q = and_parts (c == 62) (d == 62) p.1 in
-      let same = some_pair (m, w) (n, v) f in
-      let name : m ≡ n = same.0 in
-      let rest : w ≡ v = same.1 in
-      let first = eqb-true c 62 q.0 in
-      let second = eqb-true d 62 q.1 in
-      record {
-        whole_text = cc;
-        name = subst (λ x. is_name x ≡ true) name (and_from (is_some_text m) (list_all is_name_char m) p.0 h);
-      })
+    let p = and_parts (is_some_text m) ((c == 62) && (d == 62)) b in
+    let q = and_parts (c == 62) (d == 62) p.1 in
+    let same = some_pair (m, w) (n, v) f in
+    let name : m ≡ n = same.0 in
+    let rest : w ≡ v = same.1 in
+    let first = eqb-true c 62 q.0 in
+    let second = eqb-true d 62 q.1 in
+    record {
+      whole_text = cc;
+      name = subst (λ x. is_name x ≡ true) name (and_from (is_some_text m) (list_all is_name_char m) p.0 h);
+    })
     (λ b f. absurd cc)
     e
 
@@ -69,12 +69,12 @@ virtual_told (c ∷ []) n v e = absurd cc
 virtual_told (c ∷ d ∷ t) n v e =
     cond_both ((c == 60) && (d == 60)) (name_at t) None (λ o. o ≡ Some (n, v) → Named (c ∷ d ∷ t) n v)
     (λ b f.
-      let q = and_parts (c == 60) (d == 60) b in
-      let first = eqb-true c 60 q.0 in
-      let second = eqb-true d 60 q.1 in
-      let h = name_told t n v f in
-      let same : c ∷ d ∷ t ≡ 60 ∷ 60 ∷ t = cc in
-      record { whole_text = same ∙ h.whole_text; name = h.name })
+    let q = and_parts (c == 60) (d == 60) b in
+    let first = eqb-true c 60 q.0 in
+    let second = eqb-true d 60 q.1 in
+    let h = name_told t n v f in
+    let same : c ∷ d ∷ t ≡ 60 ∷ 60 ∷ t = cc in
+    record { whole_text = same ∙ h.whole_text; name = h.name })
     (λ b f. absurd cc)
     e
 
@@ -167,10 +167,10 @@ module _ (t : List ℕ) (ps : List Pattern) where
   name_told_so n v h e =
       cond_both (is_blank_text v) (Some n) None (λ o. virtual_or_events o (some_events (patterns_in t)) ≡ Some ps → Spells t ps)
       (λ b f.
-        let same : virtual_one n ∷ [] ≡ ps = cc in
-        let k = prefix_len is_space t in
-        let text : t ≡ take k t ++ (60 ∷ 60 ∷ n ++ 62 ∷ 62 ∷ v) = sym (take-append-drop k t) ∙ ap (λ x. take k t ++ x) h.whole_text in
-        subst (Spells t) same (subst (λ x. Spells x (virtual_one n ∷ [])) (sym text) (virtual_event (take k t) n v (prefix_passes is_space t).0 h.name (all_pass is_space v b))))
+      let same : virtual_one n ∷ [] ≡ ps = cc in
+      let k = prefix_len is_space t in
+      let text : t ≡ take k t ++ (60 ∷ 60 ∷ n ++ 62 ∷ 62 ∷ v) = sym (take-append-drop k t) ∙ ap (λ x. take k t ++ x) h.whole_text in
+      subst (Spells t) same (subst (λ x. Spells x (virtual_one n ∷ [])) (sym text) (virtual_event (take k t) n v (prefix_passes is_space t).0 h.name (all_pass is_space v b))))
       (λ b f. events_told t (patterns_in t) ps refl f)
       e
 

@@ -5,3 +5,4 @@ pub mod Sequences
 pub mod Spelling
 pub mod Reading
 pub mod View
+pub mod Canonical

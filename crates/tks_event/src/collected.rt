@@ -21,8 +21,12 @@ pub(crate) struct Collected {
     pub is_too_long: bool,
 }
 
-// A pattern as it is written, close behind another or not.
-fn pattern_of(alloc: Global, written: &Written<'_>, near: bool) -> Result<Pattern, AllocError>
+/// A pattern as it is written, close behind another or not.
+pub(crate) fn pattern_of(
+    alloc: Global,
+    written: &Written<'_>,
+    near: bool,
+) -> Result<Pattern, AllocError>
     requires { IsText written.now.detail.now }
     ensures { IfOk result (λ p. p ≡ standing near (as_written written.now)) }
 {

@@ -11,11 +11,14 @@ mod parsing;
 mod pattern;
 mod reading;
 mod sequence;
+mod spelling;
 mod words;
 
+pub use collected::MAX_EVENTS;
 pub use keysym::{is_keysym, is_modifier_key, keysym_char};
 pub use kind::{Kind, is_button};
 pub use laws::{one_pattern, one_sequence};
 pub use modifiers::{Modifier, Modifiers};
+pub use parsing::{parse_pattern, parse_sequence};
 pub use pattern::{Pattern, Repeated};
 pub use sequence::Sequence;

@@ -5,15 +5,15 @@ ghost use Rattle.std.specs.Option.{option_map};
 ghost use Rattle.tks_text.specs.Fault.{Gives};
 ghost use Rattle.tks_text.specs.Integer.{is_space};
 ghost use Rattle.tks_text.specs.Text.{IsText};
-ghost use Rattle.tks_event.specs.Reading.{is_blank_text, named_before, virtual_at, patterns_in, sequence_of};
+ghost use Rattle.tks_event.specs.Reading.{is_blank_text, is_end, named_before, virtual_at, pattern_at, alone, pattern_of, one_pattern_of, patterns_in, sequence_of};
 ghost use Rattle.tks_event.specs.Sequences.{is_name};
 ghost use Rattle.tks_event.specs.Spelling.{virtual_one};
-ghost use Rattle.tks_event.specs.View.{bytes_seen, kept, none_kept, kept_after, SpellsSo};
+ghost use Rattle.tks_event.specs.View.{bytes_seen, kept, none_kept, kept_after, SpellsSo, SpellsPatternSo};
 
-use crate::collected::Collected;
+use crate::collected::{Collected, pattern_of};
 use crate::kind::Kind;
 use crate::modifiers::Modifiers;
-use crate::pattern::Pattern;
+use crate::pattern::{Pattern, Repeated};
 use crate::reading::{read_pattern, read_virtual};
 use crate::sequence::Sequence;
 use smallvec::SmallVec;
@@ -119,4 +119,66 @@ pub fn parse_sequence(alloc: Global, text: &Txt) -> Result<Sequence, Failure>
     ensures spells { SpellsSo result text.now }
 {
     read_sequence(alloc, text)
+}
+
+// The name of the virtual event that a text spells, with nothing behind it.
+fn whole_name(text: &[u8]) -> Option<&[u8]>
+    ensures { bytes_seen result ≡ named_before is_end (virtual_at text.now) }
+{
+    let (name, rest) = read_virtual(text)?;
+    match rest {
+        [] => Some(name),
+        _ => None,
+    }
+}
+
+// The pattern of physical events that a text is, with nothing behind it.
+fn whole_pattern(alloc: Global, text: &[u8]) -> Result<Option<Repeated>, AllocError>
+    requires { IsText text.now }
+    ensures { IfOk result (λ o. o ≡ alone (pattern_at text.now)) }
+{
+    let Some((written, rest)) = read_pattern(text) else {
+        return Ok(None);
+    };
+    if !rest.is_empty() {
+        return Ok(None);
+    }
+    let pattern = pattern_of(alloc, &written, false)?;
+    let times = written.times;
+    Ok(Some(Repeated { pattern, times }))
+}
+
+// The pattern that a text spells alone. `None` where it spells none.
+#[tactic(auto, unfolding(crate::specs::Reading::pattern_of))]
+fn read_one(alloc: Global, text: &[u8]) -> Result<Option<Repeated>, AllocError>
+    requires { IsText text.now }
+    ensures { IfOk result (λ o. o ≡ pattern_of text.now) }
+{
+    if let Some(name) = whole_name(text) {
+        let pattern = virtual_one(alloc, name)?;
+        return Ok(Some(Repeated { pattern, times: 1 }));
+    }
+    let found = whole_pattern(alloc, text)?;
+    Ok(found)
+}
+
+// The same, and the error where there is none.
+#[tactic(auto, unfolding(crate::specs::Reading::one_pattern_of))]
+fn read_alone(alloc: Global, text: &Txt) -> Result<Repeated, Failure>
+    ensures { Gives (λ r. r) result (one_pattern_of text.now) }
+{
+    let Some(pattern) = read_one(alloc, text.as_bytes())? else {
+        return Err(Failure::about(ErrorNumber::BadSequence, text));
+    };
+    Ok(pattern)
+}
+
+/// The pattern that a text spells alone, without white space around it, and how often its repeat word lets it come.
+/// `BadSequence`, about the whole text, where it spells none.
+#[tactic(auto, using(crate::proofs::Answering::pattern_so))]
+pub fn parse_pattern(alloc: Global, text: &Txt) -> Result<Repeated, Failure>
+    ensures value { Gives (λ r. r) result (one_pattern_of text.now) }
+    ensures spells { SpellsPatternSo result text.now }
+{
+    read_alone(alloc, text)
 }
