@@ -12,12 +12,15 @@ use Rattle.tks_text.specs.declared.fault.ErrorNumber.TheVariants as number
 use Rattle.tks_text.specs.declared.fault.ScriptFault.{ScriptFault}
 use Rattle.tks_text.specs.declared.fault.Failure.{Failure}
 use Rattle.tks_text.specs.declared.fault.Failure.TheVariants.{Script, NoMemory}
-use Rattle.tks_event.specs.Sequences.{all_events, events_of, max_events, is_name, is_name_char, is_some_text, is_sequence, is_physical_sequence, is_virtual_sequence}
+use Rattle.tks_event.specs.Sequences.{all_events, events_of, max_events, is_name, is_name_char, is_some_text, is_sequence, is_physical, may_follow, is_physical_sequence, is_virtual_sequence}
 use Rattle.tks_event.specs.Spelling.{virtual_one, Spells, SpellsPattern}
 use Rattle.tks_event.specs.Reading.{virtual_at, named_before, is_blank_text, patterns_in, some_events, virtual_or_events, spelled_list, within_max, sequence_of, pattern_of, or_bad, one_pattern_of}
 use Rattle.tks_event.specs.View.{Kept, none_kept, kept_with, all_kept, kept_after, SpellsSo, SpellsPatternSo}
 use Rattle.tks_event.specs.declared.pattern.Pattern.{Pattern}
 use Rattle.tks_event.specs.declared.pattern.Repeated.{Repeated}
+use Rattle.tks_text.proofs.Tests.{or_case}
+use Rattle.tks_event.specs.Canonical.{canonical}
+use Rattle.tks_event.proofs.SpelledBack.{spelled_back}
 use Rattle.tks_event.proofs.Legal.{spelled_legal}
 use Rattle.tks_event.proofs.WholeTexts.{Named, virtual_told, sequence_read, sequence_told, pattern_one}
 
@@ -169,3 +172,27 @@ unfolding one_pattern_of
 pattern_so t (Ok r) h = one_ok t (pattern_of t) r refl h
 pattern_so t (Err (Script fault)) h = one_so t (pattern_of t) fault refl h
 pattern_so t (Err NoMemory) h = tt
+
+-- ---- spelling and reading back
+
+few_physical : (ps : List Pattern) → is_physical_sequence ps ≡ true → nat_le (length ps) max_events ≡ true
+few_physical [] h = absurd cc
+few_physical (p ∷ ps) h =
+    let a = and_parts (not p.near) _ h in
+    let b = and_parts (is_physical p) _ a.1 in
+    (and_parts (may_follow p 3 ps) (nat_le (length (p ∷ ps)) max_events) b.1).1
+
+few_virtual : (ps : List Pattern) → is_virtual_sequence ps ≡ true → nat_le (length ps) max_events ≡ true
+few_virtual [] h = absurd cc
+few_virtual (p ∷ []) h = refl
+few_virtual (p ∷ q ∷ ps) h = absurd cc
+
+few_events : (ps : List Pattern) → is_sequence ps ≡ true → nat_le (length ps) max_events ≡ true
+unfolding is_sequence
+few_events ps h = or_case (is_physical_sequence ps) (is_virtual_sequence ps) h (few_physical ps) (few_virtual ps)
+
+pub reads_back : (ps : List Pattern) → is_sequence ps ≡ true → sequence_of (canonical ps) ≡ Ok ps
+unfolding sequence_of
+reads_back ps h =
+    ap (within_max (canonical ps)) (sequence_read (canonical ps) ps (spelled_back ps h))
+    ∙ ap (λ (b : Bool). if b then Ok ps else Err (fault_about number.TooManyEvents (canonical ps))) (few_events ps h)

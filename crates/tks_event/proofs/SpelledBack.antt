@@ -186,8 +186,8 @@ physical_spelled p n v h far few =
     let r = repeat_by p.kind p.detail (union_of p.modifiers all_modifiers) n (62 ∷ v) (modifiers_text p.modifiers all_modifiers ++ (kind_name p.kind ++ (detail_text p.detail ++ 62 ∷ v))) few l in
     let set : union_of p.modifiers all_modifiers ≡ p.modifiers = union_all p.modifiers (ltb-true p.modifiers all_bits b.0) in
     let same : repeated (suc n) (once p.kind (union_of p.modifiers all_modifiers) p.detail) ≡ record { pattern = p; times = suc n } =
-        ap (λ m. repeated (suc n) (once p.kind m p.detail)) set
-        ∙ ap (λ b. record { pattern = record { near = b; kind = p.kind; modifiers = p.modifiers; detail = p.detail }; times = suc n }) (sym far) in
+    ap (λ m. repeated (suc n) (once p.kind m p.detail)) set
+    ∙ ap (λ b. record { pattern = record { near = b; kind = p.kind; modifiers = p.modifiers; detail = p.detail }; times = suc n }) (sym far) in
     subst (λ t. PatternThen v (record { pattern = p; times = suc n }) (60 ∷ t)) (sym (regrouped (repeat_text (suc n)) (modifiers_text p.modifiers all_modifiers) (kind_name p.kind) (detail_text p.detail) v))
     (in_brackets r.words (record { pattern = p; times = suc n }) _ r.written (subst (Says r.words) same r.said))
 

@@ -1,7 +1,9 @@
-ghost use Rattle.std.specs.Prelude.{◌≡◌, ◌↔◌, List, ℕ, Some};
+ghost use Rattle.std.specs.Prelude.{◌≡◌, ◌↔◌, List, ℕ, Some, Ok, true};
+ghost use Rattle.tks_event.specs.Canonical.{canonical};
+ghost use Rattle.tks_event.specs.Sequences.{is_sequence};
 ghost use Rattle.tks_event.specs.declared.pattern.Pattern.{Pattern};
 ghost use Rattle.tks_event.specs.declared.pattern.Repeated.{Repeated};
-ghost use Rattle.tks_event.specs.Reading.{pattern_of, spelled_list};
+ghost use Rattle.tks_event.specs.Reading.{pattern_of, spelled_list, sequence_of};
 ghost use Rattle.tks_event.specs.Spelling.{SpellsPattern, Spells};
 
 /// Each text spells one list of patterns, the one that is read, or none.
@@ -12,4 +14,14 @@ pub fn one_sequence()
 /// Each text spells one pattern alone, the one that is read, or none.
 pub fn one_pattern()
     ensures { (t : List ℕ) (r : Repeated) → SpellsPattern t r ↔ (pattern_of t ≡ Some r) }
+{}
+
+/// The canonical spelling of each sequence spells that sequence.
+pub fn canonical_spells()
+    ensures { (ps : List Pattern) → is_sequence ps ≡ true → Spells (canonical ps) ps }
+{}
+
+/// The canonical spelling of each sequence is read as that sequence.
+pub fn canonical_reads_back()
+    ensures { (ps : List Pattern) → is_sequence ps ≡ true → sequence_of (canonical ps) ≡ Ok ps }
 {}

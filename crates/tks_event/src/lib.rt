@@ -2,6 +2,7 @@
 #![tactic(auto)]
 
 mod collected;
+mod event;
 mod keysym;
 mod kind;
 mod laws;
@@ -15,9 +16,10 @@ mod spelling;
 mod words;
 
 pub use collected::MAX_EVENTS;
+pub use event::Event;
 pub use keysym::{is_keysym, is_modifier_key, keysym_char};
 pub use kind::{Kind, is_button};
-pub use laws::{one_pattern, one_sequence};
+pub use laws::{canonical_reads_back, canonical_spells, one_pattern, one_sequence};
 pub use modifiers::{Modifier, Modifiers};
 pub use parsing::{parse_pattern, parse_sequence};
 pub use pattern::{Pattern, Repeated};
