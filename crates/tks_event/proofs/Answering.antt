@@ -1,10 +1,9 @@
 -- What the answers say.
-use Rattle.std.proofs.Common.{◌≡◌, ℕ, zero, suc, ◌+◌, ◌-◌, ◌<◌, ◌≤◌, Bool, true, false, not, ◌&&◌, ◌||◌, ◌==◌, cond, List, [], ◌∷◌, ◌++◌, append-nil, append_assoc, length, length-append, drop, Option, Some, None, Result, Ok, Err, refl, sym, ap, ◌∙◌, subst, arith}
+use Rattle.std.proofs.Common.{◌≡◌, ℕ, ◌+◌, ◌<◌, ◌≤◌, Bool, true, false, not, ◌&&◌, ◌||◌, ◌==◌, List, [], ◌∷◌, ◌++◌, append-nil, append_assoc, length, length-append, drop, Option, Some, None, Result, Ok, Err, refl, sym, ap, ◌∙◌, subst, arith}
 use Rattle.std.specs.Prelude.{nat_lt, nat_le, if◌then◌else◌, ◌⊎◌}
 use Rattle.std.specs.List.{list_all, prefix_len}
-use Rattle.std.specs.Option.{option_map}
 use Rattle.std.proofs.Common.{inl, inr}
-use Rattle.std.proofs.lemmas.Bool.{cond_both, and_parts, and_from, or_right, ltb-true, ltb-false, lt-ltb, le-ltb, leb-true, leb-false, le-leb, lt-leb, ne_eqb}
+use Rattle.std.proofs.lemmas.Bool.{cond_both, and_parts, and_from, or_right, ltb-true, ltb-false, leb-true, leb-false, le-leb, lt-leb, ne_eqb}
 use Rattle.tks_text.specs.Fault.{fault_about, Gives, TellsSo}
 use Rattle.tks_text.specs.Integer.{is_space}
 use Rattle.tks_text.specs.Text.{is_text_byte, IsText}
@@ -15,14 +14,14 @@ use Rattle.tks_text.specs.declared.fault.Failure.TheVariants.{Script, NoMemory}
 use Rattle.tks_event.specs.Sequences.{all_events, events_of, max_events, is_name, is_name_char, is_some_text, is_sequence, is_physical, may_follow, is_physical_sequence, is_virtual_sequence}
 use Rattle.tks_event.specs.Spelling.{virtual_one, Spells, SpellsPattern}
 use Rattle.tks_event.specs.Reading.{virtual_at, named_before, is_blank_text, patterns_in, some_events, virtual_or_events, spelled_list, within_max, sequence_of, pattern_of, or_bad, one_pattern_of}
-use Rattle.tks_event.specs.View.{Kept, none_kept, kept_with, all_kept, kept_after, SpellsSo, SpellsPatternSo}
+use Rattle.tks_event.specs.View.{Kept, none_kept, all_kept, kept_after, SpellsSo, SpellsPatternSo}
 use Rattle.tks_event.specs.declared.pattern.Pattern.{Pattern}
 use Rattle.tks_event.specs.declared.pattern.Repeated.{Repeated}
 use Rattle.tks_text.proofs.Tests.{or_case}
 use Rattle.tks_event.specs.Canonical.{canonical}
 use Rattle.tks_event.proofs.SpelledBack.{spelled_back}
 use Rattle.tks_event.proofs.Legal.{spelled_legal}
-use Rattle.tks_event.proofs.WholeTexts.{Named, virtual_told, sequence_read, sequence_told, pattern_one}
+use Rattle.tks_event.proofs.WholeTexts.{virtual_told, sequence_read, sequence_told, pattern_one}
 
 -- ---- names
 

@@ -1,11 +1,11 @@
 -- A set is the union of those of its modifiers.
-use Rattle.std.proofs.Common.{◌≡◌, ℕ, zero, suc, ◌+◌, ◌-◌, ◌*◌, ◌^◌, ◌<◌, ◌≤◌, min, max, Bool, true, false, not, ◌||◌, ◌==◌, cond, List, [], ◌∷◌, map, refl, sym, ap, ◌∙◌, subst, arith}
+use Rattle.std.proofs.Common.{◌≡◌, ℕ, zero, suc, ◌*◌, ◌^◌, ◌<◌, ◌≤◌, min, max, Bool, true, false, not, ◌||◌, ◌==◌, List, [], ◌∷◌, map, refl, sym, ap, ◌∙◌, arith}
 use Rattle.std.specs.Prelude.{bit_and, bit_or, if◌then◌else◌}
 use Rattle.std.specs.Int.{bit_at}
 use Rattle.std.specs.Int.Bits.{or_zero_r}
-use Rattle.std.proofs.lemmas.Nat.{or_lt, and_le_l}
-use Rattle.std.proofs.lemmas.Nat.Bits.{bit_at_or, bit_at_and, bit_at-zero, bit_at-pow_same, bit_at-pow_other, bit_at-lt, same_from_bits_below, and_pow}
-use Rattle.std.proofs.lemmas.Bool.{cond_both, eqb-true, eqb-false, agree_below_at, or_cases}
+use Rattle.std.proofs.lemmas.Nat.{and_le_l}
+use Rattle.std.proofs.lemmas.Nat.Bits.{bit_at_or, bit_at_and, bit_at-zero, bit_at-pow_same, bit_at-lt, same_from_bits_below, and_pow}
+use Rattle.std.proofs.lemmas.Bool.{cond_both, eqb-true, eqb-false, agree_below_at}
 use Rattle.std.proofs.Common.{◌⊎◌, inl, inr}
 use Rattle.tks_text.proofs.Tests.{or_case}
 use Rattle.tks_event.specs.Modifiers.{bit_of, has, all_modifiers}

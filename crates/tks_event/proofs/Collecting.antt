@@ -1,8 +1,8 @@
 -- Patterns that are collected.
-use Rattle.std.proofs.Common.{◌≡◌, ℕ, zero, suc, ◌+◌, ◌-◌, ◌<◌, ◌≤◌, Bool, true, false, not, ◌&&◌, ◌||◌, ◌==◌, cond, List, [], ◌∷◌, ◌++◌, append-nil, append_assoc, length, length-append, take, drop, Option, Some, None, Result, Ok, Err, refl, sym, ap, ◌∙◌, subst, arith, add-one}
-use Rattle.std.specs.Prelude.{nat_lt, nat_le, if◌then◌else◌, ◌⊎◌}
+use Rattle.std.proofs.Common.{◌≡◌, ℕ, zero, suc, ◌+◌, ◌-◌, ◌<◌, Bool, true, false, not, ◌&&◌, ◌||◌, List, [], ◌∷◌, ◌++◌, length, take, drop, Option, Some, None, refl, sym, ap, ◌∙◌, arith, add-one}
+use Rattle.std.specs.Prelude.{nat_lt, if◌then◌else◌}
 use Rattle.std.specs.Option.{option_map}
-use Rattle.std.proofs.lemmas.Bool.{cond_both, and_parts, and_from, and_cases, or_right, or_left, ltb-true, ltb-false, lt-ltb, le-ltb, leb-true, leb-false, le-leb, lt-leb, not-true, not-false}
+use Rattle.std.proofs.lemmas.Bool.{ltb-true, ltb-false, lt-ltb, le-ltb}
 use Rattle.std.specs.List.{prefix_len}
 use Rattle.std.proofs.lemmas.List.{take-append-drop}
 use Rattle.tks_text.specs.Integer.{is_space}
@@ -11,8 +11,8 @@ use Rattle.tks_text.proofs.Prefixes.{prefix_passes}
 use Rattle.tks_event.specs.Reading.{pattern_at, patterns_in}
 use Rattle.tks_event.proofs.Legal.{pattern_legal}
 use Rattle.tks_event.proofs.Spelled.{pattern_told, no_patterns, patterns_bad, spaces_passed, item_read}
-use Rattle.tks_event.specs.Sequences.{near_ones, events_of, all_events, max_events}
-use Rattle.tks_event.specs.View.{Kept, none_kept, kept_with, room, all_kept, kept_after, standing}
+use Rattle.tks_event.specs.Sequences.{near_ones, events_of, max_events}
+use Rattle.tks_event.specs.View.{Kept, kept_with, room, kept_after}
 use Rattle.tks_event.specs.declared.pattern.Pattern.{Pattern}
 use Rattle.tks_event.specs.declared.pattern.Repeated.{Repeated}
 

@@ -1,18 +1,18 @@
 -- Modifiers and repeat words before a type and a detail.
-use Rattle.std.proofs.Common.{◌≡◌, ℕ, suc, ◌+◌, ◌<◌, ◌≤◌, Bool, true, false, ◌&&◌, not, ◌==◌, cond, List, [], ◌∷◌, ◌++◌, Option, Some, None, refl, sym, ap, ◌∙◌, subst, arith}
-use Rattle.std.specs.Prelude.{bit_or, is_some, is_none, if◌then◌else◌}
+use Rattle.std.proofs.Common.{◌≡◌, ℕ, Bool, true, false, ◌&&◌, not, ◌==◌, List, [], ◌∷◌, Option, Some, None, refl, sym, ap, ◌∙◌, subst}
+use Rattle.std.specs.Prelude.{bit_or, is_none, if◌then◌else◌}
 use Rattle.std.specs.List.{list_all}
 use Rattle.std.specs.Option.{option_map}
 use Rattle.std.specs.Int.Bits.{or_zero_r}
 use Rattle.std.proofs.lemmas.Nat.{or_comm}
 use Rattle.std.proofs.lemmas.Bool.{cond_both, eqb-true, and_parts, not-true}
 use Rattle.tks_text.specs.Text.{same_text}
-use Rattle.tks_event.specs.Keysyms.{named_in, or_else, is_keysym, keysym_char}
+use Rattle.tks_event.specs.Keysyms.{named_in, or_else, is_keysym}
 use Rattle.tks_event.specs.Kinds.{kind_named, is_button}
 use Rattle.tks_event.specs.Modifiers.{modifier_named, key_modifiers, first_modifiers, later_modifiers, button_modifiers, later_button_modifiers, bit_of, with_modifier}
-use Rattle.tks_event.specs.Spelling.{repeats, times_named, with_more, repeated, once}
+use Rattle.tks_event.specs.Spelling.{repeats, times_named, with_more, repeated}
 use Rattle.tks_event.specs.Reading.{Words, with_char, with_word, begins_with_separator, words_at, only, both, named_by, said_by, said, repeated_once, then_behind, in_words}
-use Rattle.tks_event.specs.View.{no_lead, added_by, added, typed_words, under_lead, joined_lead, with_lead, led}
+use Rattle.tks_event.specs.View.{no_lead, added_by, added, typed_words, under_lead, led}
 use Rattle.tks_event.specs.declared.lead.Lead.{Lead}
 use Rattle.tks_event.specs.declared.kind.Kind.{Kind}
 use Rattle.tks_event.specs.declared.modifiers.Modifier.{Modifier}

@@ -1,16 +1,16 @@
 -- What is spelled is a sequence.
-use Rattle.std.proofs.Common.{◌≡◌, ℕ, zero, suc, ◌+◌, ◌-◌, ◌<◌, ◌≤◌, ◌⊎◌, inl, inr, Bool, true, false, not, ◌&&◌, ◌||◌, ◌==◌, cond, List, [], ◌∷◌, ◌++◌, append-nil, length, length-append, Option, Some, None, refl, sym, ap, ◌∙◌, subst, arith}
+use Rattle.std.proofs.Common.{◌≡◌, ℕ, zero, suc, ◌-◌, ◌<◌, ◌≤◌, Bool, true, false, not, ◌&&◌, ◌||◌, ◌==◌, List, [], ◌∷◌, ◌++◌, length, Option, Some, None, refl, sym, ap, ◌∙◌, subst, arith}
 use Rattle.std.specs.Prelude.{nat_lt, nat_le, bit_or, is_some, if◌then◌else◌}
 use Rattle.std.specs.List.{list_all}
-use Rattle.std.proofs.lemmas.Bool.{eqb-true, eq-eqb, cond_both, and_parts, and_from, or_left, or_right, or_cases, ltb-true, lt-ltb, leb-true, le-leb}
+use Rattle.std.proofs.lemmas.Bool.{eq-eqb, cond_both, and_parts, and_from, or_left, or_right, ltb-true, lt-ltb, leb-true, le-leb}
 use Rattle.tks_text.specs.Text.{same_text, is_text_byte, is_text, IsText}
 use Rattle.tks_text.proofs.Texts.{text_from_all}
 use Rattle.tks_text.proofs.Tests.{or_case}
 use Rattle.tks_event.specs.Keysyms.{named_in, or_else, is_among, is_alphanumeric, alphanumeric_of, first_signs, second_signs, third_signs, fourth_signs, keysym_char, editing_keys, moving_keys, function_keys, further_function_keys, modifier_keys, is_modifier_key, is_function_key, is_keysym, name_in, sign_name, keysym_of}
 use Rattle.tks_event.specs.Kinds.{kinds, kind_named, same_kind, is_button, is_detail}
 use Rattle.tks_event.specs.Modifiers.{bit_of, all_bits}
-use Rattle.tks_event.specs.Sequences.{near_ones, events_of, all_events, max_events, is_some_text, is_name, is_physical, same_pattern, may_follow, is_physical_sequence, is_virtual, is_virtual_sequence, is_sequence}
-use Rattle.tks_event.specs.Spelling.{repeats, times_named, with_more, repeated, once, Names, type, type_and_detail, button, keysym, Says, names, modifier, repeat, virtual_one, PatternThen, bare, in_brackets, SpellsPattern, physical, virtual, Patterns, no_more, pattern, Spells, events, virtual_event}
+use Rattle.tks_event.specs.Sequences.{near_ones, all_events, max_events, is_some_text, is_physical, same_pattern, may_follow, is_physical_sequence, is_virtual_sequence, is_sequence}
+use Rattle.tks_event.specs.Spelling.{repeats, once, Names, type, type_and_detail, button, keysym, Says, names, modifier, repeat, virtual_one, PatternThen, bare, in_brackets, Patterns, no_more, pattern, Spells, events, virtual_event}
 use Rattle.tks_event.specs.declared.kind.Kind.{Kind}
 use Rattle.tks_event.specs.declared.kind.Kind.TheVariants as kind
 use Rattle.tks_event.specs.declared.modifiers.Modifier.{Modifier}

@@ -1,9 +1,9 @@
 -- What words say, and what is read of them.
-use Rattle.std.proofs.Common.{◌≡◌, ℕ, zero, suc, ◌+◌, ◌<◌, ◌≤◌, Bool, true, false, not, ◌&&◌, ◌||◌, ◌==◌, cond, List, [], ◌∷◌, ◌++◌, length, Option, Some, None, refl, sym, ap, ◌∙◌, subst, arith}
+use Rattle.std.proofs.Common.{◌≡◌, ℕ, ◌<◌, Bool, true, false, not, ◌==◌, List, [], ◌∷◌, length, Option, Some, None, refl, ap, ◌∙◌, subst, arith}
 use Rattle.std.specs.Prelude.{is_none, if◌then◌else◌}
-use Rattle.std.specs.List.{AllByRecursion, list_all}
+use Rattle.std.specs.List.{list_all}
 use Rattle.std.specs.Option.{option_map}
-use Rattle.std.proofs.lemmas.Bool.{eqb-true, eq-eqb, cond_both, and_parts, and_left, and_right, not-true, not-false}
+use Rattle.std.proofs.lemmas.Bool.{eqb-true, eq-eqb, cond_both, and_left, and_right, not-true}
 use Rattle.tks_event.specs.Keysyms.{is_keysym}
 use Rattle.tks_event.specs.Kinds.{kinds, kind_named, is_button, is_detail}
 use Rattle.tks_event.specs.Modifiers.{modifier_named}

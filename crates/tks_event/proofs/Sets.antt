@@ -1,9 +1,9 @@
 -- Sets of modifiers as numbers.
-use Rattle.std.proofs.Common.{◌≡◌, ℕ, zero, suc, ◌+◌, ◌^◌, ◌<◌, ◌≤◌, min, max, refl, sym, ap, ◌∙◌, arith, add-suc}
-use Rattle.std.specs.Prelude.{bit_and, bit_or}
+use Rattle.std.proofs.Common.{◌≡◌, ℕ, ◌<◌, max, sym, ap, ◌∙◌, arith}
+use Rattle.std.specs.Prelude.{bit_or}
 use Rattle.std.specs.Int.{bit_at}
 use Rattle.std.proofs.lemmas.Nat.{or_lt}
-use Rattle.std.proofs.lemmas.Nat.Bits.{bit_at_or, bit_at_and, bit_at-zero, bit_at-pow_same, bit_at-pow_other, bit_at-lt, same_from_bits}
+use Rattle.std.proofs.lemmas.Nat.Bits.{bit_at_or, same_from_bits}
 
 pub or_within : (a b : ℕ) → a < 8_192 → b < 8_192 → bit_or a b < 8_192
 or_within a b h k = or_lt 13 a b h k

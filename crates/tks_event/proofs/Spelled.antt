@@ -1,23 +1,17 @@
 -- What is spelled so is read so, and what is read so is spelled so.
-use Rattle.std.proofs.Common.{◌≡◌, ◌↔◌, ℕ, zero, suc, ◌+◌, ◌-◌, ◌<◌, ◌≤◌, Bool, true, false, not, ◌&&◌, ◌||◌, ◌==◌, cond, List, [], ◌∷◌, ◌++◌, append-nil, append_assoc, length, length-append, take, drop, Option, Some, None, refl, sym, ap, ◌∙◌, subst, arith}
-use Rattle.std.proofs.Math.Seq.{take-append_seam}
-use Rattle.std.specs.Prelude.{nat_le, if◌then◌else◌}
-use Rattle.std.specs.List.{AllByRecursion, list_all, prefix_len}
+use Rattle.std.proofs.Common.{◌≡◌, ℕ, zero, suc, ◌+◌, ◌-◌, ◌≤◌, Bool, true, false, not, ◌||◌, ◌==◌, List, [], ◌∷◌, ◌++◌, append-nil, append_assoc, length, length-append, drop, Option, Some, None, refl, sym, ap, ◌∙◌, subst, arith}
+use Rattle.std.specs.Prelude.{nat_le}
 use Rattle.std.specs.Option.{option_map}
-use Rattle.std.proofs.lemmas.Bool.{eqb-true, cond_both, and_parts, leb-true, not-true, eqb-false}
-use Rattle.std.proofs.lemmas.List.{take-append-drop, drop_at, take_at}
-use Rattle.tks_text.proofs.Tests.{neither, or_case}
-use Rattle.tks_text.proofs.Prefixes.{prefix_of, prefix_passes, all_pass, passing_all}
-use Rattle.tks_text.proofs.Runs.{behind, run_stops, run_fails, run_takes}
+use Rattle.std.proofs.lemmas.Bool.{eqb-true, cond_both, and_parts, leb-true, not-true}
+use Rattle.std.proofs.lemmas.List.{drop_at}
+use Rattle.tks_text.proofs.Tests.{or_case}
+use Rattle.tks_text.proofs.Runs.{run_fails, run_takes}
 use Rattle.tks_text.specs.Integer.{is_space, AreSpaces}
 use Rattle.tks_text.specs.Text.{BeginsNot}
-use Rattle.tks_text.specs.Run.{Step, stop, fails, takes, Run, run, after_step}
-use Rattle.tks_event.specs.Keysyms.{is_keysym, keysym_of}
-use Rattle.tks_event.specs.Sequences.{all_events, is_name, is_name_char, is_some_text}
-use Rattle.tks_event.specs.Spelling.{is_bare, once, virtual_one, WordsThen, last, word, Says, PatternThen, bare, in_brackets, SpellsPattern, physical, virtual, Patterns, no_more, pattern, Spells, events, virtual_event}
-use Rattle.tks_event.specs.Reading.{Words, with_char, words_at, said, then_behind, in_words, pressed, pattern_at, name_closed, name_at, virtual_at, named_before, is_blank_text, is_end, alone, virtual_or, pattern_of, taken_pattern, pattern_step, whole, patterns_in, some_events, virtual_or_events, spelled_list}
-use Rattle.tks_event.specs.declared.kind.Kind.TheVariants as kind
-use Rattle.tks_event.specs.declared.pattern.Pattern.{Pattern}
+use Rattle.tks_text.specs.Run.{Step, fails, takes, Run, run, after_step}
+use Rattle.tks_event.specs.Keysyms.{keysym_of}
+use Rattle.tks_event.specs.Spelling.{is_bare, WordsThen, last, word, PatternThen, bare, in_brackets, Patterns, no_more, pattern}
+use Rattle.tks_event.specs.Reading.{Words, words_at, said, then_behind, in_words, pressed, pattern_at, taken_pattern, pattern_step, whole, patterns_in}
 use Rattle.tks_event.specs.declared.pattern.Repeated.{Repeated}
 use Rattle.tks_event.proofs.WordsTold.{words_spelled, words_told}
 use Rattle.tks_event.proofs.Saying.{said_spelled, says_told, says_filled}

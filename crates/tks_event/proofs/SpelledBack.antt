@@ -1,17 +1,16 @@
 -- The canonical spelling of a sequence spells it.
-use Rattle.std.proofs.Common.{◌≡◌, ℕ, zero, suc, ◌+◌, ◌-◌, ◌<◌, ◌≤◌, Bool, true, false, not, ◌&&◌, ◌||◌, ◌==◌, cond, List, [], ◌∷◌, ◌++◌, append-nil, append_assoc, length, Option, Some, None, refl, sym, ap, ◌∙◌, subst, arith}
+use Rattle.std.proofs.Common.{◌≡◌, ℕ, zero, suc, ◌+◌, ◌-◌, ◌<◌, ◌≤◌, Bool, true, false, not, ◌&&◌, ◌||◌, ◌==◌, List, [], ◌∷◌, ◌++◌, append-nil, append_assoc, Some, refl, sym, ap, ◌∙◌, subst, arith}
 use Rattle.std.specs.Prelude.{codes, nat_lt, nat_le, bit_or, if◌then◌else◌}
-use Rattle.std.specs.List.{AllByRecursion, list_all, prefix_len}
-use Rattle.std.proofs.lemmas.Bool.{eqb-true, cond_both, and_parts, and_from, and_left, or_cases, ltb-true, leb-true, agree_below_at, not-true}
+use Rattle.std.specs.List.{AllByRecursion, list_all}
+use Rattle.std.proofs.lemmas.Bool.{eqb-true, cond_both, and_parts, and_from, ltb-true, leb-true, agree_below_at, not-true}
 use Rattle.tks_text.specs.Text.{same_text}
-use Rattle.tks_text.proofs.Prefixes.{all_pass}
 use Rattle.tks_text.proofs.Tests.{or_case}
 use Rattle.tks_event.specs.Canonical.{dashed, repeat_text, modifiers_text, detail_text, physical_text, virtual_text, pattern_text, near_count, canonical}
 use Rattle.tks_event.specs.Keysyms.{is_alphanumeric, is_keysym}
 use Rattle.tks_event.specs.Kinds.{kind_named, kind_name, same_kind, is_button, is_detail}
 use Rattle.tks_event.specs.Modifiers.{bit_of, all_bits, has, modifier_named, modifier_name, all_modifiers}
-use Rattle.tks_event.specs.Sequences.{near_ones, events_of, all_events, max_events, is_some_text, is_name, is_physical, same_pattern, may_follow, is_physical_sequence, is_virtual, is_virtual_sequence, is_sequence}
-use Rattle.tks_event.specs.Spelling.{times_named, ends_word, IsWord, WordsThen, last, word, once, with_more, repeated, Says, names, modifier, repeat, type, type_and_detail, virtual_one, PatternThen, in_brackets, Patterns, no_more, pattern, Spells, events, virtual_event}
+use Rattle.tks_event.specs.Sequences.{near_ones, all_events, is_some_text, is_name, is_physical, same_pattern, may_follow, is_physical_sequence, is_virtual_sequence, is_sequence}
+use Rattle.tks_event.specs.Spelling.{times_named, ends_word, IsWord, WordsThen, last, word, once, repeated, Says, names, modifier, repeat, type, type_and_detail, virtual_one, PatternThen, in_brackets, Patterns, no_more, pattern, Spells, events, virtual_event}
 use Rattle.tks_event.specs.declared.kind.Kind.{Kind}
 use Rattle.tks_event.specs.declared.kind.Kind.TheVariants as kind
 use Rattle.tks_event.specs.declared.modifiers.Modifier.{Modifier}

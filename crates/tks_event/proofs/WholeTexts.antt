@@ -1,8 +1,8 @@
 -- The sequence that a text spells, and the one that is read.
-use Rattle.std.proofs.Common.{◌≡◌, ◌↔◌, ℕ, zero, suc, ◌+◌, ◌-◌, ◌<◌, ◌≤◌, Bool, true, false, not, ◌&&◌, ◌||◌, ◌==◌, cond, List, [], ◌∷◌, ◌++◌, append-nil, append_assoc, length, take, drop, Option, Some, None, refl, sym, ap, ◌∙◌, subst, arith}
+use Rattle.std.proofs.Common.{◌≡◌, ◌↔◌, ℕ, Bool, true, ◌&&◌, ◌==◌, List, [], ◌∷◌, ◌++◌, length, take, drop, Option, Some, None, refl, sym, ap, ◌∙◌, subst}
 use Rattle.std.proofs.Math.Seq.{take-append_seam}
 use Rattle.std.specs.Prelude.{if◌then◌else◌}
-use Rattle.std.specs.List.{AllByRecursion, list_all, prefix_len}
+use Rattle.std.specs.List.{list_all, prefix_len}
 use Rattle.std.proofs.lemmas.Bool.{eqb-true, cond_both, and_parts, and_from}
 use Rattle.std.proofs.lemmas.List.{take-append-drop, drop_at}
 use Rattle.tks_text.proofs.Prefixes.{prefix_of, prefix_passes, all_pass, passing_all}
@@ -10,8 +10,8 @@ use Rattle.tks_text.specs.Integer.{is_space, AreSpaces}
 use Rattle.tks_text.specs.Text.{BeginsNot}
 use Rattle.tks_event.specs.Keysyms.{is_keysym}
 use Rattle.tks_event.specs.Sequences.{all_events, is_name, is_name_char, is_some_text}
-use Rattle.tks_event.specs.Spelling.{virtual_one, PatternThen, SpellsPattern, physical, virtual, Patterns, no_more, pattern, Spells, events, virtual_event}
-use Rattle.tks_event.specs.Reading.{Words, with_char, with_word, words_at, said, then_behind, in_words, pattern_at, name_closed, name_at, virtual_at, named_before, is_blank_text, is_end, alone, virtual_or, pattern_of, patterns_in, some_events, virtual_or_events, spelled_list}
+use Rattle.tks_event.specs.Spelling.{virtual_one, PatternThen, SpellsPattern, physical, virtual, Patterns, pattern, Spells, events, virtual_event}
+use Rattle.tks_event.specs.Reading.{Words, with_char, words_at, said, then_behind, in_words, pattern_at, name_closed, name_at, virtual_at, named_before, is_blank_text, is_end, alone, virtual_or, pattern_of, patterns_in, some_events, virtual_or_events, spelled_list}
 use Rattle.tks_event.specs.declared.pattern.Pattern.{Pattern}
 use Rattle.tks_event.specs.declared.pattern.Repeated.{Repeated}
 use Rattle.tks_event.proofs.Spelled.{pattern_spelled, pattern_told, pattern_begins, patterns_spelled, patterns_told}

@@ -1,9 +1,9 @@
 -- Words in brackets, as they are read.
-use Rattle.std.proofs.Common.{◌≡◌, ℕ, zero, suc, ◌+◌, ◌<◌, ◌≤◌, Bool, true, false, not, ◌||◌, ◌==◌, cond, List, [], ◌∷◌, ◌++◌, append-nil, append_assoc, length, take, drop, Option, Some, None, refl, sym, ap, ◌∙◌, subst, arith, take-append-drop}
+use Rattle.std.proofs.Common.{◌≡◌, ℕ, suc, ◌+◌, Bool, true, false, not, ◌==◌, List, [], ◌∷◌, ◌++◌, append-nil, take, drop, Some, None, refl, sym, ap, ◌∙◌, subst, arith, take-append-drop}
 use Rattle.std.specs.List.{AllByRecursion, prefix_len}
 use Rattle.std.proofs.lemmas.Bool.{eqb-true, cond_both}
 use Rattle.tks_text.proofs.Tests.{neither, or_case}
-use Rattle.tks_event.specs.Spelling.{is_separator, ends_word, IsWord, IsSeparation}
+use Rattle.tks_event.specs.Spelling.{is_separator, ends_word}
 use Rattle.tks_event.specs.Reading.{Words, with_char, with_word, begins_with_separator, words_at}
 use Rattle.tks_event.specs.View.{word_then}
 

@@ -1,8 +1,8 @@
 -- The words that a text is, and those that are read.
-use Rattle.std.proofs.Common.{◌≡◌, ℕ, zero, suc, ◌+◌, ◌<◌, ◌≤◌, Bool, true, false, not, ◌||◌, ◌==◌, cond, List, [], ◌∷◌, ◌++◌, append-nil, append_assoc, length, Option, Some, None, refl, sym, ap, ◌∙◌, subst, arith}
+use Rattle.std.proofs.Common.{◌≡◌, ℕ, ◌<◌, true, false, ◌==◌, List, [], ◌∷◌, ◌++◌, length, Some, None, refl, sym, ap, ◌∙◌, subst, arith}
 use Rattle.std.specs.List.{AllByRecursion}
 use Rattle.std.proofs.lemmas.Bool.{eqb-true, cond_both}
-use Rattle.tks_text.proofs.Tests.{neither, or_case}
+use Rattle.tks_text.proofs.Tests.{neither}
 use Rattle.tks_event.specs.Spelling.{is_separator, ends_word, IsWord, IsSeparation, WordsThen, last, word}
 use Rattle.tks_event.specs.Reading.{Words, with_char, with_word, begins_with_separator, words_at}
 use Rattle.tks_event.proofs.WordsRead.{NoEnd, last_word, word_before}

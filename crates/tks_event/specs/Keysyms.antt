@@ -1,5 +1,5 @@
 -- Keysyms, the names of keys (keysyms(n)). Which ones there are is this project's own choice.
-use Rattle.std.specs.Prelude.{ℕ, Bool, true, false, ◌||◌, ◌&&◌, ◌==◌, nat_le, is_some, List, [], ◌∷◌, Option, Some, None, codes, if◌then◌else◌}
+use Rattle.std.specs.Prelude.{ℕ, Bool, false, ◌||◌, ◌&&◌, ◌==◌, nat_le, is_some, List, [], ◌∷◌, Option, Some, None, codes, if◌then◌else◌}
 use Rattle.tks_text.specs.Text.{same_text}
 
 -- what a table has under a name

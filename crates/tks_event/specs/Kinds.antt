@@ -1,5 +1,5 @@
 -- Kinds of events, their names and details (bind(n), "Event types"). Which kinds there are is this project's own choice.
-use Rattle.std.specs.Prelude.{ℕ, Bool, true, false, ◌&&◌, ◌==◌, nat_le, List, [], ◌∷◌, Option, codes}
+use Rattle.std.specs.Prelude.{ℕ, Bool, true, false, ◌&&◌, nat_le, List, [], ◌∷◌, Option, codes}
 use Rattle.tks_event.specs.Keysyms.{named_in, is_keysym}
 use Rattle.tks_event.specs.declared.kind.Kind.{Kind}
 use Rattle.tks_event.specs.declared.kind.Kind.TheVariants as kind

@@ -1,11 +1,10 @@
 -- The sequence that a text spells, read from left to right.
-use Rattle.std.specs.Prelude.{◌≡◌, ℕ, zero, suc, ◌+◌, ◌-◌, Bool, true, false, not, ◌&&◌, ◌||◌, ◌==◌, nat_lt, nat_le, List, [], ◌∷◌, ◌++◌, length, take, drop, Option, Some, None, Result, Ok, Err, if◌then◌else◌}
+use Rattle.std.specs.Prelude.{ℕ, ◌-◌, Bool, true, false, ◌&&◌, ◌==◌, nat_le, List, [], ◌∷◌, length, take, drop, Option, Some, None, Result, Ok, Err, if◌then◌else◌}
 use Rattle.std.specs.List.{prefix_len, list_all}
 use Rattle.std.specs.Option.{option_map}
 use Rattle.tks_text.specs.Fault.{fault_about}
 use Rattle.tks_text.specs.Integer.{is_space}
-use Rattle.tks_text.specs.Run.{Step, stop, fails, takes, Run, run}
-use Rattle.tks_text.specs.declared.fault.ErrorNumber.{ErrorNumber}
+use Rattle.tks_text.specs.Run.{Step, stop, fails, takes, run}
 use Rattle.tks_text.specs.declared.fault.ErrorNumber.TheVariants as number
 use Rattle.tks_text.specs.declared.fault.ScriptFault.{ScriptFault}
 use Rattle.tks_event.specs.Keysyms.{is_keysym, keysym_of}
@@ -145,9 +144,6 @@ unfoldable pub pattern_of : List ℕ → Option Repeated
 pattern_of t = virtual_or (named_before is_end (virtual_at t)) (alone (pattern_at t))
 
 -- ---- sequences
-
-abbrev pub no_pattern : Unit {0}
-no_pattern = tt
 
 abbrev pub taken_pattern : ℕ → Option (Repeated × List ℕ) → Step (Unit {0}) (List Repeated)
 taken_pattern n None = fails tt

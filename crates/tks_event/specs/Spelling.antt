@@ -2,7 +2,7 @@
 -- no separator stands at its ends, is this project's own choice.
 --
 -- "t is X, then v" says that X stands at the front of t, and v behind it.
-use Rattle.std.specs.Prelude.{◌≡◌, ℕ, ◌<◌, Bool, true, false, not, ◌&&◌, ◌||◌, ◌==◌, nat_le, bit_or, List, [], ◌∷◌, ◌++◌, length, Option, Some, None, codes}
+use Rattle.std.specs.Prelude.{◌≡◌, ℕ, ◌<◌, Bool, true, false, not, ◌&&◌, ◌||◌, ◌==◌, nat_le, bit_or, List, [], ◌∷◌, ◌++◌, length, Option, Some, codes}
 use Rattle.std.specs.List.{AllByRecursion}
 use Rattle.tks_text.specs.Integer.{is_space, AreSpaces}
 use Rattle.tks_event.specs.Keysyms.{named_in, is_keysym, keysym_of}

@@ -6,7 +6,7 @@ use Rattle.std.specs.List.{prefix_len}
 use Rattle.tks_event.specs.Keysyms.{keysym_of}
 use Rattle.tks_event.specs.Modifiers.{modifier_named, with_modifier}
 use Rattle.tks_event.specs.Sequences.{events_of, max_events}
-use Rattle.tks_event.specs.Spelling.{is_separator, times_named, repeated, SpellsPattern, Spells}
+use Rattle.tks_event.specs.Spelling.{is_separator, times_named, SpellsPattern, Spells}
 use Rattle.tks_text.specs.Fault.{fault_about}
 use Rattle.tks_text.specs.declared.fault.ErrorNumber.TheVariants as number
 use Rattle.tks_text.specs.declared.fault.Failure.{Failure}

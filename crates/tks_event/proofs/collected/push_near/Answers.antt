@@ -1,4 +1,4 @@
-use Rattle.std.proofs.Common.{◌≡◌, ◌++◌, ◌∷◌, [], append_assoc, ap, ◌∙◌, false, true}
+use Rattle.std.proofs.Common.{◌++◌, ◌∷◌, [], append_assoc, ap, ◌∙◌, false, true}
 use Rattle.tks_event.specs.Sequences.{near_ones}
 use Rattle.tks_event.specs.View.{written, standing}
 use Rattle.tks_event.proofs.Collecting.{near_more}

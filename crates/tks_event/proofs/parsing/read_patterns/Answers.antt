@@ -1,10 +1,10 @@
-use Rattle.std.proofs.Common.{◌≡◌, ◌<◌, ℕ, List, sym, ap, subst, ◌∙◌, arith, length, Some, None}
+use Rattle.std.proofs.Common.{◌<◌, sym, ap, subst, ◌∙◌, arith, length}
 use Rattle.std.proofs.lemmas.Bool.{eqb-true, eqb-false}
 use Rattle.tks_text.proofs.Texts.{text_drop}
 use Rattle.tks_text.specs.Integer.{is_space}
 use Rattle.tks_text.specs.Text.{IsText, BeginsNot}
-use Rattle.tks_event.specs.Reading.{pattern_at, patterns_in}
-use Rattle.tks_event.specs.View.{written, kept, none_kept, kept_after}
+use Rattle.tks_event.specs.Reading.{patterns_in}
+use Rattle.tks_event.specs.View.{written, kept, kept_after}
 use Rattle.tks_event.proofs.Collecting.{spaces_behind, begins_behind, kept_item, kept_end, kept_bad, detail_is_text}
 use Rattle.tks_event.proofs.parsing.read_patterns.Goals as goal
 

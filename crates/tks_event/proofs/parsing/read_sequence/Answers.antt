@@ -1,9 +1,9 @@
-use Rattle.std.proofs.Common.{◌≡◌, ◌==◌, sym, ap, subst, ◌∙◌, length, Option, Some, None, Ok}
+use Rattle.std.proofs.Common.{sym, ap, ◌∙◌, Ok}
 use Rattle.std.specs.Option.{option_map}
 use Rattle.tks_text.specs.Fault.{fault_about}
 use Rattle.tks_text.specs.declared.fault.ErrorNumber.TheVariants as number
-use Rattle.tks_event.specs.Reading.{is_blank_text, named_before, virtual_at, sequence_of}
-use Rattle.tks_event.specs.View.{Kept, bytes_seen, kept}
+use Rattle.tks_event.specs.Reading.{is_blank_text, sequence_of}
+use Rattle.tks_event.specs.View.{kept}
 use Rattle.tks_event.proofs.Answering.{found_name, virtual_at_behind, events_at, finished, long_answer, empty_answer, full_answer, tells, answer_legal}
 use Rattle.tks_event.proofs.parsing.read_sequence.Goals as goal
 

@@ -1,4 +1,4 @@
-use Rattle.std.proofs.Common.{◌≡◌, ◌∙◌, sym, ap, arith}
+use Rattle.std.proofs.Common.{◌∙◌, sym, ap, arith}
 use Rattle.tks_event.specs.Reading.{words_at, in_words}
 use Rattle.tks_event.specs.View.{led}
 use Rattle.tks_event.proofs.Leads.{led_start, led_longer, led_last, led_typed}

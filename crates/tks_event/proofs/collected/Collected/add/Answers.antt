@@ -2,7 +2,7 @@ use Rattle.std.proofs.Common.{◌≡◌, ◌++◌, ◌∷◌, [], ◌-◌, appen
 use Rattle.std.proofs.lemmas.Bool.{and_parts, not-true}
 use Rattle.tks_event.specs.Sequences.{near_ones, events_of}
 use Rattle.tks_event.specs.View.{written as as_written}
-use Rattle.tks_event.specs.View.{Kept, standing, kept, kept_with, room}
+use Rattle.tks_event.specs.View.{kept, room}
 use Rattle.tks_event.specs.declared.pattern.Pattern.{Pattern}
 use Rattle.tks_event.proofs.Collecting.{kept_full, kept_more}
 use Rattle.tks_event.proofs.collected.Collected.add.Goals as goal
