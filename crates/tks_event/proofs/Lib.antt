@@ -1,0 +1,12 @@
+pub mod Sets
+pub mod WordsRead
+pub mod Leads
+pub mod WordsTold
+pub mod Saying
+pub mod Spelled
+pub mod WholeTexts
+pub mod Legal
+pub mod Collecting
+pub mod Answering
+pub mod Bits
+pub mod SpelledBack

@@ -1,0 +1,27 @@
+ghost use Rattle.std.specs.Prelude.{◌≡◌, ◌↔◌, List, ℕ, Some, Ok, true};
+ghost use Rattle.tks_event.specs.Canonical.{canonical};
+ghost use Rattle.tks_event.specs.Sequences.{is_sequence};
+ghost use Rattle.tks_event.specs.declared.pattern.Pattern.{Pattern};
+ghost use Rattle.tks_event.specs.declared.pattern.Repeated.{Repeated};
+ghost use Rattle.tks_event.specs.Reading.{pattern_of, spelled_list, sequence_of};
+ghost use Rattle.tks_event.specs.Spelling.{SpellsPattern, Spells};
+
+/// Each text spells one list of patterns, the one that is read, or none.
+pub fn one_sequence()
+    ensures { (t : List ℕ) (ps : List Pattern) → Spells t ps ↔ (spelled_list t ≡ Some ps) }
+{}
+
+/// Each text spells one pattern alone, the one that is read, or none.
+pub fn one_pattern()
+    ensures { (t : List ℕ) (r : Repeated) → SpellsPattern t r ↔ (pattern_of t ≡ Some r) }
+{}
+
+/// The canonical spelling of each sequence spells that sequence.
+pub fn canonical_spells()
+    ensures { (ps : List Pattern) → is_sequence ps ≡ true → Spells (canonical ps) ps }
+{}
+
+/// The canonical spelling of each sequence is read as that sequence.
+pub fn canonical_reads_back()
+    ensures { (ps : List Pattern) → is_sequence ps ≡ true → sequence_of (canonical ps) ≡ Ok ps }
+{}

@@ -1,0 +1,26 @@
+//! Events, and the patterns and sequences of events that bindings are made for.
+#![tactic(auto)]
+
+mod collected;
+mod event;
+mod keysym;
+mod kind;
+mod laws;
+mod lead;
+mod modifiers;
+mod parsing;
+mod pattern;
+mod reading;
+mod sequence;
+mod spelling;
+mod words;
+
+pub use collected::MAX_EVENTS;
+pub use event::Event;
+pub use keysym::{is_keysym, is_modifier_key, keysym_char};
+pub use kind::{Kind, is_button};
+pub use laws::{canonical_reads_back, canonical_spells, one_pattern, one_sequence};
+pub use modifiers::{Modifier, Modifiers};
+pub use parsing::{parse_pattern, parse_sequence};
+pub use pattern::{Pattern, Repeated};
+pub use sequence::Sequence;
