@@ -31,8 +31,6 @@ impl Host for Counter {
 
     ghost state = { λ c. c.count };
 
-    ghost use Rattle.std.specs.Prelude.{Unit};
-
     ghost Place = { Unit {0} };
 
     ghost place = { λ _. tt };

@@ -30,8 +30,6 @@ impl Host for WorldHost {
 
     ghost state = { λ h. h.setting };
 
-    ghost use Rattle.std.specs.Prelude.{Unit};
-
     ghost Place = { Unit {0} };
 
     ghost place = { λ _. tt };
