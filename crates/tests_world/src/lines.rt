@@ -83,17 +83,20 @@ fn told(end: &Result<RunEnd, RunFault>) -> &'static str {
 }
 
 // What a session of a grid of 20 by 3 writes for an input, and then how the run ends.
-fn talk<R: BufRead>(alloc: Global, reader: &mut R) -> Option<String> {
+fn talk<R: BufRead>(alloc: Global, reader: &mut R) -> Option<Vec<u8>> {
     let mut session = Plain::new(alloc, first_world(alloc, 20, 3)?);
     let mut written = Vec::new(alloc);
     let end = run(alloc, reader, &mut written, &mut session);
     written.extend_from_slice(told(&end).as_bytes()).ok()?;
-    String::from_utf8(written).ok()
+    Some(written)
 }
 
-// Whether an input is answered so.
-fn answers(alloc: Global, mut input: &[u8], want: &str) -> bool {
-    talk(alloc, &mut input).is_some_and(|talked| talked.as_str() == want)
+// Whether a reader is answered so.
+fn answers<R: BufRead>(alloc: Global, reader: &mut R, want: &str) -> bool {
+    match talk(alloc, reader) {
+        Some(talked) => talked.as_slice() == want.as_bytes(),
+        None => false,
+    }
 }
 
 #[test]
@@ -110,7 +113,8 @@ fn runs_end_so(rt: HostRuntime) {
         (b"load 8\nset a 2\nquit\n", "ok 1 2\nbye\nquit"),
     ];
     for (input, want) in rows {
-        assert!(rt; answers(rt.alloc(), input, want), "before {want}");
+        let mut reader = input;
+        assert!(rt; answers(rt.alloc(), &mut reader, want), "before {want}");
     }
 }
 
@@ -118,8 +122,7 @@ fn runs_end_so(rt: HostRuntime) {
 #[test]
 fn the_rest_stays(rt: HostRuntime) {
     let mut reader: &[u8] = b"cmd\nquit\ncmd\n";
-    let talked = talk(rt.alloc(), &mut reader);
-    assert!(rt; talked.is_some_and(|talked| talked.as_str() == "ok 1\nbye\nquit"));
+    assert!(rt; answers(rt.alloc(), &mut reader, "ok 1\nbye\nquit"));
     assert_eq!(rt; reader, b"cmd\n".as_slice());
 }
 
@@ -147,11 +150,18 @@ const LONG: [(&str, &str, usize, &str); 10] = [
     ("load 1048576\nset x 5", " ", 1_048_569, "refused bad\nerror 1 E11 x\nend"),
 ];
 
+// Whether such a long line is answered so.
+fn answers_long(alloc: Global, front: &str, text: &str, count: usize, want: &str) -> Option<bool> {
+    let input = repeated(alloc, front, text, count)?;
+    let mut reader = input.as_slice();
+    Some(answers(alloc, &mut reader, want))
+}
+
 #[test]
 fn long_lines(rt: HostRuntime) {
     for (front, text, count, want) in LONG {
-        let input = repeated(rt.alloc(), front, text, count);
-        assert!(rt; input.is_some_and(|input| answers(rt.alloc(), &input, want)), "at {count}");
+        let is_right = answers_long(rt.alloc(), front, text, count, want);
+        assert_eq!(rt; is_right, Some(true), "at {count}");
     }
 }
 
@@ -167,8 +177,7 @@ fn a_reader_that_breaks(rt: HostRuntime) {
             rest,
             interrupts: false,
         };
-        let talked = talk(rt.alloc(), &mut reader);
-        assert!(rt; talked.is_some_and(|talked| talked.as_str() == want), "before {want}");
+        assert!(rt; answers(rt.alloc(), &mut reader, want), "before {want}");
     }
 }
 

@@ -8,8 +8,11 @@ use tks_tree::WindowId;
 
 // The path of a window.
 fn path_of(alloc: Global, world: &World, window: WindowId) -> Option<String> {
+    let Some(window) = world.tree().window(window) else {
+        return None;
+    };
     let mut path = String::new(alloc);
-    for byte in world.tree().window(window)?.path.as_bytes() {
+    for byte in window.path.as_bytes() {
         path.push(*byte as char).ok()?;
     }
     Some(path)
@@ -51,11 +54,15 @@ frame .f;frame .f.a -width 3 -height 2;frame .f.a.x -width 8 -height 1;pack .f.a
 #[test]
 fn windows_lie_where_they_lie_in_wish(rt: HostRuntime) {
     for row in rows().lines() {
-        let (script, want) = row.split_once(" => ").unwrap_or((row, "no answer"));
-        let told = world_of(rt.alloc(), 20, 10, script)
-            .and_then(|world| places(rt.alloc(), &world));
-        assert!(rt; told.is_some_and(|told| told.as_str() == want), "at {script}");
+        assert_eq!(rt; lies(rt.alloc(), row), Some(true), "at {row}");
     }
+}
+
+// Whether the windows of a row lie where it says.
+fn lies(alloc: Global, row: &str) -> Option<bool> {
+    let (script, want) = row.split_once(" => ")?;
+    let world = world_of(alloc, 20, 10, script)?;
+    Some(places(alloc, &world)?.as_str() == want)
 }
 
 // The last character of the path of the window in each cell, row by row.
@@ -71,14 +78,16 @@ fn seen(alloc: Global, world: &World) -> Option<String> {
     Some(seen)
 }
 
+// Whether each cell shows the window that covers it, and none is seen outside.
+fn shows_each(alloc: Global) -> Option<bool> {
+    let script = "frame .f;label .f.a -text abc;pack .f.a -side left;pack .f -anchor w";
+    let world = world_of(alloc, 20, 3, script)?;
+    let want = "aaa.........................................................";
+    let outside = window_at(&world, 20, 0).ok()?;
+    Some(seen(alloc, &world)?.as_str() == want && outside.is_none())
+}
+
 #[test]
 fn each_cell_shows_its_window(rt: HostRuntime) {
-    let script = "frame .f;label .f.a -text abc;pack .f.a -side left;pack .f -anchor w";
-    let Some(world) = world_of(rt.alloc(), 20, 3, script) else {
-        return assert!(rt; false, "no world");
-    };
-    let want = "aaa.........................................................";
-    let told = seen(rt.alloc(), &world);
-    assert!(rt; told.is_some_and(|told| told.as_str() == want));
-    assert!(rt; matches!(window_at(&world, 20, 0), Ok(None)));
+    assert_eq!(rt; shows_each(rt.alloc()), Some(true));
 }

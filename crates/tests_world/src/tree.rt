@@ -18,8 +18,11 @@ fn planted(alloc: Global, paths: &str) -> Option<Tree> {
 fn next(tree: &Tree, from: WindowId, path: &str) -> Option<WindowId> {
     let next = tree.next_in_focus_order(from, |_| true).ok()?;
     let back = tree.previous_in_focus_order(next, |_| true).ok()?;
-    let is_path = tree.window(next)?.path.as_bytes() == path.as_bytes();
-    if is_path && back.number() == from.number() {
+    match tree.window(next) {
+        Some(window) if window.path.as_bytes() == path.as_bytes() => {}
+        _ => return None,
+    }
+    if back.number() == from.number() {
         Some(next)
     } else {
         None
@@ -91,7 +94,10 @@ fn left(alloc: Global, number: u64) -> Option<String> {
     let mut paths = String::new(alloc);
     paths.push(if is_refused { '!' } else { ' ' }).ok()?;
     for place in 0..tree.len() {
-        for byte in tree.nth(place)?.path.as_bytes() {
+        let Some(window) = tree.nth(place) else {
+            return None;
+        };
+        for byte in window.path.as_bytes() {
             paths.push(*byte as char).ok()?;
         }
         paths.push(' ').ok()?;
@@ -109,7 +115,7 @@ fn windows_go_with_those_in_them(rt: HostRuntime) {
         (6, " . .a .ab .a.b .a.b.c .ab.d "),
     ];
     for (number, want) in table {
-        let left = left(rt.alloc(), number);
-        assert!(rt; left.is_some_and(|left| left.as_str() == want), "at {number}");
+        let left = left(rt.alloc(), number).unwrap_or(String::new(rt.alloc()));
+        assert_eq!(rt; left.as_str(), want, "at {number}");
     }
 }
