@@ -138,16 +138,46 @@ fn repeated(alloc: Global, front: &str, text: &str, count: usize) -> Option<Vec<
 
 // Long lines: the steps of an input, the bytes of a script, of a line, of a load.
 const LONG: [(&str, &str, usize, &str); 10] = [
-    ("cmd set x 5\ncmd ", "set x;", 10_000, "ok 1 5\nok 2 5\nok 3 5\nend"),
-    ("cmd set x 5\ncmd ", "set x;", 10_001, "ok 1 5\nrefused budget\nok 2 5\nend"),
+    (
+        "cmd set x 5\ncmd ",
+        "set x;",
+        10_000,
+        "ok 1 5\nok 2 5\nok 3 5\nend",
+    ),
+    (
+        "cmd set x 5\ncmd ",
+        "set x;",
+        10_001,
+        "ok 1 5\nrefused budget\nok 2 5\nend",
+    ),
     ("cmd set x 5", " ", 65_529, "ok 1 5\nok 2 5\nend"),
-    ("cmd set x 5", " ", 65_530, "refused bad\nerror 1 E11 x\nend"),
-    ("cmd set x 5", " ", 65_589, "refused bad\nerror 1 E11 x\nend"),
+    (
+        "cmd set x 5",
+        " ",
+        65_530,
+        "refused bad\nerror 1 E11 x\nend",
+    ),
+    (
+        "cmd set x 5",
+        " ",
+        65_589,
+        "refused bad\nerror 1 E11 x\nend",
+    ),
     ("cmd set x 5", " ", 65_590, "bad line\nerror 1 E11 x\nend"),
     ("cmd set x 5", " ", 200_000, "bad line\nerror 1 E11 x\nend"),
     ("load 65536\nset x 5", " ", 65_529, "ok 1 5\nok 2 5\nend"),
-    ("load 65537\nset x 5", " ", 65_530, "refused bad\nerror 1 E11 x\nend"),
-    ("load 1048576\nset x 5", " ", 1_048_569, "refused bad\nerror 1 E11 x\nend"),
+    (
+        "load 65537\nset x 5",
+        " ",
+        65_530,
+        "refused bad\nerror 1 E11 x\nend",
+    ),
+    (
+        "load 1048576\nset x 5",
+        " ",
+        1_048_569,
+        "refused bad\nerror 1 E11 x\nend",
+    ),
 ];
 
 // Whether such a long line is answered so.

@@ -3,33 +3,34 @@
 use crate::worlds::world_of;
 use std::alloc::Global;
 use tks_screen::window_at;
-use tks_state::World;
+use tks_state::{Placed, World};
 use tks_tree::WindowId;
 
-// The path of a window.
-fn path_of(alloc: Global, world: &World, window: WindowId) -> Option<String> {
-    let Some(window) = world.tree().window(window) else {
-        return None;
-    };
-    let mut path = String::new(alloc);
-    for byte in window.path.as_bytes() {
-        path.push(*byte as char).ok()?;
+// Adds the path of a window.
+fn put_path(world: &World, window: WindowId, text: &mut Vec<u8>) -> Option<()> {
+    match world.tree().window(window) {
+        Some(window) => text.extend_from_slice(window.path.as_bytes()).ok(),
+        None => None,
     }
-    Some(path)
+}
+
+// Adds a window and its place.
+fn put_place(alloc: Global, world: &World, placed: &Placed, text: &mut Vec<u8>) -> Option<()> {
+    put_path(world, placed.window, text)?;
+    let area = placed.area;
+    let place = format!(in alloc; " {} {} {} {}", area.x, area.y, area.width, area.height).ok()?;
+    text.extend_from_slice(place.as_bytes()).ok()
 }
 
 // The windows that are shown, other than `.`, with their places.
-fn places(alloc: Global, world: &World) -> Option<String> {
-    let mut places = String::new(alloc);
+fn places(alloc: Global, world: &World) -> Option<Vec<u8>> {
+    let mut places = Vec::new(alloc);
     for placed in &world.shown_windows().ok()? {
         if !placed.window.is_root() {
             if !places.is_empty() {
-                places.push(',').ok()?;
+                places.push(b',').ok()?;
             }
-            let path = path_of(alloc, world, placed.window)?;
-            let area = placed.area;
-            let place = format!(in alloc; "{path} {} {} {} {}", area.x, area.y, area.width, area.height);
-            places.push_str(place.ok()?.as_str()).ok()?;
+            put_place(alloc, world, placed, &mut places)?;
         }
     }
     Some(places)
@@ -62,17 +63,24 @@ fn windows_lie_where_they_lie_in_wish(rt: HostRuntime) {
 fn lies(alloc: Global, row: &str) -> Option<bool> {
     let (script, want) = row.split_once(" => ")?;
     let world = world_of(alloc, 20, 10, script)?;
-    Some(places(alloc, &world)?.as_str() == want)
+    Some(places(alloc, &world)?.as_slice() == want.as_bytes())
+}
+
+// The last character of a window's path.
+fn last_of_path(world: &World, window: WindowId) -> Option<u8> {
+    match world.tree().window(window) {
+        Some(window) => window.path.as_bytes().last().copied(),
+        None => None,
+    }
 }
 
 // The last character of the path of the window in each cell, row by row.
-fn seen(alloc: Global, world: &World) -> Option<String> {
-    let mut seen = String::new(alloc);
+fn seen(alloc: Global, world: &World) -> Option<Vec<u8>> {
+    let mut seen = Vec::new(alloc);
     for row in 0..3 {
         for column in 0..20 {
             let window = window_at(world, column, row).ok()??;
-            let path = path_of(alloc, world, window)?;
-            seen.push(path.chars().next_back()?).ok()?;
+            seen.push(last_of_path(world, window)?).ok()?;
         }
     }
     Some(seen)
@@ -84,7 +92,7 @@ fn shows_each(alloc: Global) -> Option<bool> {
     let world = world_of(alloc, 20, 3, script)?;
     let want = "aaa.........................................................";
     let outside = window_at(&world, 20, 0).ok()?;
-    Some(seen(alloc, &world)?.as_str() == want && outside.is_none())
+    Some(seen(alloc, &world)?.as_slice() == want.as_bytes() && outside.is_none())
 }
 
 #[test]

@@ -86,36 +86,3 @@ fn second_number(alloc: Global) -> Option<u64> {
 fn numbers_are_given_out_once(rt: HostRuntime) {
     assert_eq!(rt; second_number(rt.alloc()), Some(3));
 }
-
-// The paths that are left where the window of a number is destroyed, or of all where none is.
-fn left(alloc: Global, number: u64) -> Option<String> {
-    let mut tree = planted(alloc, ".a .ab .a.b .a.b.c .ab.d")?;
-    let is_refused = tree.destroy(WindowId::of(number)).is_err();
-    let mut paths = String::new(alloc);
-    paths.push(if is_refused { '!' } else { ' ' }).ok()?;
-    for place in 0..tree.len() {
-        let Some(window) = tree.nth(place) else {
-            return None;
-        };
-        for byte in window.path.as_bytes() {
-            paths.push(*byte as char).ok()?;
-        }
-        paths.push(' ').ok()?;
-    }
-    Some(paths)
-}
-
-#[test]
-fn windows_go_with_those_in_them(rt: HostRuntime) {
-    let table = [
-        (1, " . .ab .ab.d "),
-        (2, " . .a .a.b .a.b.c "),
-        (3, " . .a .ab .ab.d "),
-        (0, "!. .a .ab .a.b .a.b.c .ab.d "),
-        (6, " . .a .ab .a.b .a.b.c .ab.d "),
-    ];
-    for (number, want) in table {
-        let left = left(rt.alloc(), number).unwrap_or(String::new(rt.alloc()));
-        assert_eq!(rt; left.as_str(), want, "at {number}");
-    }
-}

@@ -3,9 +3,10 @@
 use std::alloc::Global;
 use tks_cmd::command;
 use tks_eval::Plan;
+use tks_tcl::Stop;
 use tks_text::{Limits, Size, Txt};
 use tks_vars::Vars;
-use tks_world::{Input, Reply, World, step};
+use tks_world::{Input, Refused, Reply, World, step};
 
 /// The world before any input, on a grid of so many cells.
 pub fn first_world(alloc: Global, width: u16, height: u16) -> Option<World> {
@@ -21,20 +22,22 @@ pub fn world_of(alloc: Global, width: u16, height: u16, script: &str) -> Option<
 }
 
 // A reply's number, code and text.
-fn shown(alloc: Global, reply: &Reply) -> Option<String> {
-    let mut shown = format!(in alloc; "{} {} ", reply.number, reply.code).ok()?;
-    for byte in reply.text.as_bytes() {
-        shown.push(*byte as char).ok()?;
-    }
+fn shown(alloc: Global, reply: &Reply) -> Option<Vec<u8>> {
+    let front = format!(in alloc; "{} {} ", reply.number, reply.code).ok()?;
+    let mut shown = Vec::from_slice(alloc, front.as_bytes()).ok()?;
+    shown.extend_from_slice(reply.text.as_bytes()).ok()?;
     Some(shown)
 }
 
 // What a script does to a world: its reply, or why it is refused.
-fn answer(alloc: Global, world: &mut World, limits: &Limits, script: &str) -> Option<String> {
+fn answer(alloc: Global, world: &mut World, limits: &Limits, script: &str) -> Option<Vec<u8>> {
     let input = Input::Script(Txt::from_bytes(alloc, script.as_bytes()).ok()?);
     match step(alloc, world, &input, limits) {
         Ok(reply) => shown(alloc, &reply),
-        Err(why) => format!(in alloc; "{why}").ok(),
+        Err(Refused::BadInput) => Vec::from_slice(alloc, b"bad").ok(),
+        Err(Refused::Depth) => Vec::from_slice(alloc, b"depth").ok(),
+        Err(Refused::TooLarge) => Vec::from_slice(alloc, b"large").ok(),
+        Err(_) => None,
     }
 }
 
@@ -47,7 +50,7 @@ fn differing<'a>(
 ) -> &'a str {
     for (script, want) in rows {
         match answer(alloc, world, limits, script) {
-            Some(told) if told.as_str() == *want => {}
+            Some(told) if told.as_slice() == want.as_bytes() => {}
             _ => return script,
         }
     }
@@ -61,28 +64,25 @@ fn limits_are_kept(rt: HostRuntime) {
     let Some(mut world) = first_world(alloc, 20, 3) else {
         return assert!(rt; false, "no world");
     };
-    let rows = [
-        ("set x 12345", "1 0 12345"),
-        ("$x$x", "2 1 E09 1234512345"),
-    ];
+    let rows = [("set x 12345", "1 0 12345"), ("$x$x", "2 1 E09 1234512345")];
     assert_eq!(rt; differing(alloc, &mut world, &limits, &rows), "none");
     let closed = Limits { depth: 0, ..limits };
-    let rows = [("set x", "scripts too deep in one another")];
+    let rows = [("set x", "depth")];
     assert_eq!(rt; differing(alloc, &mut world, &closed, &rows), "none");
     let one_item = Limits { items: 1, ..limits };
-    let rows = [("set y 1", "too large"), ("set x 12346", "3 0 12346")];
+    let rows = [("set y 1", "large"), ("set x 12346", "3 0 12346")];
     assert_eq!(rt; differing(alloc, &mut world, &one_item, &rows), "none");
     let short = Limits { text: 8, ..limits };
     let rows = [
-        ("$x$x", "too large"),
-        ("set x 123", "bad input"),
+        ("$x$x", "large"),
+        ("set x 123", "bad"),
         ("set x 12", "4 0 12"),
     ];
     assert_eq!(rt; differing(alloc, &mut world, &short, &rows), "none");
 }
 
 // What words with spaces between them come to, in the form of a row.
-fn command_answer(alloc: Global, world: &mut World, limits: &Limits, row: &str) -> Option<String> {
+fn command_answer(alloc: Global, world: &mut World, limits: &Limits, row: &str) -> Option<Vec<u8>> {
     let mut words = Vec::new(alloc);
     for word in row.split(' ') {
         let text = Txt::from_bytes(alloc, word.as_bytes()).ok()?;
@@ -98,8 +98,8 @@ fn command_answer(alloc: Global, world: &mut World, limits: &Limits, row: &str) 
             };
             shown(alloc, &reply)
         }
-        Ok(_) => None,
-        Err(why) => format!(in alloc; "{why:?}").ok(),
+        Err(Stop::TooLarge) => Vec::from_slice(alloc, b"large").ok(),
+        _ => None,
     }
 }
 
@@ -107,16 +107,16 @@ fn command_answer(alloc: Global, world: &mut World, limits: &Limits, row: &str) 
 const ROWS: [(&str, &str); 12] = [
     ("frame .a", "0 0 .a"),
     ("label .b", "0 0 .b"),
-    ("frame .c", "TooLarge"),
+    ("frame .c", "large"),
     ("frame .a", "0 1 E31 .a"),
     ("frame .c -f 1", "0 1 E34 -f"),
     ("destroy .a", "0 0 "),
     ("frame .cdefgh", "0 0 .cdefgh"),
     ("pack .b .cdefgh", "0 0 "),
-    ("pack slaves .", "TooLarge"),
-    ("frame .cdefgh", "TooLarge"),
+    ("pack slaves .", "large"),
+    ("frame .cdefgh", "large"),
     ("destroy .b", "0 0 "),
-    ("frame .cdefghi", "TooLarge"),
+    ("frame .cdefghi", "large"),
 ];
 
 #[test]
@@ -131,8 +131,8 @@ fn limits_of_windows_are_kept(rt: HostRuntime) {
         return assert!(rt; false, "no world");
     };
     for (row, want) in ROWS {
-        let told = command_answer(alloc, &mut world, &limits, row).unwrap_or(String::new(alloc));
-        assert_eq!(rt; told.as_str(), want, "at {row}");
+        let told = command_answer(alloc, &mut world, &limits, row).unwrap_or(Vec::new(alloc));
+        assert_eq!(rt; told.as_slice(), want.as_bytes(), "at {row}");
     }
 }
 
