@@ -186,6 +186,10 @@ const EVENTS: [(u64, &str, u32, u64); 8] = [
 #[test]
 fn scripts_of_an_event(rt: HostRuntime) {
     for (window, scripts, count, left) in EVENTS {
-        assert_eq!(rt; dispatched(rt.alloc(), window, scripts), Some((count, left)), "at {scripts}");
+        assert_eq!(rt;
+            dispatched(rt.alloc(), window, scripts),
+            Some((count, left)),
+            "at {scripts}"
+        );
     }
 }
