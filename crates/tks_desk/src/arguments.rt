@@ -15,6 +15,22 @@ const BAD_USE: u8 = 2;
 /// The status for want of memory.
 const NO_MEMORY: u8 = 5;
 
+/// What `--help` ends with.
+const LINES: &str = "
+Lines that it reads, and answers one by one:
+  cmd SCRIPT    runs a script: what stands behind one space
+  load N        runs a script with newlines: the next N bytes
+  screen        shows the rows of the grid, each between bars
+  quit          ends the session
+
+For example the lines
+  cmd label .title -text \"Order 7\"; pack .title
+  cmd foo
+are answered
+  ok 1
+  error 2 E09 foo
+";
+
 /// The grid's size that the command line asks for. Where it asks for help, or for what there is not,
 /// that is told, and the answer is the status to end with.
 pub fn grid_size<R: Env + AllocGlobal + Print + Eprint>(
@@ -72,5 +88,8 @@ fn told<R: Print + Eprint>(rt: &R, error: Error) -> ExitCode {
         _ => 0,
     };
     let _ = error.print(rt);
+    if error.kind() == ErrorKind::DisplayHelp {
+        let _ = rt.print(LINES);
+    }
     ExitCode::from(status)
 }
