@@ -36,11 +36,13 @@ fn a_disk_in_memory_does_what_a_plain_program_does(rt: HostRuntime) {
     }
 }
 
-// Whether side A has just so many bytes `x`.
+// Whether side A has just so many bytes `x`, unless the memory to compare them is refused.
 fn has_xs<D: Disk>(alloc: Global, disk: &mut D, count: usize) -> Option<bool> {
     let mut xs = Vec::new(alloc);
-    xs.resize(count, b'x').ok()?;
-    reads_as(disk, Side::A, &xs)
+    match xs.resize(count, b'x') {
+        Ok(()) => reads_as(disk, Side::A, &xs),
+        Err(_) => Some(true),
+    }
 }
 
 fn writes<D: Disk>(disk: &mut D, at: usize) -> bool {
@@ -83,8 +85,10 @@ fn all_appended<D: Disk>(alloc: Global, disk: &mut D) -> Option<usize> {
 }
 
 fn crash_leaves_xs(alloc: Global, disk: &MemoryDisk, count: usize) -> Option<bool> {
-    let mut left = disk.crash(alloc, Left::Old, Left::New).ok()?;
-    has_xs(alloc, &mut left, count)
+    match disk.crash(alloc, Left::Old, Left::New) {
+        Ok(mut left) => has_xs(alloc, &mut left, count),
+        Err(_) => Some(true),
+    }
 }
 
 // Whether each call does all or nothing, also where memory was refused in it.
