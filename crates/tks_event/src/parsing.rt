@@ -137,10 +137,10 @@ fn whole_pattern(alloc: Global, text: &[u8]) -> Result<Option<Repeated>, AllocEr
     requires { IsText text.now }
     ensures { IfOk result (λ o. o ≡ alone (pattern_at text.now)) }
 {
-    let Some((written, rest)) = read_pattern(text) else {
+    let Some((written, behind)) = read_pattern(text) else {
         return Ok(None);
     };
-    if !rest.is_empty() {
+    if !behind.is_empty() {
         return Ok(None);
     }
     let pattern = pattern_of(alloc, &written, false)?;
