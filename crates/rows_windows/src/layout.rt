@@ -167,9 +167,7 @@ pub fn put_answer(alloc: Global, layout: &str, answers: &mut String) -> Option<(
         .ok()?;
     for word in words {
         let window = WindowId::of(sizes.len() as u64);
-        sizes
-            .push(packed(alloc, &mut packing, window, word)?)
-            .ok()?;
+        sizes.push(packed(alloc, &mut packing, window, word)?).ok()?;
     }
     let sizes = Sizes { sizes };
     let request = packing.requested(&sizes)?;

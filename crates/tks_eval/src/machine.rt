@@ -110,38 +110,38 @@ impl Machine {
         ensures same_place { H.place host.new ≡ H.place host.old }
         ensures ends { EndsSo (resume H.meaning limits.now self.left self.stack (outcome_now H.meaning limits.now self.left now (H.state host.old) variables.old self.fuel)) result (H.state host.new) variables.new }
     {
-    let mut machine = self;
-    let mut now = now;
-    'steps: loop {
-        let before = machine.fuel;
-        'turns: loop {
-            let next = match now {
-                Now::At(end) => match machine.stack.next() {
-                    None => {
-                        return Ok(Ended {
-                            code: end.code,
-                            text: end.text,
-                            fuel: machine.fuel,
-                        });
+        let mut machine = self;
+        let mut now = now;
+        'steps: loop {
+            let before = machine.fuel;
+            'turns: loop {
+                let next = match now {
+                    Now::At(end) => match machine.stack.next() {
+                        None => {
+                            return Ok(Ended {
+                                code: end.code,
+                                text: end.text,
+                                fuel: machine.fuel,
+                            });
+                        }
+                        Some(frame) => machine.resume(alloc, host, variables, frame, end, limits),
+                    },
+                    Now::Open(script) => machine.open(alloc, host, variables, script, limits),
+                    Now::Value(expr) => machine.open_value(alloc, host, variables, expr, limits),
+                    Now::Fill { made, parts } => {
+                        machine.fill(alloc, host, variables, made, parts, limits)
                     }
-                    Some(frame) => machine.resume(alloc, host, variables, frame, end, limits),
-                },
-                Now::Open(script) => machine.open(alloc, host, variables, script, limits),
-                Now::Value(expr) => machine.open_value(alloc, host, variables, expr, limits),
-                Now::Fill { made, parts } => {
-                    machine.fill(alloc, host, variables, made, parts, limits)
+                };
+                now = match next {
+                    Ok(now) => now,
+                    Err(Halt::Fault(fault)) => Now::At(failed(alloc, &fault, limits)?),
+                    Err(Halt::Stop(why)) => return Err(why),
+                };
+                if machine.fuel != before {
+                    continue 'steps;
                 }
-            };
-            now = match next {
-                Ok(now) => now,
-                Err(Halt::Fault(fault)) => Now::At(failed(alloc, &fault, limits)?),
-                Err(Halt::Stop(why)) => return Err(why),
-            };
-            if machine.fuel != before {
-                continue 'steps;
             }
         }
-    }
     }
 }
 
