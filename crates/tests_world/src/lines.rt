@@ -101,13 +101,14 @@ fn answers<R: BufRead>(alloc: Global, reader: &mut R, want: &str) -> bool {
 
 #[test]
 fn runs_end_so(rt: HostRuntime) {
-    let rows: [(&[u8], &str); 9] = [
+    let rows: [(&[u8], &str); 10] = [
         (b"", "end"),
         (b"cmd", "ok 1\nend"),
         (b"quit\ncmd set x 5\n", "bye\nquit"),
         (b"cmd set x 5\nquit", "ok 1 5\nbye\nquit"),
         (b"cmd set x \x80\ncmd\n", "bad line\nok 1\nend"),
         (b"cmd set x \x7f", "bad line\nend"),
+        (b"cmd set x 5\r\n", "bad line\nend"),
         (b"load 7\nset a 2", "ok 1 2\nend"),
         (b"load 7\nset a \x80\ncmd\n", "bad line\nok 1\nend"),
         (b"load 8\nset a 2\nquit\n", "ok 1 2\nbye\nquit"),
