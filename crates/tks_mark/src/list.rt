@@ -1,4 +1,4 @@
-ghost use Rattle.std.specs.Prelude.{◌≡◌, ◌++◌, [], ◌∷◌, ◌==◌, ◌&&◌, ◌||◌, not, length, Some, None, IsSome, IfSome, OnOk, OnErr, IfErr};
+ghost use Rattle.std.specs.Prelude.{◌≡◌, ◌++◌, [], ◌∷◌, ◌==◌, ◌&&◌, ◌||◌, not, length, Some, None, IsSome, is_some, IfSome, OnOk, OnErr, IfErr};
 ghost use Rattle.std.specs.List.{filter};
 ghost use Rattle.tks_mark.specs.Views.{Views, present_of, kept, restored, settled, stays_without, struck};
 
@@ -59,6 +59,13 @@ impl<T> Marked<T> {
         ensures { result ≡ length self.now.present }
     {
         count(&self.slots)
+    }
+
+    /// Whether a mark stands.
+    pub fn is_marked(&self) -> bool
+        ensures { result ≡ is_some self.now.at_mark }
+    {
+        self.is_marked
     }
 
     /// Sets the mark. It takes no memory.

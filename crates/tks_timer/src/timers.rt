@@ -1,4 +1,4 @@
-ghost use Rattle.std.specs.Prelude.{◌≡◌, ◌↔◌, ◌<◌, ◌≤◌, ◌^◌, ◌++◌, ℕ, length, map, Some, None, Err, IsSome, IfSome, IfOk, OnOk, OnErr, option_copied, option_map, IsPermutation};
+ghost use Rattle.std.specs.Prelude.{◌≡◌, ◌↔◌, ◌<◌, ◌≤◌, ◌^◌, ◌++◌, ℕ, length, map, Some, None, Err, IsSome, is_some, IfSome, IfOk, OnOk, OnErr, option_copied, option_map, IsPermutation};
 ghost use Rattle.std.specs.List.Sorted.{IsSorted};
 ghost use Rattle.std.specs.Ordering.{nat_cmp};
 ghost use Rattle.tks_text.specs.Fault.{Gives};
@@ -201,6 +201,13 @@ impl Timers {
             Some(script) => Ok(Waiting::Idle(script)),
             None => Err(Failure::about(ErrorNumber::NoSuchAfterId, written)),
         }
+    }
+
+    /// Whether a mark stands.
+    pub fn is_marked(&self) -> bool
+        ensures { result ≡ is_some self.now.at_mark }
+    {
+        self.timers.is_marked()
     }
 
     /// Sets the mark. It takes no memory.
