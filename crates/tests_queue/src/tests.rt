@@ -12,8 +12,8 @@ fn timers_do_what_a_plain_list_does(rt: HostRuntime) {
         let mut plain = Plain::new(alloc);
         let mut then = Plain::new(alloc);
         for call in 0..200 {
-            let agrees =
-                call_agrees(alloc, &mut timers, &mut plain, &mut then, &mut dice) == Some(true);
+            let agrees = call_agrees(alloc, &mut timers, &mut plain, &mut then, &mut dice)
+                == Some(true);
             assert!(rt; agrees, "seed {seed}, call {call}");
         }
     }
@@ -86,7 +86,14 @@ fn runs_in_order(alloc: Global) -> Option<bool> {
     copy.cancel(1);
     let second = copy.due(9) == Some(2);
     copy.cancel(2);
-    Some(first && second && copy.due(9) == Some(0) && timers.timer_count() == 3 && copy.timer_count() == 1 && copy.idle_count() == 0)
+    Some(
+        first
+            && second
+            && copy.due(9) == Some(0)
+            && timers.timer_count() == 3
+            && copy.timer_count() == 1
+            && copy.idle_count() == 0,
+    )
 }
 
 #[test]
