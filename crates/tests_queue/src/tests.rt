@@ -1,0 +1,103 @@
+use super::*;
+use std::alloc::Global;
+use tks_text::{ErrorNumber, Failure, Txt};
+use tks_timer::{Timers, Waiting};
+
+#[test]
+fn timers_do_what_a_plain_list_does(rt: HostRuntime) {
+    let alloc = rt.alloc();
+    for seed in 0..20 {
+        let mut dice = Dice::new(seed);
+        let mut timers = Timers::new(alloc);
+        let mut plain = Plain::new(alloc);
+        let mut then = Plain::new(alloc);
+        for call in 0..200 {
+            let agrees = call_agrees(alloc, &mut timers, &mut plain, &mut then, &mut dice)
+                == Some(true);
+            assert!(rt; agrees, "seed {seed}, call {call}");
+        }
+    }
+}
+
+fn text(alloc: Global, bytes: &[u8]) -> Option<Txt> {
+    Txt::from_bytes(alloc, bytes).ok()
+}
+
+fn ids_are(timers: &Timers, ids: &[u64]) -> bool {
+    match timers.ids() {
+        Ok(found) => found.as_slice() == ids,
+        Err(_) => false,
+    }
+}
+
+fn is_timer(timers: &Timers, id: u64, written: &Txt, script: &[u8]) -> bool {
+    match timers.info(id, written) {
+        Ok(Waiting::Timer(found)) => found.as_bytes() == script,
+        _ => false,
+    }
+}
+
+fn is_idle(timers: &Timers, id: u64, written: &Txt, script: &[u8]) -> bool {
+    match timers.info(id, written) {
+        Ok(Waiting::Idle(found)) => found.as_bytes() == script,
+        _ => false,
+    }
+}
+
+fn is_nothing(timers: &Timers, id: u64, written: &Txt) -> bool {
+    match timers.info(id, written) {
+        Err(Failure::Script(fault)) => {
+            let Some(subject) = &fault.subject else {
+                return false;
+            };
+            fault.number.number() == ErrorNumber::NoSuchAfterId.number() && subject == written
+        }
+        _ => false,
+    }
+}
+
+// What is told of a timer and an idle script, before and after the timer is cancelled.
+fn tells(alloc: Global) -> Option<bool> {
+    let (first, second) = (text(alloc, b"after#0")?, text(alloc, b"after#1")?);
+    let mut timers = Timers::new(alloc);
+    timers.after(9, text(alloc, b"a b")?).ok()?;
+    timers.idle(text(alloc, b"c")?).ok()?;
+    let before = ids_are(&timers, &[0, 1])
+        && is_timer(&timers, 0, &first, b"a b")
+        && is_idle(&timers, 1, &second, b"c");
+    timers.cancel_script(&text(alloc, b"a b")?);
+    Some(before && ids_are(&timers, &[1]) && is_nothing(&timers, 0, &first))
+}
+
+#[test]
+fn after_info_tells_what_waits(rt: HostRuntime) {
+    let told = tells(rt.alloc()) == Some(true);
+    assert!(rt; told);
+}
+
+// Of those that are due, the first due, then that of the least id; a copy tells the same, with no mark.
+fn runs_in_order(alloc: Global) -> Option<bool> {
+    let mut timers = Timers::new(alloc);
+    timers.after(5, text(alloc, b"a")?).ok()?;
+    timers.after(3, text(alloc, b"b")?).ok()?;
+    timers.after(3, text(alloc, b"c")?).ok()?;
+    let mut copy = timers.try_clone().ok()?;
+    let first = copy.due(2).is_none() && copy.due(9) == Some(1);
+    copy.cancel(1);
+    let second = copy.due(9) == Some(2);
+    copy.cancel(2);
+    Some(
+        first
+            && second
+            && copy.due(9) == Some(0)
+            && timers.timer_count() == 3
+            && copy.timer_count() == 1
+            && copy.idle_count() == 0,
+    )
+}
+
+#[test]
+fn timers_run_by_due_time_and_then_id(rt: HostRuntime) {
+    let ordered = runs_in_order(rt.alloc()) == Some(true);
+    assert!(rt; ordered);
+}

@@ -1,0 +1,4 @@
+pub mod After
+pub mod Ids
+pub mod View
+pub mod Waits

@@ -1,0 +1,370 @@
+ghost use Rattle.std.specs.Prelude.{◌≡◌, ◌↔◌, ◌<◌, ◌≤◌, ◌^◌, ◌++◌, ℕ, length, map, Some, None, Err, IsSome, is_some, IfSome, IfOk, OnOk, OnErr, option_copied, option_map, IsPermutation};
+ghost use Rattle.std.specs.List.Sorted.{IsSorted};
+ghost use Rattle.std.specs.Ordering.{nat_cmp};
+ghost use Rattle.tks_text.specs.Fault.{Gives};
+ghost use Rattle.tks_timer.specs.After.{Content, nothing, with_timer, with_idle, without, without_found, is_sooner, soonest, lesser, first_due, due_at, first_idle, timer_script, idle_script, kept_under, script_in, told_about, timer_with, idle_with, with_script, ids};
+ghost use Rattle.tks_timer.specs.Waits.{waiting_seen};
+
+use crate::entry::{Idle, Timer};
+use crate::fault::AfterFault;
+use std::alloc::{AllocError, Global};
+use std::marker::Model;
+use tks_mark::Marked;
+use tks_text::{ErrorNumber, Failure, Txt};
+
+/// The id that none reaches.
+const MAX_ID: u64 = 1 << 62;
+
+/// A script that waits, and what for.
+#[derive(Clone, Copy)]
+pub enum Waiting<'a> {
+    /// For its time.
+    Timer(&'a Txt),
+    /// For nothing else to be done.
+    Idle(&'a Txt),
+}
+
+/// The scripts that wait to be run. They know what they were at a mark.
+#[derive(Drop)]
+pub struct Timers {
+    alloc: Global,
+    timers: Marked<Timer>,
+    idles: Marked<Idle>,
+    next: u64,
+    next_at_mark: u64,
+}
+
+impl Model for Timers {
+    ghost use Rattle.tks_timer.specs.After.{Views};
+    ghost use Rattle.tks_timer.specs.View.{then_of, Together};
+
+    ghost Value = { Views };
+
+    ghost view = { λ t. record { present = record { timers = t.timers.present; idles = t.idles.present; next = t.next }; at_mark = then_of t.timers.at_mark t.idles.at_mark t.next_at_mark } };
+
+    ghost invariant = { λ t. Together t.timers.at_mark t.idles.at_mark };
+}
+
+impl Timers {
+    /// No script, and no mark.
+    pub fn new(alloc: Global) -> Timers
+        ensures { result ≡ record { present = nothing; at_mark = None } }
+    {
+        Timers {
+            alloc,
+            timers: Marked::new(alloc),
+            idles: Marked::new(alloc),
+            next: 0,
+            next_at_mark: 0,
+        }
+    }
+
+    /// How many timers there are.
+    pub fn timer_count(&self) -> usize
+        ensures { result ≡ length self.now.present.timers }
+    {
+        self.timers.len()
+    }
+
+    /// How many idle scripts there are.
+    pub fn idle_count(&self) -> usize
+        ensures { result ≡ length self.now.present.idles }
+    {
+        self.idles.len()
+    }
+
+    /// Keeps a script that is due at a time, in milliseconds. It answers the script's id.
+    pub fn after(&mut self, due: u64, script: Txt) -> Result<u64, AfterFault>
+        ensures id { IfOk result (λ id. id ≡ self.old.present.next) }
+        ensures ok { OnOk result (self.new ≡ record self.old { present = with_timer due script self.old.present }) }
+        ensures full { (result ≡ Err AfterFault.OutOfNumbers) ↔ (2 ^ 62 ≤ self.old.present.next) }
+        ensures err { OnErr result (self.new ≡ self.old) }
+    {
+        let id = self.next;
+        if id >= MAX_ID {
+            return Err(AfterFault::OutOfNumbers);
+        }
+        self.timers.push(Timer { id, due, script })?;
+        self.next = id + 1;
+        Ok(id)
+    }
+
+    /// Keeps a script that runs when nothing else is to be done. It answers the script's id.
+    pub fn idle(&mut self, script: Txt) -> Result<u64, AfterFault>
+        ensures id { IfOk result (λ id. id ≡ self.old.present.next) }
+        ensures ok { OnOk result (self.new ≡ record self.old { present = with_idle script self.old.present }) }
+        ensures full { (result ≡ Err AfterFault.OutOfNumbers) ↔ (2 ^ 62 ≤ self.old.present.next) }
+        ensures err { OnErr result (self.new ≡ self.old) }
+    {
+        let id = self.next;
+        if id >= MAX_ID {
+            return Err(AfterFault::OutOfNumbers);
+        }
+        self.idles.push(Idle { id, script })?;
+        self.next = id + 1;
+        Ok(id)
+    }
+
+    /// Takes out the script of an id; where there is none, nothing is done. It takes no memory.
+    pub fn cancel(&mut self, id: u64)
+        ensures { self.new ≡ record self.old { present = without id self.old.present } }
+    {
+        self.timers.drop_number(id);
+        self.idles.drop_number(id);
+    }
+
+    /// The least id that has the script. It takes no memory.
+    pub fn find(&self, script: &Txt) -> Option<u64>
+        ensures { result ≡ with_script script.now self.now.present }
+    {
+        lesser(
+            timer_with(&self.timers, script),
+            idle_with(&self.idles, script),
+        )
+    }
+
+    /// Takes out the script with the least id of those that are equal to this one; where there is none, nothing
+    /// is done. It takes no memory.
+    pub fn cancel_script(&mut self, script: &Txt)
+        ensures { self.new ≡ record self.old { present = without_found (with_script script.now self.old.present) self.old.present } }
+    {
+        if let Some(id) = self.find(script) {
+            self.cancel(id);
+        }
+    }
+
+    /// The id of the timer that is run at this time: of those that are due, the one that was due first, and of
+    /// those that were due together the one with the least id. It takes no memory.
+    pub fn due(&self, now: u64) -> Option<u64>
+        ensures { result ≡ due_at now self.now.present }
+    {
+        let (_, id) = first_due(&self.timers, now)?;
+        Some(id)
+    }
+
+    /// The id of the idle script that has waited longest. It takes no memory.
+    pub fn oldest_idle(&self) -> Option<u64>
+        ensures { result ≡ first_idle self.now.present.idles }
+    {
+        let idle = self.idles.items().next()?;
+        Some(idle.id)
+    }
+
+    // The script of an id.
+    fn script(&self, id: u64) -> Option<&Txt>
+        ensures { option_copied result ≡ script_in (kept_under id self.now.present) }
+    {
+        match timer_script(&self.timers, id) {
+            Some(script) => Some(script),
+            None => idle_script(&self.idles, id),
+        }
+    }
+
+    /// Takes out the script of an id, to be run.
+    pub fn take(&mut self, id: u64) -> Result<Option<Txt>, AllocError>
+        ensures value { IfOk result (λ script. script ≡ script_in (kept_under id self.old.present)) }
+        ensures ok { OnOk result (self.new ≡ record self.old { present = without id self.old.present }) }
+        ensures err { OnErr result (self.new ≡ self.old) }
+    {
+        let script = match self.script(id) {
+            Some(script) => Some(script.try_clone()?),
+            None => None,
+        };
+        self.cancel(id);
+        Ok(script)
+    }
+
+    /// The ids of all scripts, rising.
+    pub fn ids(&self) -> Result<Vec<u64>, AllocError>
+        ensures all { IfOk result (λ found. IsPermutation (ids self.now.present) found.items) }
+        ensures rising { IfOk result (λ found. IsSorted nat_cmp found.items) }
+    {
+        let mut found = Vec::new(self.alloc);
+        for timer in self.timers.items() {
+            found.push(timer.id)?;
+        }
+        for idle in self.idles.items() {
+            found.push(idle.id)?;
+        }
+        found.sort()?;
+        Ok(found)
+    }
+
+    /// The script of an id, which was written so. Where there is none, the error is about what was written.
+    pub fn info(&self, id: u64, written: &Txt) -> Result<Waiting<'_>, Failure>
+        ensures { Gives waiting_seen result (told_about written.now (kept_under id self.now.present)) }
+    {
+        if let Some(script) = timer_script(&self.timers, id) {
+            return Ok(Waiting::Timer(script));
+        }
+        match idle_script(&self.idles, id) {
+            Some(script) => Ok(Waiting::Idle(script)),
+            None => Err(Failure::about(ErrorNumber::NoSuchAfterId, written)),
+        }
+    }
+
+    /// Whether a mark stands.
+    pub fn is_marked(&self) -> bool
+        ensures { result ≡ is_some self.now.at_mark }
+    {
+        self.timers.is_marked()
+    }
+
+    /// Sets the mark. It takes no memory.
+    pub fn mark(&mut self)
+        requires { self.old.at_mark ≡ None }
+        ensures { self.new ≡ record self.old { at_mark = Some self.old.present } }
+    {
+        self.timers.mark();
+        self.idles.mark();
+        self.next_at_mark = self.next;
+    }
+
+    /// Makes all what it was at the mark, the next id too, and takes the mark away. It takes no memory.
+    pub fn back_to(&mut self)
+        requires { IsSome self.old.at_mark }
+        ensures { IfSome self.old.at_mark (λ content. self.new ≡ record { present = content; at_mark = None }) }
+    {
+        self.timers.back_to();
+        self.idles.back_to();
+        self.next = self.next_at_mark;
+    }
+
+    /// Takes the mark away, and leaves all as it is. It takes no memory.
+    pub fn forget(&mut self)
+        ensures { self.new ≡ record self.old { at_mark = None } }
+    {
+        self.timers.forget();
+        self.idles.forget();
+    }
+
+    /// The same scripts and the same next id, with no mark.
+    pub fn try_clone(&self) -> Result<Timers, AllocError>
+        ensures { IfOk result (λ copy. copy ≡ record self.now { at_mark = None }) }
+    {
+        Ok(Timers {
+            alloc: self.alloc,
+            timers: copy_timers(self.alloc, &self.timers)?,
+            idles: copy_idles(self.alloc, &self.idles)?,
+            next: self.next,
+            next_at_mark: 0,
+        })
+    }
+}
+
+// Whether the first is due sooner, or together with the second and of a lesser id.
+fn is_sooner(a: (u64, u64), b: (u64, u64)) -> bool
+    ensures { result ≡ is_sooner a b }
+{
+    a.0 < b.0 || (a.0 == b.0 && a.1 < b.1)
+}
+
+fn soonest(a: Option<(u64, u64)>, b: (u64, u64)) -> (u64, u64)
+    ensures { Some result ≡ soonest a (Some b) }
+{
+    match a {
+        None => b,
+        Some(a) => { if is_sooner(b, a) { b } else { a } }
+    }
+}
+
+// The lesser of two ids.
+fn lesser(a: Option<u64>, b: Option<u64>) -> Option<u64>
+    ensures { result ≡ lesser a b }
+{
+    match (a, b) {
+        (None, _) => b,
+        (_, None) => a,
+        (Some(x), Some(y)) => { if y < x { Some(y) } else { Some(x) } }
+    }
+}
+
+#[tactic(auto, using(crate::proofs::Least::soonest_assoc))]
+fn first_due(timers: &Marked<Timer>, now: u64) -> Option<(u64, u64)>
+    ensures { result ≡ first_due now timers.now.present }
+{
+    let mut best = None;
+    for timer in timers.items() {
+        if timer.due <= now {
+            best = Some(soonest(best, (timer.due, timer.id)));
+        }
+    }
+    best
+}
+
+fn timer_script(timers: &Marked<Timer>, id: u64) -> Option<&Txt>
+    ensures { option_copied result ≡ timer_script id timers.now.present }
+{
+    for timer in timers.items() {
+        if timer.id == id {
+            return Some(&timer.script);
+        }
+    }
+    None
+}
+
+fn idle_script(idles: &Marked<Idle>, id: u64) -> Option<&Txt>
+    ensures { option_copied result ≡ idle_script id idles.now.present }
+{
+    for idle in idles.items() {
+        if idle.id == id {
+            return Some(&idle.script);
+        }
+    }
+    None
+}
+
+#[tactic(auto, using(crate::proofs::Least::lesser_assoc))]
+fn timer_with(timers: &Marked<Timer>, script: &Txt) -> Option<u64>
+    ensures { result ≡ timer_with script.now timers.now.present }
+{
+    let mut least = None;
+    for timer in timers.items() {
+        if timer.script.as_bytes() == script.as_bytes() {
+            least = lesser(least, Some(timer.id));
+        }
+    }
+    least
+}
+
+#[tactic(auto, using(crate::proofs::Least::lesser_assoc))]
+fn idle_with(idles: &Marked<Idle>, script: &Txt) -> Option<u64>
+    ensures { result ≡ idle_with script.now idles.now.present }
+{
+    let mut least = None;
+    for idle in idles.items() {
+        if idle.script.as_bytes() == script.as_bytes() {
+            least = lesser(least, Some(idle.id));
+        }
+    }
+    least
+}
+
+// The same timers, with no mark.
+fn copy_timers(alloc: Global, timers: &Marked<Timer>) -> Result<Marked<Timer>, AllocError>
+    ensures { IfOk result (λ copy. copy ≡ record timers.now { at_mark = None }) }
+{
+    let mut copy = Marked::new(alloc);
+    for timer in timers.items() {
+        copy.push(Timer {
+            id: timer.id,
+            due: timer.due,
+            script: timer.script.try_clone()?,
+        })?;
+    }
+    Ok(copy)
+}
+
+// The same idle scripts, with no mark.
+fn copy_idles(alloc: Global, idles: &Marked<Idle>) -> Result<Marked<Idle>, AllocError>
+    ensures { IfOk result (λ copy. copy ≡ record idles.now { at_mark = None }) }
+{
+    let mut copy = Marked::new(alloc);
+    for idle in idles.items() {
+        copy.push(Idle {
+            id: idle.id,
+            script: idle.script.try_clone()?,
+        })?;
+    }
+    Ok(copy)
+}
