@@ -3,7 +3,7 @@ use Rattle.std.specs.List.{filter}
 use Rattle.std.proofs.Common.{◌≡◌, ℕ, ◌==◌, append_assoc, Bool, true, false, cond, not, sym, subst, List, [], ◌∷◌, ◌++◌, length, suc, Some, None, IfSome, refl, ap, ◌∙◌}
 use Rattle.std.specs.List.Retain.{RetainsInTurn}
 use Rattle.tks_mark.specs.declared.slot.Slot.{Slot}
-use Rattle.tks_mark.specs.Views.{Views, now_in, then_in, present_of, then_of, at_mark_of, kept, restored, settled, AllClean, Clean, stays_without, struck}
+use Rattle.tks_mark.specs.Views.{Views, new_slot, now_in, then_in, present_of, then_of, at_mark_of, gone_back, gone_on, kept, restored, settled, AllClean, Clean, stays_without, struck}
 
 module _ {X P : Type 0} (stays : Slot X → Bool) (change : Slot X → Slot X) (R : P → Slot X → Bool → P → Slot X → Type 0)
     (says : (p : P) (x : Slot X) (b : Bool) (q : P) (y : Slot X) → R p x b q y → (b ≡ stays x) × (y ≡ change x)) where
@@ -142,9 +142,6 @@ module _ {X : Type 0} where
   unmarked true slots e = absurd cc
   unmarked false slots e = refl
 
-  abbrev pub new_slot : Bool → X → Slot X
-  new_slot marked x = record { item = x; is_new = marked; is_gone = false }
-
   nothing_behind : (xs : List X) → xs ++ [] ≡ xs
   nothing_behind [] = refl
   nothing_behind (x ∷ xs) = ap (λ r. x ∷ r) (nothing_behind xs)
@@ -157,6 +154,23 @@ module _ {X : Type 0} where
   abbrev pub with_present : List X → Views X
   with_present items = record { present = items; at_mark = None }
 
-  pub back : (marked : Bool) (slots : List (Slot X)) → IfSome (at_mark_of marked slots) (λ items. with_present (present_of (kept (λ s. not s.is_new) restored slots)) ≡ with_present items)
-  back true slots = ap with_present (restored_present slots)
-  back false slots = tt
+  gone_back_present : (changed : Bool) (slots : List (Slot X)) → (changed ≡ false → AllClean slots) → present_of (gone_back changed slots) ≡ then_of slots
+  gone_back_present true slots h = restored_present slots
+  gone_back_present false slots h = sym (clean_then slots (h refl))
+
+  pub back : (marked changed : Bool) (slots : List (Slot X)) → (changed ≡ false → AllClean slots)
+      → IfSome (at_mark_of marked slots) (λ items. with_present (present_of (gone_back changed slots)) ≡ with_present items)
+  back true changed slots h = ap with_present (gone_back_present changed slots h)
+  back false changed slots h = tt
+
+  pub back_clean : (changed : Bool) (slots : List (Slot X)) → (changed ≡ false → AllClean slots) → AllClean (gone_back changed slots)
+  back_clean true slots h = restored_clean slots
+  back_clean false slots h = h refl
+
+  pub on_present : (changed : Bool) (slots : List (Slot X)) → present_of (gone_on changed slots) ≡ present_of slots
+  on_present true slots = settled_present slots
+  on_present false slots = refl
+
+  pub on_clean : (changed : Bool) (slots : List (Slot X)) → (changed ≡ false → AllClean slots) → AllClean (gone_on changed slots)
+  on_clean true slots h = settled_clean slots
+  on_clean false slots h = h refl

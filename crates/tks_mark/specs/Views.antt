@@ -1,5 +1,5 @@
 -- A list, and what it was at a mark (this project's own).
-use Rattle.std.specs.Prelude.{◌≡◌, ℕ, ◌==◌, ◌||◌, not, Bool, false, if◌then◌else◌, List, [], ◌∷◌, ◌++◌, Option, Some, None}
+use Rattle.std.specs.Prelude.{◌≡◌, ℕ, zero, suc, ◌==◌, ◌||◌, not, Bool, true, false, if◌then◌else◌, List, [], ◌∷◌, ◌++◌, Option, Some, None}
 use Rattle.std.specs.List.{AllByRecursion}
 use Rattle.tks_mark.specs.declared.slot.Slot.{Slot}
 
@@ -35,9 +35,28 @@ pub record Clean {X : Type 0} (s : Slot X) : Type 0 where
 abbrev pub AllClean : {X : Type 0} → List (Slot X) → Type 0
 AllClean slots = AllByRecursion Clean slots
 
--- where no mark stands, each place was as it is
-abbrev pub Tidy : {X : Type 0} → Bool → List (Slot X) → Type 0
-Tidy marked slots = marked ≡ false → AllClean slots
+-- where nothing was changed since the mark, each place was as it is; without a mark nothing was
+pub record Tidy {X : Type 0} (marked changed : Bool) (slots : List (Slot X)) : Type 0 where
+  pub clean : changed ≡ false → AllClean slots
+  pub unchanged : marked ≡ false → changed ≡ false
+
+-- the place of an item that comes now
+abbrev pub new_slot : {X : Type 0} → Bool → X → Slot X
+new_slot marked x = record { item = x; is_new = marked; is_gone = false }
+
+-- ---- places by index
+
+-- the place of the item at an index of what stands now, or the end
+abbrev pub place_in : {X : Type 0} → List (Slot X) → ℕ → ℕ
+place_in [] n = 0
+place_in (s ∷ slots) zero = if s.is_gone then suc (place_in slots zero) else 0
+place_in (s ∷ slots) (suc n) = if s.is_gone then suc (place_in slots (suc n)) else suc (place_in slots n)
+
+-- without the item in a place, which stays under a mark
+abbrev pub without_place : {X : Type 0} → Bool → List (Slot X) → ℕ → List (Slot X)
+without_place marked [] n = []
+without_place marked (s ∷ slots) zero = if marked then record s { is_gone = true } ∷ slots else slots
+without_place marked (s ∷ slots) (suc n) = s ∷ without_place marked slots n
 
 -- ---- the changes of a place
 
@@ -58,3 +77,11 @@ struck number_of number s = record s { is_gone = s.is_gone || (number_of s.item 
 abbrev pub kept : {X : Type 0} → (Slot X → Bool) → (Slot X → Slot X) → List (Slot X) → List (Slot X)
 kept stays change [] = []
 kept stays change (s ∷ slots) = if stays s then change s ∷ kept stays change slots else kept stays change slots
+
+-- at the way back: what is left, where anything came or went
+abbrev pub gone_back : {X : Type 0} → Bool → List (Slot X) → List (Slot X)
+gone_back changed slots = if changed then kept (λ s. not s.is_new) restored slots else slots
+
+-- where the mark is forgotten: what is left, where anything came or went
+abbrev pub gone_on : {X : Type 0} → Bool → List (Slot X) → List (Slot X)
+gone_on changed slots = if changed then kept (λ s. not s.is_gone) settled slots else slots

@@ -1,10 +1,11 @@
 ghost use Rattle.std.specs.Prelude.{◌≡◌, ◌++◌, [], ◌∷◌, ◌==◌, ◌&&◌, ◌||◌, not, length, Some, None, IsSome, is_some, IfSome, OnOk, OnErr, IfErr};
-ghost use Rattle.std.specs.List.{filter};
-ghost use Rattle.tks_mark.specs.Views.{Views, present_of, kept, restored, settled, stays_without, struck};
+ghost use Rattle.std.specs.Prelude.{ℕ, ◌+◌, ◌<◌, ◌≤◌};
+ghost use Rattle.std.specs.List.{filter, insert, remove};
+ghost use Rattle.tks_mark.specs.Views.{Views, present_of, new_slot, place_in, without_place, gone_back, gone_on, kept, restored, settled, stays_without, struck};
 
 use crate::items::Items;
 use crate::slot::Slot;
-use std::alloc::{AllocError, Global};
+use std::alloc::{AllocError, AllocFailed, Global};
 use std::marker::Model;
 
 /// What has a number, by which items are taken out of a list.
@@ -24,6 +25,8 @@ pub trait Numbered: Drop {
 pub struct Marked<T> {
     slots: Vec<Slot<T>>,
     is_marked: bool,
+    // Whether anything came or went since the mark.
+    is_changed: bool,
 }
 
 impl<T> Model for Marked<T> {
@@ -33,7 +36,7 @@ impl<T> Model for Marked<T> {
 
     ghost view = { λ m. record { present = present_of m.slots.items; at_mark = at_mark_of m.is_marked m.slots.items } };
 
-    ghost invariant = { λ m. Tidy m.is_marked m.slots.items };
+    ghost invariant = { λ m. Tidy m.is_marked m.is_changed m.slots.items };
 }
 
 impl<T> Marked<T> {
@@ -44,6 +47,7 @@ impl<T> Marked<T> {
         Marked {
             slots: Vec::new(alloc),
             is_marked: false,
+            is_changed: false,
         }
     }
 
@@ -83,12 +87,37 @@ impl<T: Drop> Marked<T> {
         ensures ok { OnOk result (self.new ≡ record self.old { present = self.old.present ++ item ∷ [] }) }
         ensures err { OnErr result (self.new ≡ self.old) }
     {
-        self.slots.push(Slot {
-            item,
-            is_new: self.is_marked,
-            is_gone: false,
-        })?;
+        self.slots.push(new_slot(item, self.is_marked))?;
+        self.is_changed = self.is_marked;
         Ok(())
+    }
+
+    /// Adds an item before the one at an index, or at the end. Where memory is refused, it hands the item back.
+    pub fn insert(&mut self, index: usize, item: T) -> Result<(), AllocFailed<T>>
+        ensures ok { OnOk result (self.new ≡ record self.old { present = insert self.old.present index item }) }
+        ensures err { OnErr result (self.new ≡ self.old) }
+        ensures handed_back { IfErr result (λ refused. refused.value ≡ item) }
+    {
+        let place = place_in(&self.slots, index);
+        match self.slots.insert(place, new_slot(item, self.is_marked)) {
+            Ok(()) => {
+                self.is_changed = self.is_marked;
+                Ok(())
+            }
+            Err(refused) => Err(AllocFailed {
+                value: refused.value.item,
+            }),
+        }
+    }
+
+    /// Takes out the item at an index. It takes no memory.
+    pub fn remove(&mut self, index: usize)
+        requires { index < length self.old.present }
+        ensures { self.new ≡ record self.old { present = remove self.old.present index } }
+    {
+        let place = place_in(&self.slots, index);
+        take_place(&mut self.slots, self.is_marked, place);
+        self.is_changed = self.is_marked;
     }
 
     /// Makes the list what it was at the mark, and takes the mark away. It takes no memory.
@@ -96,16 +125,18 @@ impl<T: Drop> Marked<T> {
         requires { IsSome self.old.at_mark }
         ensures { IfSome self.old.at_mark (λ items. self.new ≡ record { present = items; at_mark = None }) }
     {
-        restore(&mut self.slots);
+        go_back(&mut self.slots, self.is_changed);
         self.is_marked = false;
+        self.is_changed = false;
     }
 
     /// Takes the mark away, and leaves the list as it is. It takes no memory.
     pub fn forget(&mut self)
         ensures { self.new ≡ record self.old { at_mark = None } }
     {
-        settle(&mut self.slots);
+        go_on(&mut self.slots, self.is_changed);
         self.is_marked = false;
+        self.is_changed = false;
     }
 }
 
@@ -115,6 +146,46 @@ impl<T: Numbered> Marked<T> {
         ensures { self.new ≡ record self.old { present = filter (λ x. not (T.number_of x == number)) self.old.present } }
     {
         strike(&mut self.slots, self.is_marked, number);
+        self.is_changed = self.is_marked;
+    }
+}
+
+// The place of an item that comes now.
+fn new_slot<T>(item: T, is_marked: bool) -> Slot<T>
+    ensures { result ≡ new_slot is_marked item }
+{
+    Slot {
+        item,
+        is_new: is_marked,
+        is_gone: false,
+    }
+}
+
+// The place of the item at an index, or the end.
+fn place_in<T>(slots: &[Slot<T>], index: usize) -> usize
+    ensures { result ≡ place_in slots.now index }
+{
+    let mut left = index;
+    for (place, slot) in slots.iter().enumerate() {
+        if !slot.is_gone {
+            if left == 0 {
+                return place;
+            }
+            left -= 1;
+        }
+    }
+    slots.len()
+}
+
+// Takes out the item in a place. Under a mark it keeps its place.
+fn take_place<T: Drop>(slots: &mut Vec<Slot<T>>, is_marked: bool, place: usize)
+    requires { place < length slots.old.items }
+    ensures { slots.new.items ≡ without_place is_marked slots.old.items place }
+{
+    if is_marked {
+        slots[place].is_gone = true;
+    } else {
+        slots.remove(place);
     }
 }
 
@@ -129,6 +200,24 @@ fn count<T>(slots: &[Slot<T>]) -> usize
         }
     }
     count
+}
+
+// Puts all back, where anything came or went.
+fn go_back<T: Drop>(slots: &mut Vec<Slot<T>>, is_changed: bool)
+    ensures { slots.new.items ≡ gone_back is_changed slots.old.items }
+{
+    if is_changed {
+        restore(slots);
+    }
+}
+
+// Keeps all as it is, where anything came or went.
+fn go_on<T: Drop>(slots: &mut Vec<Slot<T>>, is_changed: bool)
+    ensures { slots.new.items ≡ gone_on is_changed slots.old.items }
+{
+    if is_changed {
+        settle(slots);
+    }
 }
 
 // Puts all back.

@@ -3,7 +3,10 @@ use Rattle.tks_mark.proofs.Slots.{struck_present, struck_then, struck_clean}
 use Rattle.tks_mark.proofs.list.Marked.drop_number.Goals as goal
 
 pub invariant_of-self : goal.invariant_of-self
-invariant_of-self g c = λ e. rw c.strike.ensures (struck_clean g.T.Numbered.number_of c.args.number c.self.inside.is_marked c.self.inside.slots.items e (c.self.invariant e))
+invariant_of-self g c = record {
+  clean = λ e. rw c.strike.ensures (struck_clean g.T.Numbered.number_of c.args.number c.self.inside.is_marked c.self.inside.slots.items e (c.self.invariant.clean (c.self.invariant.unchanged e)));
+  unchanged = λ e. e;
+}
 
 pub returns : goal.returns
 returns g c =

@@ -1,12 +1,15 @@
 use Rattle.std.proofs.Common.{rules}
-use Rattle.tks_mark.proofs.Slots.{settled_present, settled_clean}
+use Rattle.tks_mark.proofs.Slots.{on_present, on_clean}
 use Rattle.tks_mark.proofs.list.Marked.forget.Goals as goal
 
 pub invariant_of-self : goal.invariant_of-self
-invariant_of-self g c = λ _. rw c.settle.ensures (settled_clean c.self.inside.slots.items)
+invariant_of-self g c = record {
+  clean = λ e. rw c.go_on.ensures (on_clean c.self.inside.is_changed c.self.inside.slots.items c.self.invariant.clean);
+  unchanged = λ e. e;
+}
 
 pub returns : goal.returns
 returns g c =
     let view = c.self.view_is in
-    let same = settled_present c.self.inside.slots.items in
+    let same = on_present c.self.inside.is_changed c.self.inside.slots.items in
     search rules

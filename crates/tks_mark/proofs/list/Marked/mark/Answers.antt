@@ -7,5 +7,5 @@ pub returns : goal.returns
 returns g c =
     let view = c.self.view_is in
     let none : at_mark_of c.self.inside.is_marked c.self.inside.slots.items ≡ None = search rules in
-    let same = clean_then c.self.inside.slots.items (c.self.invariant (unmarked c.self.inside.is_marked c.self.inside.slots.items none)) in
+    let same = clean_then c.self.inside.slots.items (c.self.invariant.clean (c.self.invariant.unchanged (unmarked c.self.inside.is_marked c.self.inside.slots.items none))) in
     search rules

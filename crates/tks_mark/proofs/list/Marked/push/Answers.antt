@@ -1,5 +1,6 @@
 use Rattle.std.proofs.Common.{rules}
-use Rattle.tks_mark.proofs.Slots.{one_more_present, pushed, new_slot}
+use Rattle.tks_mark.specs.Views.{new_slot}
+use Rattle.tks_mark.proofs.Slots.{one_more_present, pushed}
 use Rattle.tks_mark.proofs.list.Marked.push.Goals as goal
 
 pub returns-clause-ok : goal.returns-clause-ok
