@@ -1,0 +1,2 @@
+pub mod EventQueue
+pub mod Index

@@ -1,0 +1,178 @@
+ghost use Rattle.std.specs.Prelude.{◌≡◌, length, Some, None, [], IsSome, is_some, IfSome, IfOk, IfErr, OnOk, OnErr};
+ghost use Rattle.tks_queue.specs.EventQueue.{queued, put, first, without_first, without_window};
+ghost use Rattle.tks_queue.specs.Index.{up_to_mark, is_mark, index_for};
+
+use crate::place::Place;
+use crate::queued::Queued;
+use std::alloc::{AllocError, AllocFailed, Global};
+use std::marker::Model;
+use tks_event::Event;
+use tks_mark::{Items, Marked};
+
+/// The events that wait to be delivered, the next one first. They know what they were at a mark.
+#[derive(Drop)]
+pub struct Queue {
+    alloc: Global,
+    events: Marked<Queued>,
+}
+
+impl Model for Queue {
+    ghost use Rattle.tks_mark.specs.Views.{Views};
+    ghost use Rattle.tks_queue.specs.declared.queued.Queued.{Queued};
+
+    ghost Value = { Views Queued };
+
+    ghost view = { λ q. q.events };
+}
+
+impl Queue {
+    /// No event, and no mark.
+    pub fn new(alloc: Global) -> Queue
+        ensures { result ≡ record { present = []; at_mark = None } }
+    {
+        Queue {
+            alloc,
+            events: Marked::new(alloc),
+        }
+    }
+
+    /// The events that wait, the next one first.
+    pub fn events(&self) -> Items<'_, Queued>
+        ensures { result ≡ self.now.present }
+    {
+        self.events.items()
+    }
+
+    /// How many events wait.
+    pub fn len(&self) -> usize
+        ensures { result ≡ length self.now.present }
+    {
+        self.events.len()
+    }
+
+    /// Puts an event into its place. Where memory is refused, it hands the event back.
+    #[tactic(auto, using(crate::proofs::Putting::put_at_index))]
+    pub fn put(&mut self, place: Place, event: Event) -> Result<(), AllocFailed<Event>>
+        ensures ok { OnOk result (self.new ≡ record self.old { present = put place event self.old.present }) }
+        ensures err { OnErr result (self.new ≡ self.old) }
+        ensures handed_back { IfErr result (λ refused. refused.value ≡ event) }
+    {
+        let index = index_for(place, &self.events);
+        let queued = Queued {
+            event,
+            with_mark: is_mark(place),
+        };
+        match self.events.insert(index, queued) {
+            Ok(()) => Ok(()),
+            Err(refused) => Err(AllocFailed {
+                value: refused.value.event,
+            }),
+        }
+    }
+
+    /// Takes out the first event, and hands out a copy of it.
+    pub fn take(&mut self) -> Result<Option<Event>, AllocError>
+        ensures value { IfOk result (λ event. event ≡ first self.old.present) }
+        ensures ok { OnOk result (self.new ≡ record self.old { present = without_first self.old.present }) }
+        ensures err { OnErr result (self.new ≡ self.old) }
+    {
+        let event = match self.events.items().next() {
+            Some(queued) => queued.event.try_clone()?,
+            None => return Ok(None),
+        };
+        self.events.remove(0);
+        Ok(Some(event))
+    }
+
+    /// Takes out all events of a window. It takes no memory.
+    pub fn drop_window(&mut self, window: u64)
+        ensures { self.new ≡ record self.old { present = without_window window self.old.present } }
+    {
+        self.events.drop_number(window);
+    }
+
+    /// Whether a mark stands.
+    pub fn is_marked(&self) -> bool
+        ensures { result ≡ is_some self.now.at_mark }
+    {
+        self.events.is_marked()
+    }
+
+    /// Sets the mark. It takes no memory.
+    pub fn mark(&mut self)
+        requires { self.old.at_mark ≡ None }
+        ensures { self.new ≡ record self.old { at_mark = Some self.old.present } }
+    {
+        self.events.mark();
+    }
+
+    /// Makes the queue what it was at the mark, and takes the mark away. It takes no memory.
+    pub fn back_to(&mut self)
+        requires { IsSome self.old.at_mark }
+        ensures { IfSome self.old.at_mark (λ events. self.new ≡ record { present = events; at_mark = None }) }
+    {
+        self.events.back_to();
+    }
+
+    /// Takes the mark away, and leaves the queue as it is. It takes no memory.
+    pub fn forget(&mut self)
+        ensures { self.new ≡ record self.old { at_mark = None } }
+    {
+        self.events.forget();
+    }
+
+    /// The same events, with no mark.
+    pub fn try_clone(&self) -> Result<Queue, AllocError>
+        ensures { IfOk result (λ copy. copy ≡ record self.now { at_mark = None }) }
+    {
+        Ok(Queue {
+            alloc: self.alloc,
+            events: copied(self.alloc, &self.events)?,
+        })
+    }
+}
+
+// Whether an event is put behind the last one of its kind.
+fn is_mark(place: Place) -> bool
+    ensures { result ≡ is_mark place }
+{
+    matches!(place, Place::Mark)
+}
+
+// Before which event one is put into a place.
+fn index_for(place: Place, events: &Marked<Queued>) -> usize
+    ensures { result ≡ index_for place events.now.present }
+{
+    match place {
+        Place::Tail => events.len(),
+        Place::Head => 0,
+        Place::Mark => up_to_mark(events),
+    }
+}
+
+// How many events stand up to the last one that was put at `Place::Mark`.
+fn up_to_mark(events: &Marked<Queued>) -> usize
+    ensures { result ≡ up_to_mark events.now.present }
+{
+    let len = events.len();
+    let mut behind = len;
+    let mut count = 0;
+    for queued in events.items() {
+        behind -= 1;
+        if queued.with_mark {
+            count = len - behind;
+        }
+    }
+    count
+}
+
+// The same events, with no mark.
+fn copied(alloc: Global, events: &Marked<Queued>) -> Result<Marked<Queued>, AllocError>
+    ensures { IfOk result (λ copy. copy ≡ record events.now { at_mark = None }) }
+{
+    let mut copy = Marked::new(alloc);
+    for queued in events.items() {
+        copy.push(queued.try_clone()?)?;
+    }
+    Ok(copy)
+}
