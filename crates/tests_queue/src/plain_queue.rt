@@ -39,6 +39,7 @@ impl PlainQueue {
             window,
             with_mark,
         };
+        let index = index.min(self.letters.len());
         self.letters.insert(index, waiting).ok()?;
         Some(())
     }

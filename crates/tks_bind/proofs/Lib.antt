@@ -1,1 +1,4 @@
 mod Latest
+mod Order
+mod Deciding
+mod Winner

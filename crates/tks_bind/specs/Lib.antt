@@ -1,2 +1,6 @@
 pub mod History
 pub mod Log
+pub mod Matching
+pub mod Occurs
+pub mod Choice
+pub mod Beating

@@ -2,5 +2,7 @@
 #![tactic(auto)]
 
 mod history;
+mod laws;
 
 pub use history::{History, MAX_HISTORY};
+pub use laws::{beating_is_an_order, some_way_is_unbeaten};

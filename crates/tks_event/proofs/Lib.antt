@@ -10,3 +10,4 @@ pub mod Collecting
 pub mod Answering
 pub mod Bits
 pub mod SpelledBack
+pub mod Equal

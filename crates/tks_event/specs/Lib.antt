@@ -6,3 +6,4 @@ pub mod Spelling
 pub mod Reading
 pub mod View
 pub mod Canonical
+pub mod Equality

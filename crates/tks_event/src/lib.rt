@@ -2,6 +2,7 @@
 #![tactic(auto)]
 
 mod collected;
+mod equality;
 mod event;
 mod keysym;
 mod kind;
@@ -16,6 +17,7 @@ mod spelling;
 mod words;
 
 pub use collected::MAX_EVENTS;
+pub use equality::are_equal;
 pub use event::Event;
 pub use keysym::{is_keysym, is_modifier_key, keysym_char};
 pub use kind::{Kind, is_button};
