@@ -121,7 +121,7 @@ pub fn queue_call_agrees(
     let window = dice.roll(3) as u64;
     let agrees = match dice.roll(20) {
         0..=9 => {
-            let letter = b'a'.wrapping_add(dice.roll(26) as u8);
+            let letter = *b"abcdefghijklmnopqrst".get(dice.roll(20))?;
             let place = any_place(dice);
             queue.put(place, letter_event(alloc, letter, window)?).ok()?;
             plain.put(place, letter, window)?;

@@ -1,4 +1,6 @@
 mod Latest
+mod Rows
+mod Finding
 mod Order
 mod Deciding
 mod Winner

@@ -4,3 +4,4 @@ pub mod Matching
 pub mod Occurs
 pub mod Choice
 pub mod Beating
+pub mod Search

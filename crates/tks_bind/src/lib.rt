@@ -3,6 +3,9 @@
 
 mod history;
 mod laws;
+mod matching;
+mod search;
 
 pub use history::{History, MAX_HISTORY};
 pub use laws::{beating_is_an_order, some_way_is_unbeaten};
+pub use search::occurs;
