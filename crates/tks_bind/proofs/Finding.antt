@@ -86,9 +86,9 @@ module _ (p : Pattern) (e : Event) (history : List Event) (reached : ℕ → Boo
       by None gone rest = Decides-like (comes_before p e reached history n) (up_none n gone) (down_none n gone) rest
       by (Some d) stands rest =
           Decides-like ((reached n && is_linked p d e) || (may_lie_before e d && comes_before p e reached history n)) (up_some n d stands) (down_some n d stands) (
-            Decides-or (reached n && is_linked p d e) (may_lie_before e d && comes_before p e reached history n)
-              (Decides-and (reached n) (is_linked p d e) (ends n) (is_itself (is_linked p d e)))
-              (Decides-and (may_lie_before e d) (comes_before p e reached history n) (is_itself (may_lie_before e d)) rest)
+          Decides-or (reached n && is_linked p d e) (may_lie_before e d && comes_before p e reached history n)
+          (Decides-and (reached n) (is_linked p d e) (ends n) (is_itself (is_linked p d e)))
+          (Decides-and (may_lie_before e d) (comes_before p e reached history n) (is_itself (may_lie_before e d)) rest)
           )
 
 pub ends_so : (ps : List Pattern) (history : List Event) (place : ℕ) → Decides (ends_at ps history place) (EndsAt ps history place)
@@ -99,20 +99,20 @@ ends_so (p ∷ []) history place = by (slice_get history place) refl
     by None gone = never (λ h. none_is_some (slice_get history place) h.0 gone h.1.stands)
     by (Some e) stands =
         Decides-like (fits p e) (λ f. (e, record { stands = stands; fits = f }, tt))
-          (λ h. subst (λ x. fits p x ≡ true) (one_event (slice_get history place) e h.0 stands h.1.stands) h.1.fits) (is_itself (fits p e))
+        (λ h. subst (λ x. fits p x ≡ true) (one_event (slice_get history place) e h.0 stands h.1.stands) h.1.fits) (is_itself (fits p e))
 ends_so (p ∷ q ∷ before) history place = by (λ n. ends_so (q ∷ before) history n) (slice_get history place) refl
   where
     by : ((n : ℕ) → Decides (ends_at (q ∷ before) history n) (EndsAt (q ∷ before) history n)) → (o : Option Event) → slice_get history place ≡ o
         → Decides (goes_on_at p (λ n. ends_at (q ∷ before) history n) history place o)
-          ((e : Event) × FitsAt p history place e × ((from : ℕ) × (d : Event) × Follows p history from d place e × EndsAt (q ∷ before) history from))
+        ((e : Event) × FitsAt p history place e × ((from : ℕ) × (d : Event) × Follows p history from d place e × EndsAt (q ∷ before) history from))
     by ends None gone = never (λ h. none_is_some (slice_get history place) h.0 gone h.1.stands)
     by ends (Some e) stands =
         Decides-like (fits p e && comes_before p e (λ n. ends_at (q ∷ before) history n) history place)
-          (λ f. (e, record { stands = stands; fits = f.0 }, f.1))
-          (λ h. subst (λ x. (fits p x ≡ true) × ((from : ℕ) × (d : Event) × Follows p history from d place x × EndsAt (q ∷ before) history from))
-            (one_event (slice_get history place) e h.0 stands h.1.stands) (h.1.fits, h.2))
-          (Decides-and (fits p e) (comes_before p e (λ n. ends_at (q ∷ before) history n) history place) (is_itself (fits p e))
-            (before_so p e history (λ n. ends_at (q ∷ before) history n) (λ n. EndsAt (q ∷ before) history n) ends place))
+        (λ f. (e, record { stands = stands; fits = f.0 }, f.1))
+        (λ h. subst (λ x. (fits p x ≡ true) × ((from : ℕ) × (d : Event) × Follows p history from d place x × EndsAt (q ∷ before) history from))
+        (one_event (slice_get history place) e h.0 stands h.1.stands) (h.1.fits, h.2))
+        (Decides-and (fits p e) (comes_before p e (λ n. ends_at (q ∷ before) history n) history place) (is_itself (fits p e))
+        (before_so p e history (λ n. ends_at (q ∷ before) history n) (λ n. EndsAt (q ∷ before) history n) ends place))
 
 pub occurs_so : (sequence : List Pattern) (history : List Event) → Decides (ends_at (turned sequence []) history (length history - 1)) (Occurs sequence history)
 occurs_so sequence history = ends_so (turned sequence []) history (length history - 1)

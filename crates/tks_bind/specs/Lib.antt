@@ -5,3 +5,4 @@ pub mod Occurs
 pub mod Choice
 pub mod Beating
 pub mod Search
+pub mod Percents

@@ -1,4 +1,8 @@
-ghost use Rattle.std.specs.Prelude.{List, ◌∷◌, ◌≡◌};
+ghost use Rattle.std.specs.Prelude.{List, ℕ, true, [], ◌∷◌, ◌≡◌};
+ghost use Rattle.tks_list.specs.ListText.{Splits};
+ghost use Rattle.tks_event.specs.declared.event.Event.{Event};
+ghost use Rattle.tks_bind.specs.Percents.{has_field, field_text, value};
+ghost use Rattle.tks_bind.specs.declared.field.Field.{Field};
 ghost use Rattle.tks_bind.specs.Choice.{Way, Beats, Unbeaten};
 
 /// No way to meet a binding beats itself, and one that beats another beats all that this one beats.
@@ -12,4 +16,10 @@ pub fn beating_is_an_order()
 #[tactic(auto, using(crate::proofs::Winner::one_wins))]
 pub fn some_way_is_unbeaten()
     ensures { (first : Way) (ways : List Way) → (w : Way) × Unbeaten w (first ∷ ways) }
+{}
+
+/// What is put into a script for a field of an event is one element of a list, and the element is the field's value.
+#[tactic(auto, using(crate::proofs::Values::value_splits))]
+pub fn values_stand_for_themselves()
+    ensures { (e : Event) (path : List ℕ) (f : Field) → has_field e.kind f ≡ true → Splits (value e path f) (field_text e path f ∷ []) }
 {}

@@ -1,11 +1,15 @@
 //! Which binding an event fires: the history of events, the bindings, and the choice among them.
 #![tactic(auto)]
 
+mod field;
 mod history;
 mod laws;
 mod matching;
 mod search;
+mod substitution;
 
+pub use field::Field;
 pub use history::{History, MAX_HISTORY};
-pub use laws::{beating_is_an_order, some_way_is_unbeaten};
+pub use laws::{beating_is_an_order, some_way_is_unbeaten, values_stand_for_themselves};
 pub use search::occurs;
+pub use substitution::percents;

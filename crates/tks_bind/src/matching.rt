@@ -24,7 +24,7 @@ pub fn fits(pattern: &Pattern, event: &Event) -> bool
         && event.state.holds(pattern.modifiers)
 }
 
-fn is_of_button(kind: Kind) -> bool
+pub fn is_of_button(kind: Kind) -> bool
     ensures { result ≡ is_of_button kind }
 {
     matches!(kind, Kind::ButtonPress | Kind::ButtonRelease)

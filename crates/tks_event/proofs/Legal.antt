@@ -1,5 +1,5 @@
 -- What is spelled is a sequence.
-use Rattle.std.proofs.Common.{◌≡◌, ℕ, zero, suc, ◌-◌, ◌<◌, ◌≤◌, Bool, true, false, not, ◌&&◌, ◌||◌, ◌==◌, List, [], ◌∷◌, ◌++◌, length, Option, Some, None, refl, sym, ap, ◌∙◌, subst, arith}
+use Rattle.std.proofs.Common.{IfSome, ◌≡◌, ℕ, zero, suc, ◌-◌, ◌<◌, ◌≤◌, Bool, true, false, not, ◌&&◌, ◌||◌, ◌==◌, List, [], ◌∷◌, ◌++◌, length, Option, Some, None, refl, sym, ap, ◌∙◌, subst, arith}
 use Rattle.std.specs.Prelude.{nat_lt, nat_le, bit_or, is_some, if◌then◌else◌}
 use Rattle.std.specs.List.{list_all}
 use Rattle.std.proofs.lemmas.Bool.{eq-eqb, cond_both, and_parts, and_from, or_left, or_right, ltb-true, lt-ltb, leb-true, le-leb}
@@ -238,3 +238,23 @@ pub spelled_legal : (t : List ℕ) (ps : List Pattern) → Spells t ps → nat_l
 unfolding is_sequence
 spelled_legal _ _ (events t r rs h) few = or_left (is_physical_sequence (all_events (r ∷ rs))) _ (events_legal t r rs h few)
 spelled_legal _ _ (virtual_event s n e h k l) few = or_right (is_physical_sequence (virtual_one n ∷ [])) (is_virtual_sequence (virtual_one n ∷ [])) k
+
+-- ---- characters of keysyms
+
+letter_char : (t : List ℕ) (c : ℕ) → alphanumeric_of t ≡ Some c → is_text_byte c ≡ true
+letter_char [] c e = absurd cc
+letter_char (d ∷ []) c e =
+    cond_both (is_alphanumeric d) (Some d) None (λ o. o ≡ Some c → is_text_byte c ≡ true)
+    (λ h f. let same : d ≡ c = cc in subst (λ x. is_text_byte x ≡ true) same (alphanumeric_byte d h)) (λ h f. absurd cc) e
+letter_char (d ∷ f ∷ t) c e = absurd cc
+
+pub char_is_text : (t : List ℕ) (c : ℕ) → keysym_char t ≡ Some c → is_text_byte c ≡ true
+char_is_text t c e =
+    of_either (alphanumeric_of t) _ c _ e (letter_char t c)
+    (λ e. of_either (named_in first_signs t) _ c _ e (of_value is_text_byte first_signs t c refl)
+    (λ e. of_either (named_in second_signs t) _ c _ e (of_value is_text_byte second_signs t c refl)
+    (λ e. of_either (named_in third_signs t) (named_in fourth_signs t) c _ e (of_value is_text_byte third_signs t c refl) (of_value is_text_byte fourth_signs t c refl))))
+
+pub chars_are_text : (t : List ℕ) (o : Option ℕ) → o ≡ keysym_char t → IfSome o (λ c. is_text_byte c ≡ true)
+chars_are_text t None e = tt
+chars_are_text t (Some c) e = char_is_text t c (sym e)

@@ -1,5 +1,6 @@
 //! Keysyms: the names of keys.
-ghost use Rattle.std.specs.Prelude.{◌≡◌, is_some};
+ghost use Rattle.std.specs.Prelude.{◌≡◌, true, is_some, IfSome};
+ghost use Rattle.tks_text.specs.Text.{is_text_byte};
 ghost use Rattle.std.specs.Option.{option_map};
 ghost use Rattle.tks_event.specs.View.{bytes_seen, keysym_of_text};
 ghost use Rattle.tks_event.specs.Keysyms.{named_in, is_among, is_alphanumeric, alphanumeric_of, first_signs, second_signs, third_signs, fourth_signs, keysym_char, editing_keys, moving_keys, function_keys, further_function_keys, is_modifier_key, is_function_key, is_keysym, name_in, sign_name};
@@ -142,8 +143,10 @@ fn char_of(text: &[u8]) -> Option<u8>
 
 /// The printing character of a keysym: that of a letter, a digit, `space`, or the name of a sign, as `exclam`.
 /// `None` for every other keysym, `Tab` and `Return` among them, and for a text that is no keysym.
+#[tactic(auto, using(crate::proofs::Legal::chars_are_text))]
 pub fn keysym_char(text: &Txt) -> Option<u8>
-    ensures { result ≡ keysym_char text.now }
+    ensures value { result ≡ keysym_char text.now }
+    ensures text { IfSome result (λ c. is_text_byte c ≡ true) }
 {
     char_of(text.as_bytes())
 }

@@ -1,5 +1,6 @@
 -- What is joined splits back.
 use Rattle.std.proofs.Common.{◌≡◌, ◌||◌, ◌==◌, ℕ, zero, suc, ◌+◌, Bool, true, false, List, [], ◌∷◌, ◌++◌, append_assoc, Some, refl, sym, ap, subst, arith}
+use Rattle.std.proofs.lemmas.List.{append-nil}
 use Rattle.std.specs.List.{list_all}
 use Rattle.std.specs.Prelude.{not}
 use Rattle.std.proofs.lemmas.Bool.{cond_both, eqb-true, false_from_ne_true}
@@ -133,3 +134,6 @@ spaced_splits (e ∷ l) = (quoted e ++ spaced l, spaced l, (32 ∷ [], refl, (re
 pub joined_splits : (l : List (List ℕ)) → Splits (joined l) l
 joined_splits [] = tt
 joined_splits (e ∷ l) = (quoted e ++ spaced l, spaced l, ([], refl, tt), quoted_stands e (spaced l), spaced_ends l, spaced_splits l)
+
+pub backslashed_splits : (e : List ℕ) → Splits (backslashed e) (e ∷ [])
+backslashed_splits e = (backslashed e, [], ([], refl, tt), subst (ElementThen [] e) (append-nil (backslashed e)) (backslashed_stands e []), tt, tt)

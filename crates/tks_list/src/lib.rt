@@ -9,6 +9,6 @@ mod reading;
 mod writing;
 
 pub use fault::ListFault;
-pub use laws::{join_splits_back, one_list};
+pub use laws::{backslash_form_splits_back, join_splits_back, one_list};
 pub use reading::split;
 pub use writing::{backslash_form, join, quote};

@@ -28,7 +28,7 @@ stays_large base n i ds h lt e above small =
 digit_is_text : (c : ℕ) → 48 ≤ c → c ≤ 57 → is_text_byte c ≡ true
 digit_is_text c h k = grind (arith, common_steps)
 
-digits_are_text : (ds : List ℕ) → AllDigits 10 ds → IsText ds
+pub digits_are_text : (ds : List ℕ) → AllDigits 10 ds → IsText ds
 digits_are_text [] h = tt
 digits_are_text (d ∷ ds) h = let r = digit_from_value d h.0 in (digit_is_text d r.0 r.1, digits_are_text ds h.1)
 

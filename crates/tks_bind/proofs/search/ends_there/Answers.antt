@@ -17,6 +17,9 @@ loop-pattern-preserved c =
     let before = c.loop-pattern.invariant.1 in
     let so_far = c.loop-pattern.invariant.2 in
     let told = c.loop-pattern.invariant.3 in
-    let p = c.pattern-item.result in
-    (p, q ∷ before, turned_next c.in-Some.rest.now c.loop-pattern.pattern-index p (q ∷ before) (omega arith) c.pattern-item.is ∙ so_far,
-        told_next p q before c.args.history.now c.loop-pattern.row c.next_row-row.result (length c.args.history.now) told c.next_row-row.ensures)
+    let p = c.pattern-item.result in (
+      p,
+      q ∷ before,
+      turned_next c.in-Some.rest.now c.loop-pattern.pattern-index p (q ∷ before) (omega arith) c.pattern-item.is ∙ so_far,
+      told_next p q before c.args.history.now c.loop-pattern.row c.next_row-row.result (length c.args.history.now) told c.next_row-row.ensures,
+    )
