@@ -3,6 +3,7 @@ mod Rows
 mod Finding
 mod Digits
 mod Values
+mod Placing
 mod Order
 mod Deciding
 mod Winner

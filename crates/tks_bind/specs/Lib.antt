@@ -6,3 +6,5 @@ pub mod Choice
 pub mod Beating
 pub mod Search
 pub mod Percents
+pub mod Binding
+pub mod Indexes

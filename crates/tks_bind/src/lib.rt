@@ -1,6 +1,9 @@
 //! Which binding an event fires: the history of events, the bindings, and the choice among them.
 #![tactic(auto)]
 
+mod binding;
+mod bindings;
+mod fault;
 mod field;
 mod history;
 mod laws;
@@ -8,6 +11,9 @@ mod matching;
 mod search;
 mod substitution;
 
+pub use binding::Binding;
+pub use bindings::Bindings;
+pub use fault::BindFault;
 pub use field::Field;
 pub use history::{History, MAX_HISTORY};
 pub use laws::{beating_is_an_order, some_way_is_unbeaten, values_stand_for_themselves};

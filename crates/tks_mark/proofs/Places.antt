@@ -1,6 +1,6 @@
 -- Items that come and go by index.
 use Rattle.std.specs.List.{insert, remove}
-use Rattle.std.proofs.Common.{◌≡◌, ◌<◌, ◌≤◌, ℕ, zero, suc, Bool, true, false, List, [], ◌∷◌, ◌++◌, length, slice_set, slice_index_or, Some, refl, ap, arith}
+use Rattle.std.proofs.Common.{◌≡◌, ◌+◌, ◌<◌, ◌≤◌, ℕ, zero, suc, Bool, true, false, List, [], ◌∷◌, ◌++◌, length, slice_set, slice_index_or, Some, refl, ap, arith}
 use Rattle.tks_mark.specs.declared.slot.Slot.{Slot}
 use Rattle.tks_mark.specs.Views.{new_slot, then_in, present_of, then_of, at_mark_of, place_in, without_place, AllClean}
 
@@ -121,3 +121,9 @@ module _ {X : Type 0} where
   gone_for_good [] p h = absurd (omega arith)
   gone_for_good (t ∷ slots) zero h = refl
   gone_for_good (t ∷ slots) (suc p) h = ap (λ r. t ∷ r) (gone_for_good slots p (omega arith))
+
+  -- put before another that is then taken out, an item stands in its place
+  pub put_in_place : (xs : List X) (i : ℕ) (x : X) → i < length xs → remove (insert xs i x) (i + 1) ≡ slice_set xs i x
+  put_in_place [] i x h = absurd (omega arith)
+  put_in_place (y ∷ xs) zero x h = refl
+  put_in_place (y ∷ xs) (suc i) x h = let more : suc i + 1 ≡ suc (i + 1) = omega arith in rw more (ap (λ r. y ∷ r) (put_in_place xs i x (omega arith)))

@@ -1,5 +1,5 @@
 ghost use Rattle.std.specs.Prelude.{◌≡◌, ◌++◌, [], ◌∷◌, ◌==◌, ◌&&◌, ◌||◌, not, length, Some, None, IsSome, is_some, IfSome, OnOk, OnErr, IfErr};
-ghost use Rattle.std.specs.Prelude.{ℕ, ◌+◌, ◌<◌, ◌≤◌};
+ghost use Rattle.std.specs.Prelude.{ℕ, ◌+◌, ◌<◌, ◌≤◌, slice_set};
 ghost use Rattle.std.specs.List.{filter, insert, remove};
 ghost use Rattle.tks_mark.specs.Views.{Views, present_of, new_slot, place_in, without_place, gone_back, gone_on, kept, restored, settled, stays_without, struck};
 
@@ -118,6 +118,26 @@ impl<T: Drop> Marked<T> {
         let place = place_in(&self.slots, index);
         take_place(&mut self.slots, self.is_marked, place);
         self.is_changed = self.is_marked;
+    }
+
+    /// Puts an item into the place of the one at an index. Where memory is refused, it hands the item back.
+    #[tactic(auto, using(crate::proofs::Places::put_in_place))]
+    pub fn replace(&mut self, index: usize, item: T) -> Result<(), AllocFailed<T>>
+        requires { index < length self.old.present }
+        ensures ok { OnOk result (self.new ≡ record self.old { present = slice_set self.old.present index item }) }
+        ensures err { OnErr result (self.new ≡ self.old) }
+        ensures handed_back { IfErr result (λ refused. refused.value ≡ item) }
+    {
+        // As many items as stand behind the new one, and the old one.
+        let behind = self.len() - index;
+        match self.insert(index, item) {
+            Ok(()) => {
+                let old = self.len() - behind;
+                self.remove(old);
+                Ok(())
+            }
+            Err(refused) => Err(refused),
+        }
     }
 
     /// Makes the list what it was at the mark, and takes the mark away. It takes no memory.

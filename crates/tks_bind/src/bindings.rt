@@ -1,0 +1,258 @@
+//! The bindings.
+ghost use Rattle.std.specs.Prelude.{◌≡◌, ◌≢◌, ◌↔◌, ◌≤◌, ◌<◌, ◌^◌, [], ◌∷◌, ◌++◌, length, map, Some, None, Err, IsSome, is_some, IfSome, IfOk, OnOk, OnErr, option_copied};
+ghost use Rattle.tks_text.specs.Text.{IsText};
+ghost use Rattle.tks_event.specs.Canonical.{canonical};
+ghost use Rattle.tks_bind.specs.Binding.{Content, nothing, script_for, placed, without, set, unset, made, appended, bound, spelled};
+ghost use Rattle.tks_bind.specs.Indexes.{index_of};
+
+use crate::binding::Binding;
+use crate::fault::BindFault;
+use std::alloc::{AllocError, Global};
+use std::marker::Model;
+use tks_event::Sequence;
+use tks_mark::{Items, Marked};
+use tks_text::{Seq, Txt};
+
+/// The number that none reaches.
+const MAX_NUMBER: u64 = 1 << 62;
+
+/// The bindings, in the order in which they were made. They know what they were at a mark.
+#[derive(Drop)]
+pub struct Bindings {
+    alloc: Global,
+    bindings: Marked<Binding>,
+    next: u64,
+    next_at_mark: u64,
+}
+
+impl Model for Bindings {
+    ghost use Rattle.tks_bind.specs.Binding.{Views};
+    ghost use Rattle.tks_bind.specs.Indexes.{then_of};
+
+    ghost Value = { Views };
+
+    ghost view = { λ b. record { present = record { bindings = b.bindings.present; next = b.next }; at_mark = then_of b.bindings.at_mark b.next_at_mark } };
+}
+
+impl Bindings {
+    /// No binding, and no mark.
+    pub fn new(alloc: Global) -> Bindings
+        ensures { result ≡ record { present = nothing; at_mark = None } }
+    {
+        Bindings {
+            alloc,
+            bindings: Marked::new(alloc),
+            next: 0,
+            next_at_mark: 0,
+        }
+    }
+
+    /// The bindings, in the order in which they were made.
+    pub fn bindings(&self) -> Items<'_, Binding>
+        ensures { result ≡ self.now.present.bindings }
+    {
+        self.bindings.items()
+    }
+
+    /// How many bindings there are.
+    pub fn len(&self) -> usize
+        ensures { result ≡ length self.now.present.bindings }
+    {
+        self.bindings.len()
+    }
+
+    /// The script that a tag has for a sequence.
+    pub fn script(&self, tag: &Txt, sequence: &Sequence) -> Option<&Txt>
+        ensures { option_copied result ≡ script_for tag.now sequence.now self.now.present.bindings }
+    {
+        script_for(&self.bindings, tag, sequence)
+    }
+
+    /// The sequences of a tag, in canonical spelling, in the order in which its bindings were made.
+    pub fn sequences(&self, tag: &Txt) -> Result<Seq<Txt>, AllocError>
+        ensures { IfOk result (λ found. found ≡ spelled tag.now self.now.present.bindings) }
+    {
+        spelled(self.alloc, &self.bindings, tag)
+    }
+
+    /// Sets the script that a tag has for a sequence. An empty script takes the binding away; one that begins with a
+    /// plus sign is appended, behind a newline, to the script that is there. A binding that is set anew keeps its
+    /// place, and has the greatest number.
+    pub fn bind(&mut self, tag: Txt, sequence: Sequence, script: &Txt) -> Result<(), BindFault>
+        ensures ok { OnOk result (self.new ≡ record self.old { present = bound tag sequence script.now self.old.present }) }
+        ensures full { (result ≡ Err BindFault.OutOfNumbers) ↔ ((script.now ≢ []) × (2 ^ 62 ≤ self.old.present.next)) }
+        ensures err { OnErr result (self.new ≡ self.old) }
+    {
+        if script.as_bytes().is_empty() {
+            self.unset(&tag, &sequence);
+            return Ok(());
+        }
+        if self.next >= MAX_NUMBER {
+            return Err(BindFault::OutOfNumbers);
+        }
+        let script = made(self.alloc, self.script(&tag, &sequence), script)?;
+        self.set(tag, sequence, script)?;
+        Ok(())
+    }
+
+    // Takes a binding away, if it is there.
+    #[tactic(auto, using(crate::proofs::Placing::taken_there, crate::proofs::Placing::none_taken))]
+    fn unset(&mut self, tag: &Txt, sequence: &Sequence)
+        ensures { self.new ≡ record self.old { present = unset tag.now sequence.now self.old.present } }
+    {
+        let index = index_of(&self.bindings, tag, sequence);
+        if index < self.bindings.len() {
+            self.bindings.remove(index);
+        }
+    }
+
+    // Sets a script, with the next number.
+    fn set(&mut self, tag: Txt, sequence: Sequence, script: Txt) -> Result<(), AllocError>
+        requires { self.old.present.next < 2 ^ 62 }
+        ensures ok { OnOk result (self.new ≡ record self.old { present = set tag sequence script self.old.present }) }
+        ensures err { OnErr result (self.new ≡ self.old) }
+    {
+        let binding = Binding {
+            number: self.next,
+            tag,
+            sequence,
+            script,
+        };
+        place(&mut self.bindings, binding)?;
+        self.next += 1;
+        Ok(())
+    }
+
+    /// Whether a mark stands.
+    pub fn is_marked(&self) -> bool
+        ensures { result ≡ is_some self.now.at_mark }
+    {
+        self.bindings.is_marked()
+    }
+
+    /// Sets the mark. It takes no memory.
+    pub fn mark(&mut self)
+        requires { self.old.at_mark ≡ None }
+        ensures { self.new ≡ record self.old { at_mark = Some self.old.present } }
+    {
+        self.bindings.mark();
+        self.next_at_mark = self.next;
+    }
+
+    /// Makes all what it was at the mark, the next number too, and takes the mark away. It takes no memory.
+    pub fn back_to(&mut self)
+        requires { IsSome self.old.at_mark }
+        ensures { IfSome self.old.at_mark (λ content. self.new ≡ record { present = content; at_mark = None }) }
+    {
+        self.bindings.back_to();
+        self.next = self.next_at_mark;
+    }
+
+    /// Takes the mark away, and leaves all as it is. It takes no memory.
+    pub fn forget(&mut self)
+        ensures { self.new ≡ record self.old { at_mark = None } }
+    {
+        self.bindings.forget();
+    }
+
+    /// The same bindings and the same next number, with no mark.
+    pub fn try_clone(&self) -> Result<Bindings, AllocError>
+        ensures { IfOk result (λ copy. copy ≡ record self.now { at_mark = None }) }
+    {
+        Ok(Bindings {
+            alloc: self.alloc,
+            bindings: copied(self.alloc, &self.bindings)?,
+            next: self.next,
+            next_at_mark: 0,
+        })
+    }
+}
+
+// The index of the binding of a tag and a sequence, or the end.
+fn index_of(bindings: &Marked<Binding>, tag: &Txt, sequence: &Sequence) -> usize
+    ensures { result ≡ index_of tag.now sequence.now bindings.now.present }
+{
+    let len = bindings.len();
+    let mut left = len;
+    for binding in bindings.items() {
+        if binding.is_for(tag, sequence) {
+            return len - left;
+        }
+        left -= 1;
+    }
+    len
+}
+
+fn script_for<'a>(bindings: &'a Marked<Binding>, tag: &Txt, sequence: &Sequence) -> Option<&'a Txt>
+    ensures { option_copied result ≡ script_for tag.now sequence.now bindings.now.present }
+{
+    for binding in bindings.items() {
+        if binding.is_for(tag, sequence) {
+            return Some(&binding.script);
+        }
+    }
+    None
+}
+
+// Puts a binding into the place of the one of its tag and sequence, or at the end.
+#[tactic(auto, using(crate::proofs::Placing::placed_there, crate::proofs::Placing::placed_last))]
+fn place(bindings: &mut Marked<Binding>, binding: Binding) -> Result<(), AllocError>
+    ensures ok { OnOk result (bindings.new ≡ record bindings.old { present = placed binding bindings.old.present }) }
+    ensures err { OnErr result (bindings.new ≡ bindings.old) }
+{
+    let index = index_of(bindings, &binding.tag, &binding.sequence);
+    if index < bindings.len() {
+        bindings.replace(index, binding)?;
+    } else {
+        bindings.push(binding)?;
+    }
+    Ok(())
+}
+
+// The script that is set where this one is there and that one is given: one behind a plus sign is appended.
+fn made(alloc: Global, script: Option<&Txt>, given: &Txt) -> Result<Txt, AllocError>
+    ensures { IfOk result (λ t. t ≡ made (option_copied script.entry) given.now) }
+{
+    match given.as_bytes() {
+        [b'+', more @ ..] => appended(alloc, script, more),
+        _ => given.try_clone(),
+    }
+}
+
+// The script that is there, a newline and more; or just that, where none is there.
+fn appended(alloc: Global, script: Option<&Txt>, more: &[u8]) -> Result<Txt, AllocError>
+    requires { IsText more.now }
+    ensures { IfOk result (λ t. t ≡ appended (option_copied script.entry) more.now) }
+{
+    let more = Txt::from_text(alloc, more)?;
+    let Some(script) = script else {
+        return Ok(more);
+    };
+    let mut text = script.try_clone()?;
+    text.push_byte(b'\n')?;
+    text.append(&more)?;
+    Ok(text)
+}
+
+fn spelled(alloc: Global, bindings: &Marked<Binding>, tag: &Txt) -> Result<Seq<Txt>, AllocError>
+    ensures { IfOk result (λ found. found ≡ spelled tag.now bindings.now.present) }
+{
+    let mut found = Seq::new(alloc);
+    for binding in bindings.items() {
+        if binding.tag == *tag {
+            found.push(binding.sequence.canonical(alloc)?)?;
+        }
+    }
+    Ok(found)
+}
+
+// The same bindings, with no mark.
+fn copied(alloc: Global, bindings: &Marked<Binding>) -> Result<Marked<Binding>, AllocError>
+    ensures { IfOk result (λ copy. copy ≡ record bindings.now { at_mark = None }) }
+{
+    let mut copy = Marked::new(alloc);
+    for binding in bindings.items() {
+        copy.push(binding.try_clone(alloc)?)?;
+    }
+    Ok(copy)
+}
