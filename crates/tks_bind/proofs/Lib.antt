@@ -4,6 +4,7 @@ mod Finding
 mod Digits
 mod Values
 mod Placing
+mod Virtually
 mod Order
 mod Deciding
 mod Winner

@@ -8,3 +8,5 @@ pub mod Search
 pub mod Percents
 pub mod Binding
 pub mod Indexes
+pub mod VirtualEvents
+pub mod VirtualIndexes

@@ -10,6 +10,8 @@ mod laws;
 mod matching;
 mod search;
 mod substitution;
+mod virtual_event;
+mod virtuals;
 
 pub use binding::Binding;
 pub use bindings::Bindings;
@@ -19,3 +21,5 @@ pub use history::{History, MAX_HISTORY};
 pub use laws::{beating_is_an_order, some_way_is_unbeaten, values_stand_for_themselves};
 pub use search::occurs;
 pub use substitution::percents;
+pub use virtual_event::VirtualEvent;
+pub use virtuals::Virtuals;

@@ -1,0 +1,37 @@
+use Rattle.std.proofs.Common.{rules, ◌≡◌, Some, None, sym, ◌∙◌}
+use Rattle.tks_bind.specs.VirtualEvents.{other_sequences}
+use Rattle.tks_bind.specs.VirtualIndexes.{found}
+use Rattle.tks_bind.proofs.Virtually.{none_deleted, last_deleted, one_deleted, found_inside, empty_list}
+use Rattle.tks_bind.proofs.virtuals.Virtuals.event_delete_sequence.Goals as goal
+
+pub returns-in_default-clause-ok : goal.returns-in_default-clause-ok
+returns-in_default-clause-ok c =
+    let gone : found c.args.name.now c.args.self.now.present ≡ None = search rules in
+    let none = none_deleted c.args.name.now c.args.sequence.now c.args.self.now.present gone in
+    search rules
+
+pub remove-requires : goal.remove-requires
+remove-requires c =
+    let there : found c.args.name.now c.self.inside.events.present ≡ Some c.in-Some.event.now = search rules in
+    let inside = found_inside c.args.name.now c.in-Some.event.now c.self.inside.events.present there in
+    search rules
+
+pub returns-then-is_empty-clause-ok : goal.returns-then-is_empty-clause-ok
+returns-then-is_empty-clause-ok c =
+    let there : found c.args.name.now c.args.self.now.present ≡ Some c.in-Some.event.now = search rules in
+    let gives : c.in_ok-left.left ≡ other_sequences c.args.sequence.now c.in-Some.event.now.sequences = search rules in
+    let empty = empty_list c.in_ok-left.left (search rules) in
+    let last = last_deleted c.args.name.now c.args.sequence.now c.in-Some.event.now c.args.self.now.present there (sym gives ∙ empty) in
+    search rules
+
+pub replace-requires : goal.replace-requires
+replace-requires c =
+    let there : found c.args.name.now c.self.inside.events.present ≡ Some c.in-Some.event.now = search rules in
+    let inside = found_inside c.args.name.now c.in-Some.event.now c.self.inside.events.present there in
+    search rules
+
+pub returns-clause-ok : goal.returns-clause-ok
+returns-clause-ok c =
+    let there : found c.args.name.now c.args.self.now.present ≡ Some c.in-Some.event.now = search rules in
+    let one = one_deleted c.args.name.now c.args.sequence.now c.in-Some.event.now c.in_ok-left.left c.args.self.now.present there (search rules) (search rules) in
+    search rules

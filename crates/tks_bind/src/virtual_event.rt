@@ -1,0 +1,78 @@
+ghost use Rattle.std.specs.Prelude.{◌≡◌, [], ◌∷◌, ◌++◌, IfOk};
+ghost use Rattle.tks_bind.specs.VirtualEvents.{has_sequence, other_sequences};
+
+use std::alloc::{AllocError, Global};
+use tks_event::{Sequence, are_equal};
+use tks_text::{Seq, Txt};
+
+/// An event that scripts make up, and the sequences by which it is met as well.
+#[derive(Drop)]
+pub struct VirtualEvent {
+    pub name: Txt,
+    pub sequences: Seq<Sequence>,
+}
+
+impl VirtualEvent {
+    /// An equal one.
+    pub fn try_clone(&self, alloc: Global) -> Result<VirtualEvent, AllocError>
+        ensures { IfOk result (λ v. v ≡ self.now) }
+    {
+        Ok(VirtualEvent {
+            name: self.name.try_clone()?,
+            sequences: copied(alloc, self.sequences.as_slice())?,
+        })
+    }
+}
+
+// Whether a sequence is among others.
+pub fn has_sequence(sequences: &[Sequence], sequence: &Sequence) -> bool
+    ensures { result ≡ has_sequence sequence.now sequences.now }
+{
+    for found in sequences {
+        if are_equal(found.as_slice(), sequence.as_slice()) {
+            return true;
+        }
+    }
+    false
+}
+
+// Equal sequences.
+fn copied(alloc: Global, sequences: &[Sequence]) -> Result<Seq<Sequence>, AllocError>
+    ensures { IfOk result (λ copy. copy ≡ sequences.now) }
+{
+    let mut copy = Seq::new(alloc);
+    for sequence in sequences {
+        copy.push(sequence.try_clone(alloc)?)?;
+    }
+    Ok(copy)
+}
+
+// Equal sequences, and one more.
+pub fn with_one_more(
+    alloc: Global,
+    sequences: &[Sequence],
+    sequence: &Sequence,
+) -> Result<Seq<Sequence>, AllocError>
+    ensures { IfOk result (λ more. more ≡ sequences.now ++ sequence.now ∷ []) }
+{
+    let mut more = copied(alloc, sequences)?;
+    more.push(sequence.try_clone(alloc)?)?;
+    Ok(more)
+}
+
+// The sequences but one.
+pub fn others(
+    alloc: Global,
+    sequences: &[Sequence],
+    sequence: &Sequence,
+) -> Result<Seq<Sequence>, AllocError>
+    ensures { IfOk result (λ left. left ≡ other_sequences sequence.now sequences.now) }
+{
+    let mut left = Seq::new(alloc);
+    for found in sequences {
+        if !are_equal(found.as_slice(), sequence.as_slice()) {
+            left.push(found.try_clone(alloc)?)?;
+        }
+    }
+    Ok(left)
+}

@@ -1,0 +1,211 @@
+//! The virtual events.
+ghost use Rattle.std.specs.Prelude.{◌≡◌, [], ◌∷◌, length, Some, None, IsSome, is_some, IfSome, IfOk, OnOk, OnErr, option_copied, slice_get};
+ghost use Rattle.tks_bind.specs.VirtualEvents.{sequences_of, added, deleted, deleted_sequence};
+ghost use Rattle.tks_bind.specs.VirtualIndexes.{index_of, found};
+
+use crate::virtual_event::{VirtualEvent, has_sequence, others, with_one_more};
+use std::alloc::{AllocError, Global};
+use std::marker::Model;
+use tks_event::Sequence;
+use tks_mark::{Items, Marked};
+use tks_text::{Seq, Txt};
+
+/// The virtual events that have sequences, in the order in which they were added. They know what they were at a mark.
+#[derive(Drop)]
+pub struct Virtuals {
+    alloc: Global,
+    events: Marked<VirtualEvent>,
+}
+
+impl Model for Virtuals {
+    ghost use Rattle.tks_mark.specs.Views.{Views};
+    ghost use Rattle.tks_bind.specs.declared.virtual_event.VirtualEvent.{VirtualEvent};
+
+    ghost Value = { Views VirtualEvent };
+
+    ghost view = { λ v. v.events };
+}
+
+impl Virtuals {
+    /// No virtual event, and no mark.
+    pub fn new(alloc: Global) -> Virtuals
+        ensures { result ≡ record { present = []; at_mark = None } }
+    {
+        Virtuals {
+            alloc,
+            events: Marked::new(alloc),
+        }
+    }
+
+    /// The virtual events, in the order in which they were added.
+    pub fn events(&self) -> Items<'_, VirtualEvent>
+        ensures { result ≡ self.now.present }
+    {
+        self.events.items()
+    }
+
+    /// How many virtual events have sequences.
+    pub fn len(&self) -> usize
+        ensures { result ≡ length self.now.present }
+    {
+        self.events.len()
+    }
+
+    /// The sequences by which a virtual event is met, in the order in which they were added.
+    pub fn sequences(&self, name: &Txt) -> &[Sequence]
+        ensures { result.now ≡ sequences_of name.now self.now.present }
+    {
+        match found(&self.events, name) {
+            Some(event) => event.sequences.as_slice(),
+            None => &[],
+        }
+    }
+
+    /// Adds a sequence to a virtual event. One that is there stays where it is.
+    pub fn event_add(&mut self, name: &Txt, sequence: &Sequence) -> Result<(), AllocError>
+        ensures ok { OnOk result (self.new ≡ record self.old { present = added name.now sequence.now self.old.present }) }
+        ensures err { OnErr result (self.new ≡ self.old) }
+    {
+        let index = index_of(&self.events, name);
+        let Some(event) = found(&self.events, name) else {
+            let event = first(self.alloc, name, sequence)?;
+            self.events.push(event)?;
+            return Ok(());
+        };
+        if has_sequence(event.sequences.as_slice(), sequence) {
+            return Ok(());
+        }
+        let more = VirtualEvent {
+            name: event.name.try_clone()?,
+            sequences: with_one_more(self.alloc, event.sequences.as_slice(), sequence)?,
+        };
+        self.events.replace(index, more)?;
+        Ok(())
+    }
+
+    /// Takes a virtual event's sequences away. It takes no memory.
+    #[tactic(auto, using(crate::proofs::Virtually::deleted_there, crate::proofs::Virtually::deleted_none))]
+    pub fn event_delete(&mut self, name: &Txt)
+        ensures { self.new ≡ record self.old { present = deleted name.now self.old.present } }
+    {
+        let index = index_of(&self.events, name);
+        if index < self.events.len() {
+            self.events.remove(index);
+        }
+    }
+
+    /// Takes a sequence of a virtual event away. Where none is left, the name goes too.
+    pub fn event_delete_sequence(
+        &mut self,
+        name: &Txt,
+        sequence: &Sequence,
+    ) -> Result<(), AllocError>
+        ensures ok { OnOk result (self.new ≡ record self.old { present = deleted_sequence name.now sequence.now self.old.present }) }
+        ensures err { OnErr result (self.new ≡ self.old) }
+    {
+        let index = index_of(&self.events, name);
+        let Some(event) = found(&self.events, name) else {
+            return Ok(());
+        };
+        let left = others(self.alloc, event.sequences.as_slice(), sequence)?;
+        if left.is_empty() {
+            self.events.remove(index);
+            return Ok(());
+        }
+        let event = VirtualEvent {
+            name: event.name.try_clone()?,
+            sequences: left,
+        };
+        self.events.replace(index, event)?;
+        Ok(())
+    }
+
+    /// Whether a mark stands.
+    pub fn is_marked(&self) -> bool
+        ensures { result ≡ is_some self.now.at_mark }
+    {
+        self.events.is_marked()
+    }
+
+    /// Sets the mark. It takes no memory.
+    pub fn mark(&mut self)
+        requires { self.old.at_mark ≡ None }
+        ensures { self.new ≡ record self.old { at_mark = Some self.old.present } }
+    {
+        self.events.mark();
+    }
+
+    /// Makes all what it was at the mark, and takes the mark away. It takes no memory.
+    pub fn back_to(&mut self)
+        requires { IsSome self.old.at_mark }
+        ensures { IfSome self.old.at_mark (λ events. self.new ≡ record { present = events; at_mark = None }) }
+    {
+        self.events.back_to();
+    }
+
+    /// Takes the mark away, and leaves all as it is. It takes no memory.
+    pub fn forget(&mut self)
+        ensures { self.new ≡ record self.old { at_mark = None } }
+    {
+        self.events.forget();
+    }
+
+    /// The same virtual events, with no mark.
+    pub fn try_clone(&self) -> Result<Virtuals, AllocError>
+        ensures { IfOk result (λ copy. copy ≡ record self.now { at_mark = None }) }
+    {
+        Ok(Virtuals {
+            alloc: self.alloc,
+            events: copied(self.alloc, &self.events)?,
+        })
+    }
+}
+
+// A virtual event with its first sequence.
+fn first(alloc: Global, name: &Txt, sequence: &Sequence) -> Result<VirtualEvent, AllocError>
+    ensures { IfOk result (λ v. v ≡ record { name = name.now; sequences = sequence.now ∷ [] }) }
+{
+    let mut sequences = Seq::new(alloc);
+    sequences.push(sequence.try_clone(alloc)?)?;
+    Ok(VirtualEvent {
+        name: name.try_clone()?,
+        sequences,
+    })
+}
+
+// The index of the virtual event of a name, or the end.
+fn index_of(events: &Marked<VirtualEvent>, name: &Txt) -> usize
+    ensures { result ≡ index_of name.now events.now.present }
+{
+    let len = events.len();
+    let mut left = len;
+    for event in events.items() {
+        if event.name == *name {
+            return len - left;
+        }
+        left -= 1;
+    }
+    len
+}
+
+fn found<'a>(events: &'a Marked<VirtualEvent>, name: &Txt) -> Option<&'a VirtualEvent>
+    ensures { option_copied result ≡ found name.now events.now.present }
+{
+    for event in events.items() {
+        if event.name == *name {
+            return Some(event);
+        }
+    }
+    None
+}
+
+// The same virtual events, with no mark.
+fn copied(alloc: Global, events: &Marked<VirtualEvent>) -> Result<Marked<VirtualEvent>, AllocError>
+    ensures { IfOk result (λ copy. copy ≡ record events.now { at_mark = None }) }
+{
+    let mut copy = Marked::new(alloc);
+    for event in events.items() {
+        copy.push(event.try_clone(alloc)?)?;
+    }
+    Ok(copy)
+}
