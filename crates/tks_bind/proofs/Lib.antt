@@ -5,6 +5,7 @@ mod Digits
 mod Values
 mod Placing
 mod Virtually
+mod Turning
 mod Order
 mod Deciding
 mod Winner

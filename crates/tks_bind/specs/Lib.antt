@@ -10,3 +10,5 @@ pub mod Binding
 pub mod Indexes
 pub mod VirtualEvents
 pub mod VirtualIndexes
+pub mod Chosen
+pub mod Ways

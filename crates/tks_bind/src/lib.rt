@@ -12,6 +12,7 @@ mod search;
 mod substitution;
 mod virtual_event;
 mod virtuals;
+mod way;
 
 pub use binding::Binding;
 pub use bindings::Bindings;
