@@ -12,3 +12,4 @@ pub mod VirtualEvents
 pub mod VirtualIndexes
 pub mod Chosen
 pub mod Ways
+pub mod Choosing

@@ -78,7 +78,7 @@ fn is_of_key(kind: Kind) -> bool
     matches!(kind, Kind::KeyPress | Kind::KeyRelease)
 }
 
-fn is_virtual(kind: Kind) -> bool
+pub fn is_virtual(kind: Kind) -> bool
     ensures { result ≡ is_virtual kind }
 {
     matches!(kind, Kind::Virtual)

@@ -8,6 +8,7 @@ mod field;
 mod history;
 mod laws;
 mod matching;
+mod scene;
 mod search;
 mod substitution;
 mod virtual_event;

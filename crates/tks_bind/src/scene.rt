@@ -1,0 +1,107 @@
+//! The choice among the bindings of a tag.
+ghost use Rattle.std.specs.Prelude.{◌≡◌, ◌≤◌, ◌&&◌, Some, length, option_copied};
+ghost use Rattle.tks_bind.specs.Beating.{beats};
+ghost use Rattle.tks_bind.specs.Ways.{way_of};
+ghost use Rattle.tks_bind.specs.Chosen.{name_of};
+ghost use Rattle.tks_bind.specs.Choosing.{scene_of, is_this, meets, tried, is_through, way, one_beats, is_beaten, one_wins, wins, later, latest_of};
+
+use crate::binding::Binding;
+use crate::field::is_virtual;
+use crate::search::ends_there;
+use crate::virtuals::Virtuals;
+use crate::way::{Way, beats};
+use std::slice::from_ref;
+use tks_event::{Event, Kind, Sequence};
+use tks_mark::Marked;
+use tks_text::Txt;
+
+/// What is looked at where a binding is chosen.
+pub struct Looked<'a> {
+    pub bindings: &'a Marked<Binding>,
+    pub tag: &'a Txt,
+    pub event: &'a Event,
+    pub history: &'a [Event],
+    pub virtuals: &'a Virtuals,
+}
+
+impl<'a> Looked<'a> {
+    // Whether the event meets a sequence.
+    fn meets(&self, sequence: &Sequence) -> bool
+        requires { length self.now.history.now ≤ 32 }
+        ensures { result ≡ meets (scene_of self.now) sequence.now }
+    {
+        if is_virtual(self.event.kind) {
+            is_this(name_of(sequence), &self.event.detail)
+        } else {
+            ends_there(sequence.as_slice(), self.history)
+        }
+    }
+
+    // The sequences that are tried for a binding.
+    fn tried(&self, binding: &'a Binding) -> &'a [Sequence]
+        ensures { result.now ≡ tried (scene_of self.now) binding.now }
+    {
+        if is_virtual(self.event.kind) {
+            return from_ref(&binding.sequence);
+        }
+        match name_of(&binding.sequence) {
+            None => from_ref(&binding.sequence),
+            Some(name) => self.virtuals.sequences(name),
+        }
+    }
+
+    // Whether those are a virtual event's.
+    fn is_through(&self, binding: &Binding) -> bool
+        ensures { result ≡ is_through (scene_of self.now) binding.now }
+    {
+        !is_virtual(self.event.kind) && name_of(&binding.sequence).is_some()
+    }
+
+    // Whether the event meets a sequence, and that way beats another.
+    fn beats_by(&self, sequence: &Sequence, is_virtual: bool, other: Way<'_>) -> bool
+        requires { length self.now.history.now ≤ 32 }
+        ensures { result ≡ (meets (scene_of self.now) sequence.now && beats (way is_virtual sequence.now) (way_of other.entry)) }
+    {
+        self.meets(sequence)
+            && beats(
+                Way {
+                    sequence,
+                    is_virtual,
+                },
+                other,
+            )
+    }
+
+    // Whether one of these sequences is met and beats a way.
+    fn one_beats(&self, is_virtual: bool, other: Way<'_>, sequences: &[Sequence]) -> bool
+        requires { length self.now.history.now ≤ 32 }
+        ensures { result ≡ one_beats (scene_of self.now) is_virtual (way_of other.entry) sequences.now }
+    {
+        for sequence in sequences {
+            if self.beats_by(sequence, is_virtual, other) {
+                return true;
+            }
+        }
+        false
+    }
+}
+
+// The name of the virtual event that a sequence stands for.
+fn name_of(sequence: &Sequence) -> Option<&Txt>
+    ensures { option_copied result ≡ name_of sequence.now }
+{
+    let pattern = sequence.as_slice().first()?;
+    match pattern.kind {
+        Kind::Virtual => Some(&pattern.detail),
+        _ => None,
+    }
+}
+
+fn is_this(name: Option<&Txt>, other: &Txt) -> bool
+    ensures { result ≡ is_this (option_copied name.entry) other.now }
+{
+    match name {
+        Some(name) => *name == *other,
+        None => false,
+    }
+}
