@@ -30,6 +30,9 @@ module _ {X : Type 0} where
       let e : latest xs ++ x ∷ [] ≡ drop (length xs - 32) (xs ++ x ∷ []) = sym (drop-append-le (length xs - 32) xs (x ∷ []) within) in
       ap latest e ∙ latest_dropped (length xs - 32) (xs ++ x ∷ []) (omega (arith, longer))
 
+  pub latest_within : (xs : List X) → length (latest xs) ≤ 32
+  latest_within xs = let left : length (drop (length xs - 32) xs) ≡ length xs - (length xs - 32) = length-drop (length xs - 32) xs in omega (arith, left)
+
   pub latest_twice : (xs : List X) → latest (latest xs) ≡ latest xs
   latest_twice xs = latest_dropped (length xs - 32) xs (omega arith)
 

@@ -6,6 +6,8 @@ mod Values
 mod Placing
 mod Virtually
 mod Turning
+mod Latter
+mod Winning
 mod Order
 mod Deciding
 mod Winner

@@ -105,4 +105,3 @@ module _ (name : List ℕ) where
       by : (t : Bool) → is_named name u ≡ t → found name (u ∷ vs) ≡ Some v → l ≡ other_sequences s v.sequences → (length l == 0) ≡ false → (found name vs ≡ Some v → l ≡ other_sequences s v.sequences → (length l == 0) ≡ false → slice_set vs (index_of name vs) (record { name = v.name; sequences = l }) ≡ deleted_sequence name s vs) → slice_set (u ∷ vs) (index_of name (u ∷ vs)) (record { name = v.name; sequences = l }) ≡ deleted_sequence name s (u ∷ vs)
       by true e f h k rest = rw e (let g : Some u ≡ Some v = rw e at f in let same : u ≡ v = cc in let left : other_sequences s u.sequences ≡ l = subst (λ x. other_sequences s x.sequences ≡ l) (sym same) (sym h) in rw left (ap (λ x. (record { name = x.name; sequences = l }) ∷ vs) (sym same) ∙ filled u l vs k))
       by false e f h k rest = rw e (ap (λ r. u ∷ r) (rest (rw e at f) h k))
-

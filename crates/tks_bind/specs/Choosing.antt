@@ -47,14 +47,21 @@ one_beats s virtual w [] = false
 one_beats s virtual w (q ∷ qs) = (meets s q && beats (way virtual q) w) || one_beats s virtual w qs
 
 -- whether a binding of the tag beats a way
+abbrev pub is_beaten_by : Scene → Way → Binding → Bool
+is_beaten_by s w b = same_text b.tag s.tag && one_beats s (is_through s b) w (tried s b)
+
 abbrev pub is_beaten : Scene → Way → List Binding → Bool
 is_beaten s w [] = false
-is_beaten s w (b ∷ bs) = (same_text b.tag s.tag && one_beats s (is_through s b) w (tried s b)) || is_beaten s w bs
+is_beaten s w (b ∷ bs) = is_beaten_by s w b || is_beaten s w bs
+
+-- whether a sequence is met, and nothing beats it
+abbrev pub stands : Scene → Bool → List Pattern → Bool
+stands s virtual q = meets s q && not (is_beaten s (way virtual q) s.bindings)
 
 -- whether one of these sequences is met, and none beats it
 abbrev pub one_wins : Scene → Bool → List (List Pattern) → Bool
 one_wins s virtual [] = false
-one_wins s virtual (q ∷ qs) = (meets s q && not (is_beaten s (way virtual q) s.bindings)) || one_wins s virtual qs
+one_wins s virtual (q ∷ qs) = stands s virtual q || one_wins s virtual qs
 
 abbrev pub wins : Scene → Binding → Bool
 wins s b = same_text b.tag s.tag && one_wins s (is_through s b) (tried s b)

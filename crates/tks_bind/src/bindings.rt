@@ -3,13 +3,17 @@ ghost use Rattle.std.specs.Prelude.{◌≡◌, ◌≢◌, ◌↔◌, ◌≤◌, 
 ghost use Rattle.tks_text.specs.Text.{IsText};
 ghost use Rattle.tks_event.specs.Canonical.{canonical};
 ghost use Rattle.tks_bind.specs.Binding.{Content, nothing, script_for, placed, without, set, unset, made, appended, bound, spelled};
+ghost use Rattle.tks_bind.specs.Chosen.{ChosenSo};
 ghost use Rattle.tks_bind.specs.Indexes.{index_of};
 
 use crate::binding::Binding;
 use crate::fault::BindFault;
+use crate::history::History;
+use crate::scene::Looked;
+use crate::virtuals::Virtuals;
 use std::alloc::{AllocError, Global};
 use std::marker::Model;
-use tks_event::Sequence;
+use tks_event::{Event, Sequence};
 use tks_mark::{Items, Marked};
 use tks_text::{Seq, Txt};
 
@@ -73,6 +77,29 @@ impl Bindings {
         ensures { IfOk result (λ found. found ≡ spelled tag.now self.now.present.bindings) }
     {
         spelled(self.alloc, &self.bindings, tag)
+    }
+
+    /// The binding of a tag that an event fires, where the event is the last one of the history, or a virtual one: of
+    /// the bindings that it meets, and by a way that no way to meet one of them beats, the one that was set last. It
+    /// takes no memory.
+    #[tactic(auto, using(crate::proofs::Winning::chosen_so))]
+    pub fn chosen<'a>(
+        &'a self,
+        tag: &'a Txt,
+        event: &'a Event,
+        history: &'a History,
+        virtuals: &'a Virtuals,
+    ) -> Option<&'a Binding>
+        ensures { ChosenSo (record { bindings = self.now.present.bindings; tag = tag.now; event = event.now; history = history.now.present; virtuals = virtuals.now.present }) (option_copied result) }
+    {
+        let looked = Looked {
+            bindings: &self.bindings,
+            tag,
+            event,
+            history: history.events(),
+            virtuals,
+        };
+        looked.latest()
     }
 
     /// Sets the script that a tag has for a sequence. An empty script takes the binding away; one that begins with a

@@ -46,8 +46,10 @@ impl History {
     }
 
     /// The events, the latest last.
+    #[tactic(auto, using(crate::proofs::Latest::latest_within))]
     pub fn events(&self) -> &[Event]
-        ensures { result.now ≡ self.now.present }
+        ensures value { result.now ≡ self.now.present }
+        ensures within { length result.now ≤ 32 }
     {
         self.log.split_at(old_count(&self.log)).1
     }

@@ -3,7 +3,7 @@ ghost use Rattle.std.specs.Prelude.{◌≡◌, ◌≤◌, ◌&&◌, Some, length
 ghost use Rattle.tks_bind.specs.Beating.{beats};
 ghost use Rattle.tks_bind.specs.Ways.{way_of};
 ghost use Rattle.tks_bind.specs.Chosen.{name_of};
-ghost use Rattle.tks_bind.specs.Choosing.{scene_of, is_this, meets, tried, is_through, way, one_beats, is_beaten, one_wins, wins, later, latest_of};
+ghost use Rattle.tks_bind.specs.Choosing.{scene_of, is_this, meets, tried, is_through, way, one_beats, is_beaten_by, is_beaten, stands, one_wins, wins, later, latest_of};
 
 use crate::binding::Binding;
 use crate::field::is_virtual;
@@ -16,6 +16,7 @@ use tks_mark::Marked;
 use tks_text::Txt;
 
 /// What is looked at where a binding is chosen.
+#[derive(Clone, Copy)]
 pub struct Looked<'a> {
     pub bindings: &'a Marked<Binding>,
     pub tag: &'a Txt,
@@ -83,6 +84,92 @@ impl<'a> Looked<'a> {
             }
         }
         false
+    }
+
+    // Whether a binding of the tag beats a way.
+    fn is_beaten_by(&self, other: Way<'_>, binding: &'a Binding) -> bool
+        requires { length self.now.history.now ≤ 32 }
+        ensures { result ≡ is_beaten_by (scene_of self.now) (way_of other.entry) binding.now }
+    {
+        binding.tag == *self.tag
+            && self.one_beats(self.is_through(binding), other, self.tried(binding))
+    }
+
+    // Whether some binding of the tag beats a way.
+    fn is_beaten(&self, other: Way<'_>) -> bool
+        requires { length self.now.history.now ≤ 32 }
+        ensures { result ≡ is_beaten (scene_of self.now) (way_of other.entry) (scene_of self.now).bindings }
+    {
+        for binding in self.bindings.items() {
+            if self.is_beaten_by(other, binding) {
+                return true;
+            }
+        }
+        false
+    }
+
+    // Whether a sequence is met, and nothing beats it.
+    fn stands(&self, sequence: &Sequence, is_virtual: bool) -> bool
+        requires { length self.now.history.now ≤ 32 }
+        ensures { result ≡ stands (scene_of self.now) is_virtual sequence.now }
+    {
+        self.meets(sequence)
+            && !self.is_beaten(Way {
+                sequence,
+                is_virtual,
+            })
+    }
+
+    // Whether one of these sequences is met, and nothing beats it.
+    fn one_wins(&self, is_virtual: bool, sequences: &[Sequence]) -> bool
+        requires { length self.now.history.now ≤ 32 }
+        ensures { result ≡ one_wins (scene_of self.now) is_virtual sequences.now }
+    {
+        for sequence in sequences {
+            if self.stands(sequence, is_virtual) {
+                return true;
+            }
+        }
+        false
+    }
+
+    // Whether a binding of the tag is met by a way that nothing beats.
+    fn wins(&self, binding: &'a Binding) -> bool
+        requires { length self.now.history.now ≤ 32 }
+        ensures { result ≡ wins (scene_of self.now) binding.now }
+    {
+        binding.tag == *self.tag && self.one_wins(self.is_through(binding), self.tried(binding))
+    }
+
+    // Of those that win, the one that was set last.
+    #[tactic(auto, using(crate::proofs::Latter::later_assoc))]
+    pub fn latest(&self) -> Option<&'a Binding>
+        requires { length self.now.history.now ≤ 32 }
+        ensures { option_copied result ≡ latest_of (scene_of self.now) (scene_of self.now).bindings }
+    {
+        let mut latest = None;
+        for binding in self.bindings.items() {
+            if self.wins(binding) {
+                latest = Some(later(latest, binding));
+            }
+        }
+        latest
+    }
+}
+
+// The one that was set later.
+fn later<'a>(latest: Option<&'a Binding>, binding: &'a Binding) -> &'a Binding
+    ensures { Some result.now ≡ later (option_copied latest.entry) (Some binding.now) }
+{
+    match latest {
+        Some(latest) => {
+            if latest.number < binding.number {
+                binding
+            } else {
+                latest
+            }
+        }
+        None => binding,
     }
 }
 

@@ -7,6 +7,8 @@ pub loop-place-preserved : goal.loop-place-preserved
 loop-place-preserved c =
     let p = c.index-patterns-place.result in
     let q = c.index-others-place.result in
-    rw (turned_take c.args.patterns.now c.loop-place.place p [] (omega arith) c.index-patterns-place.is,
-        turned_take c.args.others.now c.loop-place.place q [] (omega arith) c.index-others-place.is)
-      (c.overrides_to-answer.ensures ∙ ap (overrides_to p q) c.loop-place.invariant)
+    rw (
+      turned_take c.args.patterns.now c.loop-place.place p [] (omega arith) c.index-patterns-place.is,
+      turned_take c.args.others.now c.loop-place.place q [] (omega arith) c.index-others-place.is,
+    )
+    (c.overrides_to-answer.ensures ∙ ap (overrides_to p q) c.loop-place.invariant)
