@@ -1,0 +1,13 @@
+//! Text widgets: characters in lines, with tags on them and marks between them.
+#![tactic(auto)]
+
+mod flag_list;
+mod lines;
+mod modifier;
+mod numbers;
+mod parts;
+mod places;
+
+pub use flag_list::Flags;
+pub use lines::TextWidget;
+pub use parts::{Mark, Tag};
