@@ -1,1 +1,3 @@
 pub mod Far
+pub mod Moving
+pub mod Inside

@@ -127,22 +127,28 @@ counted back t =
     let number = drop (space_len t) t in
     option_and_then (λ x. option_map (λ y. (y.0, space_len t + x.1 + y.1)) (unit_at (turned_back back x.0) (drop x.1 number))) (count_at number)
 
--- the modifier at the front of a text that begins with c, and how many bytes it takes behind that
-unfoldable pub modifier_at : ℕ → List ℕ → Option (Modifier × ℕ)
-modifier_at c t =
+-- the modifier at the front, and how many bytes it takes behind its first
+unfoldable pub modifier_at : List ℕ → Option (Modifier × ℕ)
+modifier_at [] = None
+modifier_at (c ∷ t) =
     if is_sign c then counted (is_minus c) t
-    else option_map (λ m. (m, word_len t)) (edge_named (c ∷ word_at t))
+    else option_map (λ m. (m, word_len (c ∷ t) - 1)) (edge_named (word_at (c ∷ t)))
 
--- the place that is left behind the modifiers of a text, but for its first so many bytes
-abbrev pub go_on : Option (Modifier × ℕ) → (Modifier → ℕ → Option ℕ) → Option ℕ
+-- what the front of a text makes of a place: white space nothing, a modifier another; and how many bytes it takes behind
+-- its first
+abbrev pub step_at : List ℕ → ℕ → List ℕ → Option (ℕ × ℕ)
+step_at text place [] = None
+step_at text place (c ∷ t) = if is_space c then Some (place, 0) else option_map (λ x. (changed text place x.0, x.1)) (modifier_at (c ∷ t))
+
+abbrev pub go_on : Option (ℕ × ℕ) → (ℕ → ℕ → Option ℕ) → Option ℕ
 go_on None next = None
 go_on (Some x) next = next x.0 x.1
 
+-- the place that the modifiers in a text make of another, where its first so many bytes are read already
 abbrev pub moved : List ℕ → ℕ → ℕ → List ℕ → Option ℕ
 moved text place skip [] = Some place
 moved text place (suc skip) (c ∷ t) = moved text place skip t
-moved text place zero (c ∷ t) =
-    if is_space c then moved text place zero t else go_on (modifier_at c t) (λ m more. moved text (changed text place m) more t)
+moved text place zero (c ∷ t) = go_on (step_at text place (c ∷ t)) (λ next more. moved text next more t)
 
 -- ---- indices
 

@@ -1,8 +1,8 @@
 -- A text widget: its options, the characters of its text, its tags and its marks (text(n), "TAGS", "MARKS"). That marks
 -- stand before the last newline at the furthest, that it carries no tag, and that a deletion stops before it, are this
 -- project's own rules.
-use Rattle.std.specs.Prelude.{ℕ, ◌+◌, ◌-◌, ◌==◌, ◌&&◌, ◌||◌, nat_le, nat_lt, min, max, not, Bool, true, false, if◌then◌else◌, List, [], ◌∷◌, ◌++◌, length, take, drop, map, replicate, codes, Option, Some, None, option_and_then, slice_get}
-use Rattle.std.specs.List.{filter, list_any}
+use Rattle.std.specs.Prelude.{◌≡◌, ◌≤◌, ℕ, ◌+◌, ◌-◌, ◌==◌, ◌&&◌, ◌||◌, nat_le, nat_lt, min, max, not, Bool, true, false, if◌then◌else◌, List, [], ◌∷◌, ◌++◌, length, take, drop, map, replicate, codes, Option, Some, None, option_and_then, slice_get}
+use Rattle.std.specs.List.{filter, list_any, AllByRecursion}
 use Rattle.tks_text.specs.Text.{same_text}
 use Rattle.tks_text.specs.declared.class.Class.TheVariants as class
 use Rattle.tks_opt.specs.Options.{Options, first_options, value_in}
@@ -20,6 +20,14 @@ pub record Lines : Type 0 where
   pub text : List ℕ
   pub tags : List Tag
   pub marks : List Mark
+
+-- no mark is behind the last newline
+abbrev pub AreInside : ℕ → List Mark → Type 0
+AreInside len marks = AllByRecursion (λ m. m.place ≤ len) marks
+
+pub record Formed (t : Lines) : Type 0 where
+  pub class : t.options.class ≡ class.Text
+  pub inside : AreInside (length t.text) t.marks
 
 -- the mark at which keys insert
 abbrev pub cursor_name : List ℕ

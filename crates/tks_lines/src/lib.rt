@@ -2,7 +2,9 @@
 #![tactic(auto)]
 
 mod flag_list;
+mod index;
 mod lines;
+mod marks;
 mod modifier;
 mod numbers;
 mod parts;

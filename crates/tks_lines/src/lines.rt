@@ -18,13 +18,11 @@ pub struct TextWidget {
 }
 
 impl Model for TextWidget {
-    ghost use Rattle.std.specs.Prelude.{◌≡◌};
-    ghost use Rattle.tks_text.specs.declared.class.Class.TheVariants as class;
-    ghost use Rattle.tks_lines.specs.Lines.{Lines};
+    ghost use Rattle.tks_lines.specs.Lines.{Lines, Formed};
 
     ghost Value = { Lines };
 
     ghost view = { λ t. record { options = t.options; text = t.text; tags = t.tags; marks = t.marks } };
 
-    ghost invariant = { λ t. t.options.class ≡ class.Text };
+    ghost invariant = { λ t. Formed (record { options = t.options; text = t.text; tags = t.tags; marks = t.marks }) };
 }
