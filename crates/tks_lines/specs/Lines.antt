@@ -53,6 +53,9 @@ cut first last xs = take first xs ++ drop (max first last) xs
 abbrev pub painted : Bool → ℕ → ℕ → List Bool → List Bool
 painted value first last on = take first on ++ (replicate (min last (length on) - first) value ++ drop (max first last) on)
 
+abbrev pub is_listed : List ℕ → List (List ℕ) → Bool
+is_listed name names = list_any (same_text name) names
+
 -- ---- tags
 
 abbrev pub is_tag : List ℕ → Tag → Bool
@@ -71,7 +74,7 @@ abbrev pub is_around : ℕ → Tag → Bool
 is_around place g = not (place == 0) && (is_on g (place - 1) && is_on g place)
 
 abbrev pub is_among : List (List ℕ) → Tag → Bool
-is_among names g = list_any (λ name. is_tag name g) names
+is_among names g = is_listed g.name names
 
 -- a tag that is on no character
 abbrev pub new_tag : List ℕ → ℕ → Tag
@@ -131,10 +134,13 @@ with_mark name place marks =
 
 -- without those of the names; `insert` stays
 abbrev pub without_marks : List (List ℕ) → List Mark → List Mark
-without_marks names marks = filter (λ m. is_mark cursor_name m || not (list_any (λ name. is_mark name m) names)) marks
+without_marks names marks = filter (λ m. is_mark cursor_name m || not (is_listed m.name names)) marks
 
 abbrev pub turned : List ℕ → Bool → Mark → Mark
 turned name left m = if is_mark name m then record m { left = left } else m
+
+abbrev pub turned_marks : List ℕ → Bool → List Mark → List Mark
+turned_marks name left marks = map (turned name left) marks
 
 -- ---- changes of the text
 
@@ -149,6 +155,10 @@ is_normal (Some state.ReadOnly) = false
 abbrev pub is_editable : Lines → Bool
 is_editable t = is_normal (option_and_then state_named (value_in t.options.values name.State))
 
+-- the last newline's place, for one behind it
+abbrev pub at_most_last : Lines → ℕ → ℕ
+at_most_last t place = min place (length t.text)
+
 -- characters come in at a place, with the tags for which a test holds
 abbrev pub put_in : ℕ → List ℕ → (Tag → Bool) → Lines → Lines
 put_in place more test t =
@@ -156,12 +166,12 @@ put_in place more test t =
 
 -- `insert` without tags: those on both neighbours; at the end, before the last newline
 abbrev pub inserted : ℕ → List ℕ → Lines → Lines
-inserted place more t = let at = min place (length t.text) in if is_editable t then put_in at more (is_around at) t else t
+inserted place more t = let at = at_most_last t place in if is_editable t then put_in at more (is_around at) t else t
 
 -- `insert` with tags
 abbrev pub inserted_with : ℕ → List ℕ → List (List ℕ) → Lines → Lines
 inserted_with place more names t =
-    let at = min place (length t.text) in
+    let at = at_most_last t place in
     if is_editable t then put_in at more (is_among names) (record t { tags = with_tags names (length t.text) t.tags }) else t
 
 -- `delete`: from one place up to another; the last newline stays

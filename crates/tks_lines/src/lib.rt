@@ -9,6 +9,7 @@ mod modifier;
 mod numbers;
 mod parts;
 mod places;
+mod tags;
 
 pub use flag_list::Flags;
 pub use lines::TextWidget;
