@@ -1,6 +1,7 @@
 //! Text widgets: characters in lines, with tags on them and marks between them.
 #![tactic(auto)]
 
+mod edits;
 mod flag_list;
 mod index;
 mod lines;
