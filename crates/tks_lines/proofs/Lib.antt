@@ -1,3 +1,4 @@
 pub mod Far
 pub mod Moving
 pub mod Inside
+pub mod Decimals

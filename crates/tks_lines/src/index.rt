@@ -199,7 +199,9 @@ impl TextWidget {
     pub(crate) fn place_in(&self, word: &Txt) -> Result<usize, Failure>
         ensures value { Gives (λ p. p) result (place_in self.now word.now) }
         ensures inside { IfOk result (λ p. p ≤ end_place self.now.text) }
+        ensures bound { IfOk result (λ p. p ≤ 2 ^ 63) }
     {
+        let _len = self.text.as_bytes().len();
         match self.index_place(word.as_bytes()) {
             Some(place) => Ok(place),
             None => Err(Failure::about(ErrorNumber::BadIndex, word)),

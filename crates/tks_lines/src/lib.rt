@@ -1,6 +1,8 @@
 //! Text widgets: characters in lines, with tags on them and marks between them.
 #![tactic(auto)]
 
+mod answers;
+mod calls;
 mod edits;
 mod flag_list;
 mod index;
