@@ -139,10 +139,14 @@ tag_put_does on path (name ∷ index ∷ behind ∷ []) t =
     after (place_in t index) (λ first. after (place_in t behind) (λ last. tag_put on name first last t))
 tag_put_does on path (name ∷ index ∷ behind ∷ word ∷ words) t = wrong_words path
 
+-- the names of the tags on the character behind a place
+unfoldable pub names_on : ℕ → List Tag → List (List ℕ)
+names_on place tags = map (λ g. g.name) (filter (λ g. is_on g place) tags)
+
 -- the names of all tags, or of those on a character
 abbrev pub tag_names_does : List ℕ → List (List ℕ) → Lines → Called
 tag_names_does path [] t = answers (joined (map (λ g. g.name) t.tags)) t
-tag_names_does path (index ∷ []) t = after (place_in t index) (λ place. answers (joined (map (λ g. g.name) (filter (λ g. is_on g place) t.tags))) t)
+tag_names_does path (index ∷ []) t = after (place_in t index) (λ place. answers (joined (names_on place t.tags)) t)
 tag_names_does path (index ∷ word ∷ words) t = wrong_words path
 
 -- the places at which the tag begins and ends, in turn: `place` is that before the flags, and `was` what is before it

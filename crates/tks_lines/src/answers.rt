@@ -1,9 +1,7 @@
 //! What a text widget tells: places as indices, characters, names, ranges.
 ghost use Rattle.std.specs.Prelude.{◌≡◌, ◌≤◌, ◌<◌, ◌^◌, ◌+◌, length, map, false, IfOk};
 ghost use Rattle.std.specs.Fmt.{decimal};
-ghost use Rattle.std.specs.List.{filter};
-ghost use Rattle.tks_lines.specs.Lines.{is_on};
-ghost use Rattle.tks_lines.specs.Commands.{spelled, between, edges, flags_of};
+ghost use Rattle.tks_lines.specs.Commands.{names_on, spelled, between, edges, flags_of};
 
 use crate::parts::{Mark, Tag};
 use crate::places::{column_of, lines_before};
@@ -72,8 +70,9 @@ pub(crate) fn tag_names(alloc: Global, tags: &[Tag]) -> Result<Seq<Txt>, AllocEr
 }
 
 /// The names of the tags on the character behind a place.
+#[tactic(auto, unfolding(crate::specs::Commands::names_on))]
 pub(crate) fn tags_on(alloc: Global, tags: &[Tag], place: usize) -> Result<Seq<Txt>, AllocError>
-    ensures { IfOk result (λ names. names ≡ map (λ g. g.name) (filter (λ g. is_on g place) tags.now)) }
+    ensures { IfOk result (λ names. names ≡ names_on place tags.now) }
 {
     let mut names = Seq::new(alloc);
     for tag in tags {

@@ -107,4 +107,50 @@ impl TextWidget {
             _ => Err(wrong_words(path)),
         }
     }
+
+    // A subcommand with the words behind it.
+    fn subcommand(&mut self, path: &Txt, name: &Txt, words: &[Txt]) -> Result<Said, Failure>
+        ensures value { Gives (λ said. (said, self.new)) result (lines_does path.now name.now words.now self.old) }
+        ensures err { OnErr result (self.new ≡ self.old) }
+        ensures class { self.new.options.class ≡ self.old.options.class }
+    {
+        let subcommand = name.as_bytes();
+        let said = if subcommand == b"get".as_slice() {
+            self.get_words(path, words)?
+        } else if subcommand == b"insert".as_slice() {
+            self.insert_words(path, words)?
+        } else if subcommand == b"delete".as_slice() {
+            self.delete_words(path, words)?
+        } else if subcommand == b"index".as_slice() {
+            self.index_words(path, words)?
+        } else if subcommand == b"mark".as_slice() {
+            self.mark_words(path, words)?
+        } else if subcommand == b"tag".as_slice() {
+            self.tag_words(path, words)?
+        } else {
+            self.options.subcommand(path, name, words)?
+        };
+        Ok(said)
+    }
+
+    /// What the words of a whole command come to, the text widget's path first: `get`, `insert`, `delete`, `index`,
+    /// `mark`, `tag`, `configure` or `cget`. Another subcommand, and a wrong number of words, are errors about the path; a
+    /// word that is no index is one about the word. A disabled text widget passes over `insert` and `delete`.
+    pub fn call(&mut self, words: &[Txt]) -> Result<Said, Failure>
+        ensures value { Gives (λ said. (said, self.new)) result (called self.old words.now) }
+        ensures err { OnErr result (self.new ≡ self.old) }
+        ensures class { self.new.options.class ≡ self.old.options.class }
+    {
+        let Some((path, behind)) = words.split_first() else {
+            return Err(Failure::Script(ScriptFault {
+                number: ErrorNumber::WrongWords,
+                subject: None,
+            }));
+        };
+        let Some((name, rest)) = behind.split_first() else {
+            return Err(wrong_words(path));
+        };
+        let said = self.subcommand(path, name, rest)?;
+        Ok(said)
+    }
 }

@@ -7,11 +7,13 @@ mod edits;
 mod flag_list;
 mod index;
 mod lines;
+mod mark_calls;
 mod marks;
 mod modifier;
 mod numbers;
 mod parts;
 mod places;
+mod tag_calls;
 mod tags;
 
 pub use flag_list::Flags;

@@ -4,9 +4,8 @@ ghost use Rattle.tks_text.specs.declared.class.Class.TheVariants as class;
 ghost use Rattle.tks_opt.specs.Options.{configured};
 ghost use Rattle.tks_lines.specs.Lines.{Formed, first_mark, first_lines};
 
-use crate::marks;
 use crate::parts::{Mark, Tag};
-use crate::tags;
+use crate::{marks, tags};
 use std::alloc::{AllocError, Global};
 use std::marker::Model;
 use tks_opt::Options;

@@ -111,7 +111,11 @@ fn place_at(text: &[u8], lines: usize, column: Option<usize>) -> usize
             left -= 1;
         }
     }
-    if left == 0 { text.len() } else { text.len() + 1 }
+    if left == 0 {
+        text.len()
+    } else {
+        text.len() + 1
+    }
 }
 
 /// The place of a column of a line, counted from 1; a line below that is the first place.

@@ -117,13 +117,7 @@ pub(crate) fn all_grown_among(
 {
     let mut all = Seq::new(alloc);
     for tag in tags {
-        all.push(grown(
-            alloc,
-            place,
-            count,
-            is_listed(&tag.name, names),
-            tag,
-        )?)?;
+        all.push(grown(alloc, place, count, is_listed(&tag.name, names), tag)?)?;
     }
     Ok(all)
 }
@@ -191,12 +185,7 @@ pub(crate) fn copied(alloc: Global, tags: &[Tag]) -> Result<Seq<Tag>, AllocError
 }
 
 // Adds a tag of a name where there is none.
-fn add_tag(
-    alloc: Global,
-    tags: &mut Seq<Tag>,
-    name: &Txt,
-    len: usize,
-) -> Result<(), AllocError>
+fn add_tag(alloc: Global, tags: &mut Seq<Tag>, name: &Txt, len: usize) -> Result<(), AllocError>
     ensures { OnOk result (tags.new ≡ with_tag name.now len tags.old) }
 {
     if has_tag(name, tags.as_slice()) {
