@@ -2,3 +2,4 @@ pub mod Places
 pub mod Lines
 pub mod Indices
 pub mod Commands
+pub mod Shown

@@ -13,6 +13,7 @@ mod modifier;
 mod numbers;
 mod parts;
 mod places;
+mod shown;
 mod tag_calls;
 mod tags;
 

@@ -96,8 +96,8 @@ fn within_line(column: Option<usize>, len: usize) -> usize
     }
 }
 
-// The place of a column of the line that comes behind so many others.
-fn place_at(text: &[u8], lines: usize, column: Option<usize>) -> usize
+/// The place of a column of the line that comes behind so many others.
+pub(crate) fn place_at(text: &[u8], lines: usize, column: Option<usize>) -> usize
     requires { length text.now < 2 ^ 63 }
     ensures value { result ≡ place_at text.now lines column }
     ensures bound { result ≤ end_place text.now }
