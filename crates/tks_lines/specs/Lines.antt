@@ -21,17 +21,38 @@ pub record Lines : Type 0 where
   pub tags : List Tag
   pub marks : List Mark
 
--- no mark is behind the last newline
-abbrev pub AreInside : ℕ → List Mark → Type 0
-AreInside len marks = AllByRecursion (λ m. m.place ≤ len) marks
-
-pub record Formed (t : Lines) : Type 0 where
-  pub class : t.options.class ≡ class.Text
-  pub inside : AreInside (length t.text) t.marks
+abbrev pub is_listed : List ℕ → List (List ℕ) → Bool
+is_listed name names = list_any (same_text name) names
 
 -- the mark at which keys insert
 abbrev pub cursor_name : List ℕ
 cursor_name = codes "insert"
+
+-- no mark is behind the last newline
+abbrev pub AreInside : ℕ → List Mark → Type 0
+AreInside len marks = AllByRecursion (λ m. m.place ≤ len) marks
+
+-- each tag is on so many characters or isn't
+abbrev pub AreLong : ℕ → List Tag → Type 0
+AreLong len tags = AllByRecursion (λ g. length g.on ≡ len) tags
+
+-- no two names are the same
+abbrev pub Differ : List (List ℕ) → Type 0
+Differ [] = Unit {0}
+Differ (name ∷ names) = (is_listed name names ≡ false) × Differ names
+
+-- the first is the mark at which keys insert
+abbrev pub BeginsWithCursor : List Mark → Type 0
+BeginsWithCursor [] = ⊥
+BeginsWithCursor (m ∷ marks) = same_text m.name cursor_name ≡ true
+
+pub record Formed (t : Lines) : Type 0 where
+  pub class : t.options.class ≡ class.Text
+  pub inside : AreInside (length t.text) t.marks
+  pub long : AreLong (length t.text) t.tags
+  pub tags_differ : Differ (map (λ g. g.name) t.tags)
+  pub marks_differ : Differ (map (λ m. m.name) t.marks)
+  pub cursor_first : BeginsWithCursor t.marks
 
 abbrev pub first_mark : Mark
 first_mark = record { name = cursor_name; place = 0; left = false }
@@ -52,9 +73,6 @@ cut first last xs = take first xs ++ drop (max first last) xs
 -- with a value in each place from one up to another
 abbrev pub painted : Bool → ℕ → ℕ → List Bool → List Bool
 painted value first last on = take first on ++ (replicate (min last (length on) - first) value ++ drop (max first last) on)
-
-abbrev pub is_listed : List ℕ → List (List ℕ) → Bool
-is_listed name names = list_any (same_text name) names
 
 -- ---- tags
 

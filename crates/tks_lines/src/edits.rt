@@ -71,7 +71,6 @@ impl TextWidget {
     }
 
     // Puts characters in at a place, with the tags on both sides.
-    #[tactic(auto, using(crate::proofs::Inside::inserted_inside))]
     pub(crate) fn insert(&mut self, place: usize, more: &Txt) -> Result<(), AllocError>
         ensures ok { OnOk result (self.new ≡ inserted place more.now self.old) }
         ensures err { OnErr result (self.new ≡ self.old) }
@@ -93,7 +92,6 @@ impl TextWidget {
     }
 
     // Puts characters in at a place, with the tags of some names.
-    #[tactic(auto, using(crate::proofs::Inside::inserted_inside))]
     pub(crate) fn insert_with(
         &mut self,
         place: usize,
@@ -121,7 +119,7 @@ impl TextWidget {
     }
 
     // Takes the characters between two places out.
-    #[tactic(auto, using(crate::proofs::Inside::deleted_inside))]
+    #[tactic(auto, using(crate::proofs::Inside::deleted_inside, crate::proofs::Lengths::shrunk_long, crate::proofs::Names::shrunk_differ, crate::proofs::Names::back_differ, crate::proofs::Names::back_first))]
     pub(crate) fn delete(&mut self, first: usize, last: usize) -> Result<(), AllocError>
         ensures ok { OnOk result (self.new ≡ deleted first last self.old) }
         ensures err { OnErr result (self.new ≡ self.old) }
@@ -140,7 +138,7 @@ impl TextWidget {
     }
 
     // Puts a mark at a place.
-    #[tactic(auto, using(crate::proofs::Inside::set_inside))]
+    #[tactic(auto, using(crate::proofs::Inside::set_inside, crate::proofs::Names::set_differ, crate::proofs::Names::set_first))]
     pub(crate) fn set_mark(&mut self, name: &Txt, place: usize) -> Result<(), AllocError>
         ensures ok { OnOk result (self.new ≡ record self.old { marks = with_mark name.now (at_most_last self.old place) self.old.marks }) }
         ensures err { OnErr result (self.new ≡ self.old) }
@@ -152,7 +150,7 @@ impl TextWidget {
     }
 
     // Takes the marks of some names away.
-    #[tactic(auto, using(crate::proofs::Inside::unset_inside))]
+    #[tactic(auto, using(crate::proofs::Inside::unset_inside, crate::proofs::Names::unset_differ, crate::proofs::Names::unset_first))]
     pub(crate) fn unset_marks(&mut self, names: &[Txt]) -> Result<(), AllocError>
         ensures ok { OnOk result (self.new ≡ record self.old { marks = without_marks names.now self.old.marks }) }
         ensures err { OnErr result (self.new ≡ self.old) }
@@ -163,7 +161,7 @@ impl TextWidget {
     }
 
     // Gives the mark of a name its gravity.
-    #[tactic(auto, using(crate::proofs::Inside::turned_inside))]
+    #[tactic(auto, using(crate::proofs::Inside::turned_inside, crate::proofs::Names::turned_differ, crate::proofs::Names::turned_first))]
     pub(crate) fn turn_mark(&mut self, name: &Txt, left: bool) -> Result<(), AllocError>
         ensures ok { OnOk result (self.new ≡ record self.old { marks = turned_marks name.now left self.old.marks }) }
         ensures err { OnErr result (self.new ≡ self.old) }
@@ -174,6 +172,7 @@ impl TextWidget {
     }
 
     // Puts a tag on the characters between two places; one of the name is made where there is none.
+    #[tactic(auto, using(crate::proofs::Lengths::tagged_long, crate::proofs::Lengths::with_tag_long, crate::proofs::Names::tagged_differ, crate::proofs::Names::with_tag_differ))]
     pub(crate) fn put_tag_on(
         &mut self,
         name: &Txt,
@@ -190,6 +189,7 @@ impl TextWidget {
     }
 
     // Takes a tag off the characters between two places.
+    #[tactic(auto, using(crate::proofs::Lengths::tagged_long, crate::proofs::Names::tagged_differ))]
     pub(crate) fn take_tag_off(
         &mut self,
         name: &Txt,
@@ -205,6 +205,7 @@ impl TextWidget {
     }
 
     // Deletes the tags of some names.
+    #[tactic(auto, using(crate::proofs::Lengths::without_tags_long, crate::proofs::Names::without_tags_differ))]
     pub(crate) fn delete_tags(&mut self, names: &[Txt]) -> Result<(), AllocError>
         ensures ok { OnOk result (self.new ≡ record self.old { tags = without_tags names.now self.old.tags }) }
         ensures err { OnErr result (self.new ≡ self.old) }
