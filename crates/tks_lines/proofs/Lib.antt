@@ -5,3 +5,5 @@ pub mod Decimals
 pub mod Names
 pub mod Lengths
 pub mod Inserted
+pub mod Ranges
+pub mod Round

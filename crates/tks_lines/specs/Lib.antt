@@ -3,3 +3,4 @@ pub mod Lines
 pub mod Indices
 pub mod Commands
 pub mod Shown
+pub mod Laws

@@ -6,6 +6,7 @@ mod calls;
 mod edits;
 mod flag_list;
 mod index;
+mod laws;
 mod lines;
 mod mark_calls;
 mod marks;
@@ -18,5 +19,8 @@ mod tag_calls;
 mod tags;
 
 pub use flag_list::Flags;
+pub use laws::{
+    deletion_undoes_insertion, last_newline_stays, marks_stay_in_order, ranges_are_the_tagged,
+};
 pub use lines::TextWidget;
 pub use parts::{Mark, Tag};
