@@ -7,3 +7,5 @@ pub mod Lengths
 pub mod Inserted
 pub mod Ranges
 pub mod Round
+pub mod Returning
+pub mod Spelling

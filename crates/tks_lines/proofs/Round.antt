@@ -76,7 +76,7 @@ undone t place more f here = by (is_editable t) refl
     by true e =
         let same : min place (length t.text) ≡ place = omega arith in
         let once : inserted place more t ≡ put_in place more (is_around place) t =
-            ap (λ b. if b then put_in (at_most_last t place) more (is_around (at_most_last t place)) t else t) e ∙ ap (λ p. put_in p more (is_around p) t) same in
+        ap (λ b. if b then put_in (at_most_last t place) more (is_around (at_most_last t place)) t else t) e ∙ ap (λ p. put_in p more (is_around p) t) same in
         ap (deleted place (place + length more)) once
         ∙ ap (λ b. if b then record t { text = cut place (place + length more) (spliced place more t.text); tags = map (shrunk place (place + length more)) (map (λ g. grown place (length more) (is_around place g) g) t.tags); marks = map (moved_back place (place + length more)) (map (moved_on place (length more)) t.marks) } else put_in place more (is_around place) t) e
         ∙ both t place more f here

@@ -20,7 +20,7 @@ impl Model for Flags {
 
 impl Flags {
     /// None of so many characters.
-    pub fn none(alloc: Global, len: usize) -> Result<Flags, AllocError>
+    pub(crate) fn none(alloc: Global, len: usize) -> Result<Flags, AllocError>
         ensures { IfOk result (λ f. f ≡ replicate len false) }
     {
         Ok(Flags {
@@ -75,7 +75,7 @@ impl Flags {
     }
 
     /// Where so many characters come in at a place, which have the tag or don't.
-    pub fn spliced(
+    pub(crate) fn spliced(
         &self,
         alloc: Global,
         place: usize,
@@ -90,7 +90,7 @@ impl Flags {
     }
 
     /// Where the characters between two places go out.
-    pub fn cut(&self, alloc: Global, first: usize, last: usize) -> Result<Flags, AllocError>
+    pub(crate) fn cut(&self, alloc: Global, first: usize, last: usize) -> Result<Flags, AllocError>
         ensures { IfOk result (λ f. f ≡ cut first last self.now) }
     {
         let flags = self.joined(alloc, first, 0, false, last.max(first))?;
@@ -98,7 +98,7 @@ impl Flags {
     }
 
     /// Where the characters between two places get the tag or lose it.
-    pub fn painted(
+    pub(crate) fn painted(
         &self,
         alloc: Global,
         first: usize,
@@ -113,7 +113,7 @@ impl Flags {
     }
 
     /// Equal flags.
-    pub fn try_clone(&self) -> Result<Flags, AllocError>
+    pub(crate) fn try_clone(&self) -> Result<Flags, AllocError>
         ensures { IfOk result (λ f. f ≡ self.now) }
     {
         Ok(Flags {

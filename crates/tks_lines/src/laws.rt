@@ -1,6 +1,8 @@
-ghost use Rattle.std.specs.Prelude.{◌≡◌, ℕ, Bool, true, false, ◌+◌, ◌≤◌, List, length, take};
+ghost use Rattle.std.specs.Prelude.{◌≡◌, ℕ, Bool, true, false, ◌+◌, ◌^◌, ◌<◌, ◌≤◌, List, length, take, Some};
 ghost use Rattle.tks_lines.specs.declared.parts.Mark.{Mark};
 ghost use Rattle.tks_lines.specs.Places.{end_place};
+ghost use Rattle.tks_lines.specs.Indices.{index_place};
+ghost use Rattle.tks_lines.specs.Commands.{spelled};
 ghost use Rattle.tks_lines.specs.Lines.{Lines, Formed, is_editable, deleted, moved_on};
 ghost use Rattle.tks_lines.specs.Laws.{in_and_out, GoesBefore, RangesOf};
 
@@ -25,4 +27,9 @@ pub fn marks_stay_in_order()
 /// The ranges of a tag rise, none is empty, and none touches another; together they are just the characters that have it.
 pub fn ranges_are_the_tagged()
     ensures { (on : List Bool) → RangesOf on }
+{}
+
+/// An index as a text widget tells it names the place that it tells, whatever marks there are.
+pub fn told_index_names_its_place()
+    ensures { (t : Lines) (place : ℕ) → length t.text < 2 ^ 63 → place ≤ end_place t.text → index_place t (spelled t.text place) ≡ Some place }
 {}

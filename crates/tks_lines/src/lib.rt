@@ -21,6 +21,7 @@ mod tags;
 pub use flag_list::Flags;
 pub use laws::{
     deletion_undoes_insertion, last_newline_stays, marks_stay_in_order, ranges_are_the_tagged,
+    told_index_names_its_place,
 };
 pub use lines::TextWidget;
 pub use parts::{Mark, Tag};
