@@ -9,3 +9,4 @@ pub mod Ranges
 pub mod Round
 pub mod Returning
 pub mod Spelling
+pub mod Characters

@@ -20,8 +20,8 @@ mod tags;
 
 pub use flag_list::Flags;
 pub use laws::{
-    deletion_undoes_insertion, last_newline_stays, marks_stay_in_order, ranges_are_the_tagged,
-    told_index_names_its_place,
+    deletion_keeps_the_others, deletion_undoes_insertion, insertion_keeps_the_others,
+    last_newline_stays, marks_stay_in_order, ranges_are_the_tagged, told_index_names_its_place,
 };
 pub use lines::TextWidget;
 pub use parts::{Mark, Tag};
