@@ -1,0 +1,12 @@
+pub mod Far
+pub mod Moving
+pub mod Inside
+pub mod Decimals
+pub mod Names
+pub mod Lengths
+pub mod Inserted
+pub mod Ranges
+pub mod Round
+pub mod Returning
+pub mod Spelling
+pub mod Characters

@@ -1,0 +1,47 @@
+ghost use Rattle.std.specs.Prelude.{◌≡◌, ℕ, Bool, true, false, ◌+◌, ◌^◌, ◌<◌, ◌≤◌, List, length, take, Some};
+ghost use Rattle.tks_lines.specs.declared.parts.Mark.{Mark};
+ghost use Rattle.tks_lines.specs.declared.parts.Tag.{Tag};
+ghost use Rattle.tks_lines.specs.Places.{end_place};
+ghost use Rattle.tks_lines.specs.Indices.{index_place};
+ghost use Rattle.tks_lines.specs.Commands.{spelled};
+ghost use Rattle.tks_lines.specs.Lines.{Lines, Formed, is_editable, put_in, deleted, moved_on};
+ghost use Rattle.tks_lines.specs.Laws.{in_and_out, GoesBefore, RangesOf, PutsIn, TakesOut};
+
+/// Characters that are inserted and then deleted leave all as it was: the text, its tags and its marks.
+pub fn deletion_undoes_insertion()
+    ensures { (t : Lines) (place : ℕ) (more : List ℕ) → Formed t → place ≤ length t.text → in_and_out place more t ≡ t }
+{}
+
+/// A deletion up to the end leaves what stands before it, and the last newline.
+pub fn last_newline_stays()
+    ensures { (t : Lines) (place : ℕ) → is_editable t ≡ true → (deleted place (end_place t.text) t).text ≡ take place t.text }
+{}
+
+/// Where characters come in at a place, a mark with left gravity stays there, one with right gravity goes on, and marks stay
+/// in order.
+pub fn marks_stay_in_order()
+    ensures stays { (m : Mark) (count : ℕ) → m.left ≡ true → moved_on m.place count m ≡ m }
+    ensures goes_on { (m : Mark) (count : ℕ) → m.left ≡ false → (moved_on m.place count m).place ≡ m.place + count }
+    ensures order { (m n : Mark) (place count : ℕ) → GoesBefore m n → GoesBefore (moved_on place count m) (moved_on place count n) }
+{}
+
+/// The ranges of a tag rise, none is empty, and none touches another; together they are just the characters that have it.
+pub fn ranges_are_the_tagged()
+    ensures { (on : List Bool) → RangesOf on }
+{}
+
+/// An index as a text widget tells it names the place that it tells, whatever marks there are.
+pub fn told_index_names_its_place()
+    ensures { (t : Lines) (place : ℕ) → length t.text < 2 ^ 63 → place ≤ end_place t.text → index_place t (spelled t.text place) ≡ Some place }
+{}
+
+/// Character by character: where others come in, those before and behind are what they were, tags and all, and each of the new
+/// ones has just the tags that it came with.
+pub fn insertion_keeps_the_others()
+    ensures { (t : Lines) (place : ℕ) (more : List ℕ) (test : Tag → Bool) → Formed t → place ≤ length t.text → PutsIn place more test t (put_in place more test t) }
+{}
+
+/// Character by character: where some go out, those before and behind are what they were, tags and all.
+pub fn deletion_keeps_the_others()
+    ensures { (t : Lines) (first last : ℕ) → Formed t → is_editable t ≡ true → first ≤ last → last ≤ length t.text → TakesOut first last t (deleted first last t) }
+{}

@@ -1,0 +1,27 @@
+//! Text widgets: characters in lines, with tags on them and marks between them.
+#![tactic(auto)]
+
+mod answers;
+mod calls;
+mod edits;
+mod flag_list;
+mod index;
+mod laws;
+mod lines;
+mod mark_calls;
+mod marks;
+mod modifier;
+mod numbers;
+mod parts;
+mod places;
+mod shown;
+mod tag_calls;
+mod tags;
+
+pub use flag_list::Flags;
+pub use laws::{
+    deletion_keeps_the_others, deletion_undoes_insertion, insertion_keeps_the_others,
+    last_newline_stays, marks_stay_in_order, ranges_are_the_tagged, told_index_names_its_place,
+};
+pub use lines::TextWidget;
+pub use parts::{Mark, Tag};

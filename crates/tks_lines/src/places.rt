@@ -1,0 +1,162 @@
+//! Places in a text: before so many of its characters; behind the last newline is the end.
+ghost use Rattle.std.specs.Prelude.{◌≡◌, ◌+◌, ◌-◌, ◌<◌, ◌≤◌, ◌^◌, length, min};
+ghost use Rattle.std.specs.List.{prefix_len, suffix_len, count_by};
+ghost use Rattle.tks_lines.specs.Places.{is_newline, is_inner, end_place, lines_before, column_of, line_start, line_end, within_line, place_at, place_of_line, along, changed};
+
+use crate::modifier::{Modifier, Step};
+
+// Whether a character ends a line.
+fn is_newline(byte: u8) -> bool
+    ensures { result ≡ is_newline byte }
+{
+    byte == b'\n'
+}
+
+// How many newlines there are.
+fn newlines(text: &[u8]) -> usize
+    ensures value { result ≡ count_by is_newline text.now }
+    ensures bound { result ≤ length text.now }
+{
+    text.iter().filter(|byte| is_newline(**byte)).count()
+}
+
+/// How many characters stand before the first newline.
+pub(crate) fn inner_len(text: &[u8]) -> usize
+    ensures value { result ≡ prefix_len is_inner text.now }
+    ensures bound { result ≤ length text.now }
+{
+    text.iter().take_while(|byte| !is_newline(**byte)).count()
+}
+
+// How many characters stand behind the last newline.
+fn last_line_len(text: &[u8]) -> usize
+    ensures value { result ≡ suffix_len is_inner text.now }
+    ensures bound { result ≤ length text.now }
+{
+    text.iter()
+        .rev()
+        .take_while(|byte| !is_newline(**byte))
+        .count()
+}
+
+/// How many lines end before a place.
+pub(crate) fn lines_before(text: &[u8], place: usize) -> usize
+    requires { length text.now < 2 ^ 63 }
+    ensures value { result ≡ lines_before text.now place }
+    ensures bound { result ≤ length text.now + 1 }
+{
+    if place <= text.len() {
+        newlines(&text[..place])
+    } else {
+        newlines(text) + 1
+    }
+}
+
+/// How many characters stand before a place on its line.
+pub(crate) fn column_of(text: &[u8], place: usize) -> usize
+    ensures value { result ≡ column_of text.now place }
+    ensures bound { result ≤ length text.now }
+{
+    if place <= text.len() {
+        last_line_len(&text[..place])
+    } else {
+        0
+    }
+}
+
+// The place at which a line begins.
+fn line_start(text: &[u8], place: usize) -> usize
+    ensures { result ≡ line_start text.now place }
+{
+    place.saturating_sub(column_of(text, place))
+}
+
+// The place of the newline that ends a line.
+fn line_end(text: &[u8], place: usize) -> usize
+    requires short { length text.now < 2 ^ 63 }
+    requires inside { place ≤ end_place text.now }
+    ensures value { result ≡ line_end text.now place }
+    ensures bound { result ≤ end_place text.now }
+{
+    if place <= text.len() {
+        place + inner_len(&text[place..])
+    } else {
+        place
+    }
+}
+
+// A column of a line of so many characters, or its end.
+fn within_line(column: Option<usize>, len: usize) -> usize
+    ensures value { result ≡ within_line column len }
+    ensures bound { result ≤ len }
+{
+    match column {
+        None => len,
+        Some(column) => column.min(len),
+    }
+}
+
+/// The place of a column of the line that comes behind so many others.
+pub(crate) fn place_at(text: &[u8], lines: usize, column: Option<usize>) -> usize
+    requires { length text.now < 2 ^ 63 }
+    ensures value { result ≡ place_at text.now lines column }
+    ensures bound { result ≤ end_place text.now }
+{
+    let mut left = lines;
+    for (place, byte) in text.iter().enumerate() {
+        if left == 0 {
+            return place + within_line(column, inner_len(&text[place..]));
+        }
+        if is_newline(*byte) {
+            left -= 1;
+        }
+    }
+    if left == 0 {
+        text.len()
+    } else {
+        text.len() + 1
+    }
+}
+
+/// The place of a column of a line, counted from 1; a line below that is the first place.
+pub(crate) fn place_of_line(text: &[u8], line: usize, column: Option<usize>) -> usize
+    requires { length text.now < 2 ^ 63 }
+    ensures value { result ≡ place_of_line text.now line column }
+    ensures bound { result ≤ end_place text.now }
+{
+    if line == 0 {
+        0
+    } else {
+        place_at(text, line - 1, column)
+    }
+}
+
+// So far on, or back; as far as 64 bits go.
+fn along(step: Step, from: usize) -> usize
+    ensures { result ≡ min (along step from) (2 ^ 64 - 1) }
+{
+    if step.back {
+        from.saturating_sub(step.count)
+    } else {
+        from.saturating_add(step.count)
+    }
+}
+
+#[tactic(auto, using(crate::proofs::Far::kept_line))]
+/// The place that a modifier makes of another.
+pub(crate) fn changed(text: &[u8], place: usize, modifier: Modifier) -> usize
+    requires short { length text.now < 2 ^ 63 }
+    requires inside { place ≤ end_place text.now }
+    ensures value { result ≡ changed text.now place modifier }
+    ensures bound { result ≤ end_place text.now }
+{
+    match modifier {
+        Modifier::Chars(step) => along(step, place).min(text.len() + 1),
+        Modifier::Lines(step) => {
+            let lines = along(step, lines_before(text, place));
+            place_at(text, lines, Some(column_of(text, place)))
+        }
+        Modifier::LineStart => line_start(text, place),
+        Modifier::LineEnd => line_end(text, place),
+    }
+}
