@@ -1,5 +1,4 @@
-use Rattle.std.proofs.Common.{rules}
-use Rattle.std.proofs.Common.{◌≡◌, List, ℕ, ◌∷◌, sym, ap, ◌∙◌}
+use Rattle.std.proofs.Common.{rules, ◌≡◌, List, ℕ, ◌∷◌, sym, ap, ◌∙◌}
 use Rattle.tks_pack.proofs.Reading.{goes}
 use Rattle.tks_pack.proofs.options.with_options.Goals as goal
 
