@@ -1,4 +1,4 @@
-use Rattle.std.proofs.Common.{◌≡◌, List, ℕ, ◌∷◌, sym, ap, ◌∙◌}
+use Rattle.std.proofs.Common.{rules, ◌≡◌, List, ℕ, ◌∷◌, sym, ap, ◌∙◌}
 use Rattle.tks_pack.proofs.Reading.{goes}
 use Rattle.tks_pack.proofs.options.with_options.Goals as goal
 
@@ -9,3 +9,6 @@ loop-name-preserved c =
     let whole : c.loop-name.rest.now ≡ name ∷ value ∷ c.in-Some-split_first.behind.now =
     c.in-Some.ensures.cases.0 ∙ ap {B = List (List ℕ)} (λ r. name ∷ r) c.in-Some-split_first.ensures.cases.0 in
     sym (goes c.loop-name.settings _ name value c.in-Some-split_first.behind.now c.in_ok-settings-in-Some-split_first.ensures) ∙ rw whole at c.loop-name.invariant
+
+pub returns-in-None : goal.returns-in-None
+returns-in-None = search rules

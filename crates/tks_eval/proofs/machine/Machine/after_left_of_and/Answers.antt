@@ -13,3 +13,6 @@ returns-in_err-truth_of-clause-goes g c =
     let halts = truth_halts host limits c.args.self.now (g.H.Host.state c.args.host.now) c.args.variables.now (λ b. b) c.args.links c.args.text
     right (text_done (codes "0")) c.in_err-truth_of.field-0.0 c.in_err-truth_of.ensures in
     search rules
+
+pub returns-clause-goes : goal.returns-clause-goes
+returns-clause-goes = search rules

@@ -1,4 +1,4 @@
-use Rattle.std.proofs.Common.{◌≡◌, ◌+◌, ◌-◌, ◌<◌, ◌∷◌, length, drop, Some, Ok, sym, ap, ◌∙◌, arith}
+use Rattle.std.proofs.Common.{rules, ◌≡◌, ◌+◌, ◌-◌, ◌<◌, ◌∷◌, length, drop, Some, Ok, sym, ap, ◌∙◌, arith}
 use Rattle.std.specs.Prelude.{reverse}
 use Rattle.tks_vars.specs.View.{name_seen}
 use Rattle.tks_vars.specs.Variables.{Variables, is_global, innermost}
@@ -21,3 +21,12 @@ returns-clause-value c =
     takes c.self.inside.globals c.self.inside.procedures below c.args.self.now frame held c.args.name.now name (sym c.in-Some.ensures) (sym c.is_global.ensures ∙ c.if-is_global.false)
     ∙ after_ok (take_local frame name) all c.take_local.new.frame c.in_ok-take_local.ensures.value
     ∙ ap (λ ls. Ok (record { globals = c.self.inside.globals; locals = ls; procedures = c.self.inside.procedures })) (sym (innermost_set items (c.len-top.result - 1) (Some c.take_local.new.frame) last))
+
+pub returns-in_err-take_global-clause-value : goal.returns-in_err-take_global-clause-value
+returns-in_err-take_global-clause-value = search rules
+
+pub returns-in_err-take_global-clause-err : goal.returns-in_err-take_global-clause-err
+returns-in_err-take_global-clause-err = search rules
+
+pub returns-then-is_global-clause-value : goal.returns-then-is_global-clause-value
+returns-then-is_global-clause-value = search rules

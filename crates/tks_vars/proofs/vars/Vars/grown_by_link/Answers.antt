@@ -1,0 +1,5 @@
+use Rattle.std.proofs.Common.{rules}
+use Rattle.tks_vars.proofs.vars.Vars.grown_by_link.Goals as goal
+
+pub returns-in-None : goal.returns-in-None
+returns-in-None = search rules
