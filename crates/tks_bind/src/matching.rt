@@ -8,14 +8,14 @@ use tks_event::{Event, Kind, Pattern, is_modifier_key};
 /// How many milliseconds may lie between a near event and the one before it.
 const NEAR_MILLISECONDS: u64 = 500;
 
-// Whether a pattern wants a detail.
+/// Whether a pattern wants a detail.
 pub fn has_detail(pattern: &Pattern) -> bool
     ensures { result ≡ is_some_text pattern.now.detail }
 {
     !matches!(pattern.detail.as_bytes(), [])
 }
 
-// Whether an event has a pattern's kind, its detail, if it has one, and at least its modifiers.
+/// Whether an event has a pattern's kind, its detail, if it has one, and at least its modifiers.
 pub fn fits(pattern: &Pattern, event: &Event) -> bool
     ensures { result ≡ fits pattern.now event.now }
 {
@@ -24,6 +24,7 @@ pub fn fits(pattern: &Pattern, event: &Event) -> bool
         && event.state.holds(pattern.modifiers)
 }
 
+/// Whether it is a button's going down or up.
 pub fn is_of_button(kind: Kind) -> bool
     ensures { result ≡ is_of_button kind }
 {
