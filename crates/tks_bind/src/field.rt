@@ -78,6 +78,7 @@ fn is_of_key(kind: Kind) -> bool
     matches!(kind, Kind::KeyPress | Kind::KeyRelease)
 }
 
+/// Whether it is that of an event with a name of its own, `<<name>>`.
 pub fn is_virtual(kind: Kind) -> bool
     ensures { result ≡ is_virtual kind }
 {

@@ -41,14 +41,14 @@ fn is_close(before: &Event, later: &Event) -> bool
             || (before.root_x == later.root_x && before.root_y == later.root_y))
 }
 
-// Whether an event may be chosen for a pattern where the other one is chosen before it.
+/// Whether an event may be chosen for a pattern where the other one is chosen before it.
 pub fn is_linked(pattern: &Pattern, before: &Event, later: &Event) -> bool
     ensures { result ≡ is_linked pattern.now before.now later.now }
 {
     before.window == later.window && (!pattern.near || is_close(before, later))
 }
 
-// Whether an event may lie before a chosen one.
+/// Whether an event may lie before a chosen one.
 pub fn may_lie_before(chosen: &Event, event: &Event) -> bool
     ensures { result ≡ may_lie_before chosen.now event.now }
 {

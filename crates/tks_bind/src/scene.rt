@@ -141,7 +141,7 @@ impl<'a> Looked<'a> {
         binding.tag == *self.tag && self.one_wins(self.is_through(binding), self.tried(binding))
     }
 
-    // Of those that win, the one that was set last.
+    /// Of those that win, the one that was set last.
     #[tactic(auto, using(crate::proofs::Latter::later_assoc))]
     pub fn latest(&self) -> Option<&'a Binding>
         requires { length self.now.history.now ≤ 32 }

@@ -86,7 +86,7 @@ pub fn occurs(sequence: &[Pattern], history: &[Event]) -> bool
     ends_there(sequence, history)
 }
 
-// Whether the patterns of a sequence end at the last event.
+/// Whether the patterns of a sequence end at the last event.
 pub fn ends_there(sequence: &[Pattern], history: &[Event]) -> bool
     requires { length history.now ≤ 32 }
     ensures { result ≡ ends_at (turned sequence.now []) history.now (length history.now - 1) }

@@ -24,7 +24,7 @@ impl VirtualEvent {
     }
 }
 
-// Whether a sequence is among others.
+/// Whether a sequence is among others.
 pub fn has_sequence(sequences: &[Sequence], sequence: &Sequence) -> bool
     ensures { result ≡ has_sequence sequence.now sequences.now }
 {
@@ -47,7 +47,7 @@ fn copied(alloc: Global, sequences: &[Sequence]) -> Result<Seq<Sequence>, AllocE
     Ok(copy)
 }
 
-// Equal sequences, and one more.
+/// Equal sequences, and one more.
 pub fn with_one_more(
     alloc: Global,
     sequences: &[Sequence],
@@ -60,7 +60,7 @@ pub fn with_one_more(
     Ok(more)
 }
 
-// The sequences but one.
+/// The sequences but one.
 pub fn others(
     alloc: Global,
     sequences: &[Sequence],

@@ -60,7 +60,7 @@ fn beats_alike(way: Way<'_>, other: Way<'_>) -> bool
         || (are_equal(patterns, others) && !way.is_virtual && other.is_virtual)
 }
 
-// Whether a way is more specific than another.
+/// Whether a way is more specific than another.
 pub fn beats(way: Way<'_>, other: Way<'_>) -> bool
     ensures { result ≡ beats (way_of way.entry) (way_of other.entry) }
 {
