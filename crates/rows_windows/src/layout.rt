@@ -136,16 +136,16 @@ fn container(packing: &mut Packing, sizes: &Sizes, request: Extent, word: &str) 
 }
 
 // Adds a number to a row, as two digits of base 36.
-fn put_number(row: &mut String, number: u32) -> Option<()> {
-    row.push(from_digit(number / 36, 36)?).ok()?;
-    row.push(from_digit(number % 36, 36)?).ok()
+fn put_number(row: &mut Vec<u8>, number: u32) -> Option<()> {
+    row.push(from_digit(number / 36, 36)? as u8).ok()?;
+    row.push(from_digit(number % 36, 36)? as u8).ok()
 }
 
 // Adds a window's cells to a row, or `-` where it isn't mapped.
-fn put_area(row: &mut String, area: Option<Area>) -> Option<()> {
-    row.push(' ').ok()?;
+fn put_area(row: &mut Vec<u8>, area: Option<Area>) -> Option<()> {
+    row.push(b' ').ok()?;
     let Some(area) = area else {
-        return row.push('-').ok();
+        return row.push(b'-').ok();
     };
     put_number(row, area.x)?;
     put_number(row, area.y)?;
@@ -154,7 +154,7 @@ fn put_area(row: &mut String, area: Option<Area>) -> Option<()> {
 }
 
 /// Adds what comes of the layout of a row.
-pub fn put_answer(alloc: Global, layout: &str, answers: &mut String) -> Option<()> {
+pub fn put_answer(alloc: Global, layout: &str, answers: &mut Vec<u8>) -> Option<()> {
     let mut words = layout.split(' ');
     let first = words.next()?;
     let mut packing = Packing::new(alloc);
@@ -177,5 +177,5 @@ pub fn put_answer(alloc: Global, layout: &str, answers: &mut String) -> Option<(
     for area in packing.place(&sizes, container).ok()? {
         put_area(answers, area)?;
     }
-    answers.push('\n').ok()
+    answers.push(b'\n').ok()
 }

@@ -1,15 +1,12 @@
-//! Layouts of the packer and widgets that stand alone: answers each line of its input by a line, or by the
-//! rows that a widget shows.
+//! Layouts of the packer and options of classes: answers each line of its input by a line.
 //!
 //! `layout` and a container with its windows are answered by what the packer makes of them (`layout.rt`);
-//! every other line speaks of a widget (`widget.rt`).
+//! every other line speaks of options (`options.rt`).
 #![tactic(auto)]
 
-mod bench;
 mod layout;
-mod widget;
+mod options;
 
-use bench::Bench;
 use std::alloc::Global;
 use std::io::{Read, Write};
 use std::process::ExitCode;
@@ -23,21 +20,21 @@ fn main(rt: HostRuntime) -> ExitCode {
     let Some(answers) = answers(alloc, read) else {
         return ExitCode::FAILURE;
     };
-    match rt.stdout().write_all(answers.as_bytes()) {
+    match rt.stdout().write_all(answers.as_slice()) {
         Ok(()) => ExitCode::SUCCESS,
         Err(_) => ExitCode::FAILURE,
     }
 }
 
 // What the lines are answered by.
-fn answers(alloc: Global, read: Vec<u8>) -> Option<String> {
+fn answers(alloc: Global, read: Vec<u8>) -> Option<Vec<u8>> {
     let lines = String::from_utf8(read).ok()?;
-    let mut answers = String::new(alloc);
-    let mut bench = Bench::new(alloc)?;
+    let mut answers = Vec::new(alloc);
+    let mut options = options::first(alloc, "frame")?;
     for line in lines.as_str().lines() {
         match line.strip_prefix("layout ") {
             Some(row) => layout::put_answer(alloc, row, &mut answers)?,
-            None => bench.put_answer(line, &mut answers)?,
+            None => options::put_answer(alloc, &mut options, line, &mut answers)?,
         }
     }
     Some(answers)

@@ -1,4 +1,5 @@
 mod Blocks
+mod Captions
 mod Marks
 mod Toggles
 mod Wholes

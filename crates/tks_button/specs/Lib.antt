@@ -5,4 +5,5 @@ pub mod Label
 pub mod Action
 pub mod Button
 pub mod Checkbutton
+pub mod Caption
 pub mod Laws

@@ -11,10 +11,8 @@ mod label;
 mod laws;
 mod mark;
 
-pub use button::Button;
-pub use checkbutton::Checkbutton;
+pub use caption::{Assignment, Caption};
 pub use frame::Frame;
-pub use label::Label;
 pub use laws::{
     lines_are_shown_whole, turning_is_no_error, two_toggles_give_back, values_tell_on_from_off,
 };

@@ -16,8 +16,9 @@ use Rattle.tks_pack.specs.Packing as pack
 use Rattle.tks_opt.specs.Options as opt
 use Rattle.tks_opt.specs.Values.{boolean, anchor_named}
 use Rattle.tks_tree.specs.Windows as tree
-use Rattle.tks_state.specs.Windows.{kept_of, on_kept, replaced, with_packing, packed_at}
-use Rattle.tks_state.specs.World.{World, packed}
+use Rattle.tks_state.specs.Windows as windows
+use Rattle.tks_state.specs.Windows.{Windows, kept_of, on_kept, replaced, with_packing, packed_at}
+use Rattle.tks_state.specs.World.{World, windows_of, with_windows, packed}
 use Rattle.tks_state.specs.declared.kept.Kept.{Kept}
 use Rattle.tks_cmd.specs.Meets.{KeepsSo}
 use Rattle.tks_cmd.specs.Packing.{window_of, stands_in_one, or_on_root, content_of, contents_of, options_read, packed_each}
@@ -67,6 +68,10 @@ abbrev Leaves : tree.Windows → Result World ScriptFault → Type 0
 Leaves t (Ok v) = v.tree ≡ t
 Leaves t (Err fault) = ⊥
 
+abbrev KeepsTree : tree.Windows → Result Windows ScriptFault → Type 0
+KeepsTree t (Ok x) = x.tree ≡ t
+KeepsTree t (Err fault) = ⊥
+
 abbrev read_of : Result Settings ScriptFault → Result (Unit {0}) Cause
 read_of r = tcl.after (tcl.value_or_fault r) (λ _. Ok tt)
 
@@ -79,24 +84,28 @@ abbrev AllStand : tree.Windows → List ℕ → Type 0
 AllStand t ns = AllByRecursion (λ n. (not (n == 0) && is_some (tree.parent t n)) ≡ true) ns
 
 module _ (options : List (List ℕ)) (read : (p : Settings) → Came (with_options p options)) where
-  by_settings : (w : World) (old : pack.Packed) (n : ℕ) (k : Kept) (c : ℕ) (r : Result Settings ScriptFault) → Came r
-      → Leaves w.tree (opt.after (opt.after (after r (λ p. Ok (record old { contents = pack.put n p old.contents }))) (λ p. Ok (replaced c (with_packing k p) w.kept))) (λ kept. Ok (record w { kept = kept })))
-  by_settings w old n k c (Ok p) h = refl
-  by_settings w old n k c (Err fault) h = absurd h
+  by_settings : (x : Windows) (old : pack.Packed) (n : ℕ) (k : Kept) (c : ℕ) (r : Result Settings ScriptFault) → Came r
+      → KeepsTree x.tree (opt.after (opt.after (after r (λ p. Ok (record old { contents = pack.put n p old.contents }))) (λ p. Ok (replaced c (with_packing k p) x.kept))) (λ kept. Ok (record x { kept = kept })))
+  by_settings x old n k c (Ok p) h = refl
+  by_settings x old n k c (Err fault) h = absurd h
 
-  in_container : (w : World) (n c : ℕ) (o : Option Kept) → (n == 0) ≡ false
-      → Leaves w.tree (opt.after (on_kept o (Ok w.kept) (λ k. opt.after (pack.packed n options k.packing) (λ p. Ok (replaced c (with_packing k p) w.kept)))) (λ kept. Ok (record w { kept = kept })))
-  in_container w n c None e = refl
-  in_container w n c (Some k) e = rw e (by_settings w k.packing n k c (with_options (pack.settings_of n k.packing.contents) options) (read (pack.settings_of n k.packing.contents)))
+  in_container : (x : Windows) (n c : ℕ) (o : Option Kept) → (n == 0) ≡ false
+      → KeepsTree x.tree (opt.after (on_kept o (Ok x.kept) (λ k. opt.after (pack.packed n options k.packing) (λ p. Ok (replaced c (with_packing k p) x.kept)))) (λ kept. Ok (record x { kept = kept })))
+  in_container x n c None e = refl
+  in_container x n c (Some k) e = rw e (by_settings x k.packing n k c (with_options (pack.settings_of n k.packing.contents) options) (read (pack.settings_of n k.packing.contents)))
 
-  by_parent : (w : World) (n : ℕ) (b : Bool) (o : Option ℕ) → (n == 0) ≡ b → (not b && is_some o) ≡ true
-      → Leaves w.tree (opt.after (packed_at w.kept o n options) (λ kept. Ok (record w { kept = kept })))
-  by_parent w n true o e h = absurd (true≢false (sym h))
-  by_parent w n false None e h = absurd (true≢false (sym h))
-  by_parent w n false (Some c) e h = in_container w n c (kept_of w.kept c) e
+  by_parent : (x : Windows) (n : ℕ) (b : Bool) (o : Option ℕ) → (n == 0) ≡ b → (not b && is_some o) ≡ true
+      → KeepsTree x.tree (opt.after (packed_at x.kept o n options) (λ kept. Ok (record x { kept = kept })))
+  by_parent x n true o e h = absurd (true≢false (sym h))
+  by_parent x n false None e h = absurd (true≢false (sym h))
+  by_parent x n false (Some c) e h = in_container x n c (kept_of x.kept c) e
+
+  in_world : (w : World) (t : tree.Windows) (r : Result Windows ScriptFault) → KeepsTree t r → Leaves t (opt.after r (λ x. Ok (with_windows w x)))
+  in_world w t (Ok x) h = h
+  in_world w t (Err fault) h = absurd h
 
   one_packed : (w : World) (n : ℕ) → stands_in_one w n ≡ true → Leaves w.tree (packed w n options)
-  one_packed w n h = by_parent w n (n == 0) (tree.parent w.tree n) refl h
+  one_packed w n h = in_world w w.tree (windows.packed (windows_of w) n options) (by_parent (windows_of w) n (n == 0) (tree.parent w.tree n) refl h)
 
   rest_packed : (ns : List ℕ) (t : tree.Windows) (r : Result World ScriptFault) → Leaves t r
       → ((v : World) → v.tree ≡ t → Came (packed_each ns options v)) → Came (tcl.after (tcl.value_or_fault r) (packed_each ns options))

@@ -1,4 +1,5 @@
 pub mod Changes
+pub mod Links
 pub mod Windows
 pub mod Widgets
 pub mod Packing

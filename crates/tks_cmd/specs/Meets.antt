@@ -1,5 +1,5 @@
 -- What the code's answers say of the definitions.
-use Rattle.std.specs.Prelude.{◌≡◌, ℕ, true, false, List, Option, Some, None, Result, Ok, Err}
+use Rattle.std.specs.Prelude.{◌≡◌, true, false, Option, Some, None, Result, Ok, Err}
 use Rattle.tks_text.specs.Fault.{fault_text}
 use Rattle.tks_text.specs.declared.fault.ScriptFault.{ScriptFault}
 use Rattle.tks_text.specs.declared.limits.Limits.{Limits}
@@ -13,20 +13,22 @@ use Rattle.tks_tree.specs.declared.fault.CreateFault.TheVariants as refusal
 use Rattle.tks_state.specs.World.{World}
 use Rattle.tks_eval.specs.declared.host.Plan.{Plan}
 use Rattle.tks_eval.specs.declared.host.Plan.TheVariants as plan
-use Rattle.tks_cmd.specs.Changes.{Changed}
+use Rattle.tks_vars.specs.Variables.{Variables}
+use Rattle.tks_cmd.specs.Changes.{Outcome, outcome}
 
 -- an error of the script's own leaves a value as it was
 abbrev pub KeepsSo : {X Y : Type 0} → Result X Interrupt → Y → Y → Type 0
 KeepsSo (Err (interrupt.Script fault)) old new = new ≡ old
 KeepsSo other old new = Unit {0}
 
--- what came of words, from an old world to a new one, is the definition's; want of memory may come anywhere
-abbrev pub RunsSo : Result (Option (List ℕ)) Interrupt → World → World → Option (Result Changed Cause) → Type 0
-RunsSo (Ok None) old new given = (given ≡ None) × (new ≡ old)
-RunsSo (Ok (Some text)) old new given = given ≡ Some (Ok (text, new))
-RunsSo (Err (interrupt.Script fault)) old new given = (given ≡ Some (Err (Fault fault))) × (new ≡ old)
-RunsSo (Err interrupt.TooLarge) old new given = given ≡ Some (Err OverLimit)
-RunsSo (Err interrupt.NoMemory) old new given = Unit {0}
+-- what came of words, from an old world and variables to new ones, is the definition's; want of memory may come
+-- anywhere
+abbrev pub RunsSo : Result (Option Plan) Interrupt → World → World → Variables → Variables → Option (Result Outcome Cause) → Type 0
+RunsSo (Ok None) old new before now given = (given ≡ None) × (new ≡ old) × (now ≡ before)
+RunsSo (Ok (Some p)) old new before now given = given ≡ Some (Ok (outcome p new now))
+RunsSo (Err (interrupt.Script fault)) old new before now given = (given ≡ Some (Err (Fault fault))) × (new ≡ old) × (now ≡ before)
+RunsSo (Err interrupt.TooLarge) old new before now given = given ≡ Some (Err OverLimit)
+RunsSo (Err interrupt.NoMemory) old new before now given = Unit {0}
 
 -- the end by an error's text; want of memory may come anywhere
 abbrev pub ErrsSo : Limits → ScriptFault → Result Plan Stop → Type 0

@@ -1,8 +1,8 @@
 -- The forms of `pack` (pack(n); which errors there are, and their order, are this project's own).
-use Rattle.std.specs.Prelude.{ℕ, ℤ, pos, negsuc, Bool, true, false, not, ◌&&◌, ◌==◌, is_some, if◌then◌else◌, codes, List, [], ◌∷◌, ◌++◌, take, drop, Option, Some, None, Result, Ok, Err}
+use Rattle.std.specs.Prelude.{ℕ, ℤ, pos, negsuc, Bool, true, false, not, ◌&&◌, ◌==◌, is_some, if◌then◌else◌, codes, List, [], ◌∷◌, ◌++◌, take, drop, Option, Some, None, Result, Ok}
 use Rattle.std.specs.List.{prefix_len}
 use Rattle.tks_text.specs.Text.{same_text}
-use Rattle.tks_tcl.specs.Cause.{Cause, Fault, about, after, value_or_fault, wrong_words}
+use Rattle.tks_tcl.specs.Cause.{Cause, after, value_or_fault, wrong_words}
 use Rattle.tks_tcl.specs.Words.{truth_text, integer_in}
 use Rattle.tks_list.specs.Quoting.{joined}
 use Rattle.tks_text.specs.Truth.{truth_of_word}

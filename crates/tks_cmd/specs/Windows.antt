@@ -1,19 +1,22 @@
--- Making and destroying windows (frame(n), label(n), destroy(n); which errors there are, their order and the limits
--- are this project's own).
+-- Making and destroying windows (frame(n), label(n), button(n), checkbutton(n), entry(n), destroy(n); which errors there
+-- are, their order and the limits are this project's own).
 use Rattle.std.specs.Prelude.{ℕ, Bool, not, ◌==◌, ◌%◌, nat_lt, if◌then◌else◌, List, [], ◌∷◌, length, Result, Ok, Err}
 use Rattle.std.specs.List.{list_all}
 use Rattle.tks_text.specs.Text.{same_text}
 use Rattle.tks_text.specs.declared.class.Class.TheVariants as class
 use Rattle.tks_text.specs.declared.limits.Limits.{Limits}
-use Rattle.tks_tcl.specs.Cause.{Cause, OverLimit, after, value_or_fault, wrong_words}
+use Rattle.tks_tcl.specs.Cause.{Cause, OverLimit, after, wrong_words}
+use Rattle.tks_vars.specs.Variables.{Variables}
 use Rattle.tks_opt.specs.Options.{first_options}
+use Rattle.tks_entry.specs.Entry.{first_entry}
 use Rattle.tks_tree.specs.Path.{root_path}
 use Rattle.tks_tree.specs.Windows.{of_path, on_window, free_path}
 use Rattle.tks_state.specs.World.{World, with_window, without}
-use Rattle.tks_state.specs.Widget.{configured}
 use Rattle.tks_state.specs.declared.widget.Widget.{Widget}
 use Rattle.tks_state.specs.declared.widget.Widget.TheVariants as widget
-use Rattle.tks_cmd.specs.Changes.{Changed, silent, not_on_root, creation}
+use Rattle.tks_eval.specs.declared.host.Plan.TheVariants as plan
+use Rattle.tks_cmd.specs.Changes.{Changed, Outcome, outcome, silent, not_on_root, creation}
+use Rattle.tks_cmd.specs.Links.{Linked, configured, first_value}
 use Rattle.tks_cmd.specs.declared.windows.WindowKind.{WindowKind}
 use Rattle.tks_cmd.specs.declared.windows.WindowKind.TheVariants as kind
 
@@ -21,38 +24,41 @@ use Rattle.tks_cmd.specs.declared.windows.WindowKind.TheVariants as kind
 abbrev pub are_paired : List (List ℕ) → Bool
 are_paired options = length options % 2 == 0
 
--- ---- frame, label: path ?option value ..?
+-- ---- frame, label, button, checkbutton, entry: path ?option value ..?
 
 -- a window of a kind as it is at first
 abbrev pub first_widget : WindowKind → List ℕ → Widget
 first_widget kind.Frame path = widget.Frame (first_options class.Frame path)
-first_widget kind.Label path = widget.Label (first_options class.Label path)
-
--- the same with these options
-abbrev pub new_widget : WindowKind → List ℕ → List (List ℕ) → Result Widget Cause
-new_widget kind path options = value_or_fault (configured (first_widget kind path) options)
+first_widget kind.Label path = widget.Caption (first_options class.Label path)
+first_widget kind.Button path = widget.Caption (first_options class.Button path)
+first_widget kind.Checkbutton path = widget.Caption (first_options class.Checkbutton path)
+first_widget kind.Entry path = widget.Entry (first_entry path)
 
 -- the world with a window more
 abbrev pub added : World → List ℕ → Widget → Result World Cause
 added w path v = after (creation (with_window w path v)) (λ x. Ok x.1)
 
 module _ (limits : Limits) where
+  -- the same with these options, and the globals beside it
+  unfoldable pub new_widget : WindowKind → List ℕ → List (List ℕ) → Variables → Result Linked Cause
+  new_widget kind path options variables = after (configured limits options (first_widget kind path, variables)) (first_value limits)
+
   -- a window more passes no limit
   abbrev pub room : World → Result (Unit {0}) Cause
   room w = if nat_lt (length w.tree.windows) limits.items then Ok tt else Err OverLimit
 
   -- a window made under a path: the path is looked at first, then the options, then the limit; the answer is the path
-  abbrev pub made : WindowKind → List ℕ → List (List ℕ) → World → Result Changed Cause
-  made kind path options w =
+  abbrev pub made : WindowKind → List ℕ → List (List ℕ) → World → Variables → Result Outcome Cause
+  made kind path options w variables =
       after (creation (free_path w.tree.windows path)) (λ _.
-      after (new_widget kind path options) (λ v.
+      after (new_widget kind path options variables) (λ x.
       after (room w) (λ _.
-      after (added w path v) (λ u. Ok (path, u)))))
+      after (added w path x.0) (λ u. Ok (outcome (plan.Answer 0 path) u x.1)))))
 
   -- the command with the words behind its name
-  abbrev pub make_does : WindowKind → List ℕ → List (List ℕ) → World → Result Changed Cause
-  make_does kind command [] w = wrong_words command
-  make_does kind command (path ∷ options) w = if are_paired options then made kind path options w else wrong_words command
+  abbrev pub make_does : WindowKind → List ℕ → List (List ℕ) → World → Variables → Result Outcome Cause
+  make_does kind command [] w variables = wrong_words command
+  make_does kind command (path ∷ options) w variables = if are_paired options then made kind path options w variables else wrong_words command
 
 -- ---- destroy path ..
 

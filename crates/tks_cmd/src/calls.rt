@@ -1,6 +1,6 @@
 ghost use Rattle.std.specs.Prelude.{◌≡◌};
 ghost use Rattle.tks_eval.specs.Meets.{AnswersSo};
-ghost use Rattle.tks_cmd.specs.Commands.{words_do, does};
+ghost use Rattle.tks_cmd.specs.Commands.{words_do, may_come, does};
 ghost use Rattle.tks_cmd.specs.Meets.{RunsSo, ErrsSo};
 
 use crate::commands::Command;
@@ -12,28 +12,39 @@ use tks_tcl::{Interrupt, Stop, fits};
 use tks_text::{Limits, ScriptFault, Txt};
 use tks_vars::Vars;
 
-// What words answer; none where the first is neither a command's name nor a window's path.
+// What words come to; none where the first is neither a command's name nor a window's path.
 fn run(
     alloc: Global,
     world: &mut World,
+    variables: &mut Vars,
     words: &[Txt],
     limits: &Limits,
-) -> Result<Option<Txt>, Interrupt>
-    ensures { RunsSo result world.old world.new (words_do limits.now words.now world.old) }
+) -> Result<Option<Plan>, Interrupt>
+    ensures { RunsSo result world.old world.new variables.old variables.new (words_do limits.now words.now world.old variables.old) }
 {
     let Some((name, rest)) = words.split_first() else {
         return Ok(None);
     };
     if let Some(command) = Command::named(name) {
-        let text = command.run(alloc, name, rest, world, limits)?;
-        return Ok(Some(text));
+        let plan = command.run(alloc, name, rest, world, variables, limits)?;
+        return Ok(Some(plan));
     }
     let Some(window) = world.tree().find(name) else {
         return Ok(None);
     };
     let id = window.id;
-    let text = run_window(alloc, world, id, words)?;
-    Ok(Some(text))
+    let plan = run_window(alloc, world, variables, id, words, limits)?;
+    Ok(Some(plan))
+}
+
+// Whether an answer's text passes no limit.
+fn may_come(plan: &Plan, limits: &Limits) -> bool
+    ensures { result ≡ may_come limits.now plan.now }
+{
+    match plan {
+        Plan::Answer(_, text) => fits(text, limits),
+        _ => true,
+    }
 }
 
 // The end by an error.
@@ -47,11 +58,11 @@ fn err(alloc: Global, fault: &ScriptFault, limits: &Limits) -> Result<Plan, Stop
     Ok(Plan::Answer(1, text))
 }
 
-/// What a command on windows comes to: `frame`, `label`, `destroy`, `pack`, or one of a window, whose name is its
-/// path. The first word names it; `None` where there is none of this name, and then nothing has changed. An error
-/// of the command's own leaves the world as it was. The stops are `TooLarge`, where a text or the list of windows
-/// would pass its limit or the numbers of windows have run out, and `NoMemory`; after them nothing is said of the
-/// world. The variables are those handed in: the world's own aren't looked at.
+/// What a command on windows comes to: `frame`, `label`, `button`, `checkbutton`, `entry`, `destroy`, `pack`, or one of a
+/// window, whose name is its path. The first word names it; `None` where there is none of this name, and then nothing
+/// has changed. An error of the command's own leaves the world and the variables as they were. The stops are `TooLarge`,
+/// where a text, the list of windows or one of variables would pass its limit or the numbers of windows have run out, and
+/// `NoMemory`; after them nothing is said of either. The variables are those handed in: the world's own aren't looked at.
 pub fn command(
     alloc: Global,
     world: &mut World,
@@ -61,11 +72,11 @@ pub fn command(
 ) -> Result<Option<Plan>, Stop>
     ensures { AnswersSo (does limits.now world.old variables.old words.now) result world.old world.new variables.old variables.new }
 {
-    match run(alloc, world, words, limits) {
+    match run(alloc, world, variables, words, limits) {
         Ok(None) => Ok(None),
-        Ok(Some(text)) => {
-            if fits(&text, limits) {
-                Ok(Some(Plan::Answer(0, text)))
+        Ok(Some(plan)) => {
+            if may_come(&plan, limits) {
+                Ok(Some(plan))
             } else {
                 Err(Stop::TooLarge)
             }

@@ -1,14 +1,17 @@
 ghost use Rattle.std.specs.Prelude.{◌≡◌};
 ghost use Rattle.tks_tcl.specs.Meets.{GivesSo};
+ghost use Rattle.tks_cmd.specs.Changes.{outcome};
 ghost use Rattle.tks_cmd.specs.Commands.{command_named, command_does};
 ghost use Rattle.tks_cmd.specs.Meets.{KeepsSo};
 
 use crate::packing::run_pack;
 use crate::windows::{WindowKind, run_destroy, run_make};
 use std::alloc::Global;
+use tks_eval::Plan;
 use tks_state::World;
 use tks_tcl::Interrupt;
 use tks_text::{Limits, Txt};
+use tks_vars::Vars;
 
 /// The commands on windows that have a name.
 #[derive(Clone, Copy)]
@@ -29,6 +32,12 @@ impl Command {
             Some(Command::Make(WindowKind::Frame))
         } else if name == b"label".as_slice() {
             Some(Command::Make(WindowKind::Label))
+        } else if name == b"button".as_slice() {
+            Some(Command::Make(WindowKind::Button))
+        } else if name == b"checkbutton".as_slice() {
+            Some(Command::Make(WindowKind::Checkbutton))
+        } else if name == b"entry".as_slice() {
+            Some(Command::Make(WindowKind::Entry))
         } else if name == b"destroy".as_slice() {
             Some(Command::Destroy)
         } else if name == b"pack".as_slice() {
@@ -38,22 +47,33 @@ impl Command {
         }
     }
 
-    /// What the command answers, given its first word and the others.
+    /// What the command comes to, given its first word and the others.
     pub fn run(
         self,
         alloc: Global,
         name: &Txt,
         words: &[Txt],
         world: &mut World,
+        variables: &mut Vars,
         limits: &Limits,
-    ) -> Result<Txt, Interrupt>
-        ensures value { GivesSo (λ t. (t, world.new)) result (command_does limits.now self name.now words.now world.old) }
-        ensures kept { KeepsSo result world.old world.new }
+    ) -> Result<Plan, Interrupt>
+        ensures value { GivesSo (λ p. outcome p world.new variables.new) result (command_does limits.now self name.now words.now world.old variables.old) }
+        ensures world { KeepsSo result world.old world.new }
+        ensures variables { KeepsSo result variables.old variables.new }
     {
         match self {
-            Command::Make(kind) => run_make(alloc, kind, name, words, world, limits),
-            Command::Destroy => run_destroy(alloc, name, words, world),
-            Command::Pack => run_pack(alloc, name, words, world),
+            Command::Make(kind) => {
+                let plan = run_make(alloc, kind, name, words, world, variables, limits)?;
+                Ok(plan)
+            }
+            Command::Destroy => {
+                let text = run_destroy(alloc, name, words, world)?;
+                Ok(Plan::Answer(0, text))
+            }
+            Command::Pack => {
+                let text = run_pack(alloc, name, words, world)?;
+                Ok(Plan::Answer(0, text))
+            }
         }
     }
 }

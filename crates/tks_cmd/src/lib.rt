@@ -4,6 +4,7 @@
 mod calls;
 mod commands;
 mod laws;
+mod links;
 mod packing;
 mod widgets;
 mod windows;

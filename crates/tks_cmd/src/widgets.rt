@@ -1,23 +1,27 @@
 //! The windows' own commands.
 ghost use Rattle.std.specs.Prelude.{◌≡◌};
 ghost use Rattle.tks_tcl.specs.Meets.{GivesSo};
-ghost use Rattle.tks_cmd.specs.Widgets.{text_said, window_does};
+ghost use Rattle.tks_cmd.specs.Changes.{outcome, plan_of};
+ghost use Rattle.tks_cmd.specs.Widgets.{window_does};
 ghost use Rattle.tks_cmd.specs.Meets.{KeepsSo};
 
+use crate::links::call;
 use std::alloc::Global;
+use tks_eval::Plan;
 use tks_opt::Said;
 use tks_state::World;
 use tks_tcl::Interrupt;
-use tks_text::Txt;
+use tks_text::{Limits, Txt};
 use tks_tree::WindowId;
+use tks_vars::Vars;
 
-// The text that a window answers. So far none answers with a script.
-fn text_said(alloc: Global, said: Option<Said>) -> Txt
-    ensures { result ≡ text_said said }
+// A text is the answer itself, a script is run for it.
+fn plan_of(said: Said) -> Plan
+    ensures { result ≡ plan_of said }
 {
     match said {
-        Some(Said::Text(text)) => text,
-        Some(Said::Run(_)) | None => Txt::new(alloc),
+        Said::Text(text) => Plan::Answer(0, text),
+        Said::Run(script) => Plan::Eval(script),
     }
 }
 
@@ -25,12 +29,19 @@ fn text_said(alloc: Global, said: Option<Said>) -> Txt
 pub fn run_window(
     alloc: Global,
     world: &mut World,
+    variables: &mut Vars,
     window: WindowId,
     words: &[Txt],
-) -> Result<Txt, Interrupt>
-    ensures value { GivesSo (λ t. (t, world.new)) result (window_does window words.now world.old) }
-    ensures kept { KeepsSo result world.old world.new }
+    limits: &Limits,
+) -> Result<Plan, Interrupt>
+    ensures value { GivesSo (λ p. outcome p world.new variables.new) result (window_does limits.now window words.now world.old variables.old) }
+    ensures world { KeepsSo result world.old world.new }
+    ensures variables { KeepsSo result variables.old variables.new }
 {
-    let said = world.call(window, words)?;
-    Ok(text_said(alloc, said))
+    let Some(kept) = world.kept(window) else {
+        return Ok(Plan::Answer(0, Txt::new(alloc)));
+    };
+    let told = call(alloc, words, &kept.widget, variables, limits)?;
+    world.set_widget(window, told.widget);
+    Ok(plan_of(told.said))
 }

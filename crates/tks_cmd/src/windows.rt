@@ -1,24 +1,33 @@
 //! Making and destroying windows.
 ghost use Rattle.std.specs.Prelude.{◌≡◌, true, IfOk};
 ghost use Rattle.std.specs.List.{list_all};
+ghost use Rattle.tks_tcl.specs.Cause.{after};
 ghost use Rattle.tks_tcl.specs.Meets.{GivesSo};
 ghost use Rattle.tks_tree.specs.Windows.{free_path};
-ghost use Rattle.tks_cmd.specs.Changes.{creation};
+ghost use Rattle.tks_cmd.specs.Changes.{creation, outcome};
 ghost use Rattle.tks_cmd.specs.Windows.{are_paired, first_widget, new_widget, added, room, made, make_does, is_other, without_path, without_all, destroy_does};
 ghost use Rattle.tks_cmd.specs.Meets.{KeepsSo, interrupt_of};
 
+use crate::links::{configure, set_first_value};
 use std::alloc::{AllocError, Global};
-use tks_button::{Frame, Label};
+use std::mem;
+use tks_button::{Caption, Frame};
+use tks_entry::EntryWidget;
+use tks_eval::Plan;
 use tks_state::{Widget, World};
 use tks_tcl::{Interrupt, wrong_words};
-use tks_text::{ErrorNumber, Limits, ScriptFault, Txt};
+use tks_text::{Class, ErrorNumber, Limits, ScriptFault, Txt};
 use tks_tree::{CreateFault, Tree};
+use tks_vars::Vars;
 
 /// What a command makes.
 #[derive(Clone, Copy)]
 pub enum WindowKind {
     Frame,
     Label,
+    Button,
+    Checkbutton,
+    Entry,
 }
 
 impl WindowKind {
@@ -28,16 +37,32 @@ impl WindowKind {
     {
         match self {
             WindowKind::Frame => Ok(Widget::Frame(Frame::new(alloc, path)?)),
-            WindowKind::Label => Ok(Widget::Label(Label::new(alloc, path)?)),
+            WindowKind::Label => Ok(Widget::Caption(Caption::new(alloc, Class::Label, path)?)),
+            WindowKind::Button => Ok(Widget::Caption(Caption::new(alloc, Class::Button, path)?)),
+            WindowKind::Checkbutton => Ok(Widget::Caption(Caption::new(
+                alloc,
+                Class::Checkbutton,
+                path,
+            )?)),
+            WindowKind::Entry => Ok(Widget::Entry(EntryWidget::new(alloc, path)?)),
         }
     }
 
-    // The same with these options.
-    fn widget(self, alloc: Global, path: &Txt, options: &[Txt]) -> Result<Widget, Interrupt>
-        ensures { GivesSo (λ v. v) result (new_widget self path.now options.now) }
+    // The same with these options. After an error nothing is said of the variables.
+    #[tactic(auto, unfolding(crate::specs::Windows::new_widget))]
+    fn widget(
+        self,
+        alloc: Global,
+        path: &Txt,
+        options: &[Txt],
+        variables: &mut Vars,
+        limits: &Limits,
+    ) -> Result<Widget, Interrupt>
+        ensures { GivesSo (λ v. (v, variables.new)) result (new_widget limits.now self path.now options.now variables.old) }
     {
-        let mut widget = self.first_widget(alloc, path)?;
-        widget.configure(options)?;
+        let first = self.first_widget(alloc, path)?;
+        let widget = configure(alloc, options, first, variables, limits)?;
+        set_first_value(&widget, variables, limits)?;
         Ok(widget)
     }
 }
@@ -91,38 +116,47 @@ fn check_room(world: &World, limits: &Limits) -> Result<(), Interrupt>
     }
 }
 
-// Adds a window to the world.
-fn add_window(world: &mut World, path: &Txt, widget: Widget) -> Result<(), Interrupt>
-    ensures value { GivesSo (λ _. world.new) result (added world.old path.now widget) }
+// Adds a window to the world, where it passes no limit.
+fn add_window(
+    world: &mut World,
+    path: &Txt,
+    widget: Widget,
+    limits: &Limits,
+) -> Result<(), Interrupt>
+    ensures value { GivesSo (λ _. world.new) result (after (room limits.now world.old) (λ _. added world.old path.now widget)) }
     ensures kept { KeepsSo result world.old world.new }
 {
+    check_room(world, limits)?;
     match world.add_window(path, widget) {
         Ok(_) => Ok(()),
         Err(fault) => Err(interrupt_of(fault)),
     }
 }
 
-// Makes a window of a kind.
+// Makes a window of a kind, with a copy of the variables until nothing more is refused.
 fn make(
     alloc: Global,
     kind: WindowKind,
     path: &Txt,
     options: &[Txt],
     world: &mut World,
+    variables: &mut Vars,
     limits: &Limits,
-) -> Result<Txt, Interrupt>
-    ensures value { GivesSo (λ t. (t, world.new)) result (made limits.now kind path.now options.now world.old) }
-    ensures kept { KeepsSo result world.old world.new }
+) -> Result<Plan, Interrupt>
+    ensures value { GivesSo (λ p. outcome p world.new variables.new) result (made limits.now kind path.now options.now world.old variables.old) }
+    ensures world { KeepsSo result world.old world.new }
+    ensures variables { KeepsSo result variables.old variables.new }
 {
     check_path(world.tree(), path)?;
-    let widget = kind.widget(alloc, path, options)?;
-    check_room(world, limits)?;
     let answer = path.try_clone()?;
-    add_window(world, path, widget)?;
-    Ok(answer)
+    let mut copy = variables.try_clone()?;
+    let widget = kind.widget(alloc, path, options, &mut copy, limits)?;
+    add_window(world, path, widget, limits)?;
+    mem::swap(variables, &mut copy);
+    Ok(Plan::Answer(0, answer))
 }
 
-/// frame, label: path ?option value ..? Makes a window, and answers its path.
+/// frame, label, button, checkbutton, entry: path ?option value ..? Makes a window, and answers its path.
 #[tactic(auto, using(tks_tcl::proofs::Causes::tells))]
 pub fn run_make(
     alloc: Global,
@@ -130,10 +164,12 @@ pub fn run_make(
     command: &Txt,
     words: &[Txt],
     world: &mut World,
+    variables: &mut Vars,
     limits: &Limits,
-) -> Result<Txt, Interrupt>
-    ensures value { GivesSo (λ t. (t, world.new)) result (make_does limits.now kind command.now words.now world.old) }
-    ensures kept { KeepsSo result world.old world.new }
+) -> Result<Plan, Interrupt>
+    ensures value { GivesSo (λ p. outcome p world.new variables.new) result (make_does limits.now kind command.now words.now world.old variables.old) }
+    ensures world { KeepsSo result world.old world.new }
+    ensures variables { KeepsSo result variables.old variables.new }
 {
     let Some((path, options)) = words.split_first() else {
         return Err(wrong_words(command));
@@ -141,8 +177,8 @@ pub fn run_make(
     if !are_paired(options) {
         return Err(wrong_words(command));
     }
-    let answer = make(alloc, kind, path, options, world, limits)?;
-    Ok(answer)
+    let plan = make(alloc, kind, path, options, world, variables, limits)?;
+    Ok(plan)
 }
 
 // Whether `.` is not among paths.

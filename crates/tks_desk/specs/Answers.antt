@@ -5,7 +5,6 @@ use Rattle.tks_text.specs.Limits.{format1}
 use Rattle.tks_state.specs.World.{World}
 use Rattle.tks_screen.specs.Screen.{shown}
 use Rattle.tks_world.specs.Step.{Stepped, Accepts, Refuses, step}
-use Rattle.tks_world.specs.declared.input.Input.{Input}
 use Rattle.tks_world.specs.declared.input.Reply.{Reply}
 use Rattle.tks_world.specs.declared.input.Refused.{Refused}
 use Rattle.tks_world.specs.declared.input.Refused.TheVariants.{BadInput, Budget, Depth, TooLarge, NoMemory}

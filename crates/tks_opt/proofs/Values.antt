@@ -106,7 +106,7 @@ names_first c path (o ∷ os) = ap (λ ps. o ∷ ps) (names_first c path os)
 first_accepted : (c : Class) (path : List ℕ) → AllByRecursion (λ e. accepts c e.0 e.1 ≡ true) (first_options c path).values
 first_accepted class.Root path = (refl, (refl, (refl, (refl, (refl, (refl, (refl, (refl, tt))))))))
 first_accepted class.Frame path = (refl, (refl, (refl, (refl, (refl, (refl, (refl, (refl, tt))))))))
-first_accepted class.Label path = (refl, (refl, (refl, (refl, (refl, (refl, (refl, (refl, (refl, tt)))))))))
+first_accepted class.Label path = (refl, (refl, (refl, (refl, (refl, (refl, (refl, (refl, (refl, (refl, tt))))))))))
 first_accepted class.Button path = (refl, (refl, (refl, (refl, (refl, (refl, (refl, (refl, (refl, (refl, (refl, (refl, tt))))))))))))
 first_accepted class.Checkbutton path = (refl, (refl, (refl, (refl, (refl, (refl, (refl, (refl, (refl, (refl, (refl, (refl, (refl, (refl, (refl, tt)))))))))))))))
 first_accepted class.Entry path = (refl, (refl, (refl, (refl, (refl, (refl, (refl, (refl, (refl, (refl, tt))))))))))

@@ -45,12 +45,11 @@ of_label = name.Text ∷ name.TextVariable ∷ name.Width ∷ name.Anchor ∷ []
 abbrev pub of_button : List OptionName
 of_button = of_label ++ name.Command ∷ name.State ∷ []
 
--- those of a class beside the common ones; a label has no `-textvariable` as long as labels aren't linked to
--- variables
+-- those of a class beside the common ones
 abbrev pub further : Class → List OptionName
 further class.Root = name.Width ∷ name.Height ∷ []
 further class.Frame = name.Width ∷ name.Height ∷ []
-further class.Label = name.Text ∷ name.Width ∷ name.Anchor ∷ []
+further class.Label = of_label
 further class.Button = of_button
 further class.Checkbutton = of_button ++ name.Variable ∷ name.OnValue ∷ name.OffValue ∷ []
 further class.Entry = name.TextVariable ∷ name.Show ∷ name.Width ∷ name.State ∷ []

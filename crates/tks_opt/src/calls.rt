@@ -15,8 +15,8 @@ pub fn wrong_words(path: &Txt) -> Failure
     Failure::about(ErrorNumber::WrongWords, path)
 }
 
-// Whether words are pairs, one or more.
-fn are_pairs(words: &[Txt]) -> bool
+/// Whether words are pairs, one or more.
+pub fn are_pairs(words: &[Txt]) -> bool
     ensures { result ≡ are_pairs words.now }
 {
     2 <= words.len() && words.len() % 2 == 0

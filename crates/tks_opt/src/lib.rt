@@ -14,7 +14,7 @@ mod table;
 
 pub use alignment::Alignment;
 pub use anchor::Anchor;
-pub use calls::wrong_words;
+pub use calls::{are_pairs, wrong_words};
 pub use cells::{blank_row, blank_rows, line_row};
 pub use name::OptionName;
 pub use number::{boolean_of, number_within};

@@ -32,6 +32,7 @@ const OF_LABEL: &[OptionName] = &[
     OptionName::BorderWidth,
     OptionName::TakeFocus,
     OptionName::Text,
+    OptionName::TextVariable,
     OptionName::Width,
     OptionName::Anchor,
 ];

@@ -1,14 +1,15 @@
 -- What the windows show, one over the other: each as its rows of characters, at its place on the grid.
 use Rattle.std.specs.Prelude.{ℕ, ◌-◌, if◌then◌else◌, List, [], ◌∷◌, length, get_or}
 use Rattle.tks_opt.specs.Cells.{space, row}
+use Rattle.tks_vars.specs.Variables.{Variables}
 use Rattle.tks_state.specs.Layout.{covers}
 use Rattle.tks_state.specs.declared.kept.Kept.{Kept}
 use Rattle.tks_state.specs.declared.layout.Placed.{Placed}
 use Rattle.tks_screen.specs.Screen.{cell_in, rows_of}
 use Rattle.tks_screen.specs.declared.pane.Pane.{Pane}
 
-abbrev pub pane_of : List Kept → Placed → Pane
-pane_of kept p = record { area = p.area; rows = rows_of kept p }
+abbrev pub pane_of : Variables → List Kept → Placed → Pane
+pane_of variables kept p = record { area = p.area; rows = rows_of variables kept p }
 
 abbrev pub cell_of : Pane → ℕ → ℕ → ℕ
 cell_of p x y = cell_in p.rows (x - p.area.x) (y - p.area.y)

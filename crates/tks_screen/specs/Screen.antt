@@ -3,7 +3,8 @@
 use Rattle.std.specs.Prelude.{ℕ, ◌-◌, List, [], Option, Some, None, slice_get}
 use Rattle.tks_text.specs.Size.{Extent}
 use Rattle.tks_opt.specs.Cells.{space, rows}
-use Rattle.tks_state.specs.Widget as widget
+use Rattle.tks_vars.specs.Variables.{Variables}
+use Rattle.tks_state.specs.Links as links
 use Rattle.tks_state.specs.Windows.{kept_of, on_kept}
 use Rattle.tks_state.specs.World.{World}
 use Rattle.tks_state.specs.Layout.{topmost}
@@ -32,17 +33,17 @@ abbrev pub cell_in : List (List ℕ) → ℕ → ℕ → ℕ
 cell_in cells x y = in_row (slice_get cells y) x
 
 -- the rows of characters that a window shows in its area
-abbrev pub rows_of : List Kept → Placed → List (List ℕ)
-rows_of kept p = on_kept (kept_of kept p.window) [] (λ k. widget.shown k.widget p.area.width p.area.height)
+abbrev pub rows_of : Variables → List Kept → Placed → List (List ℕ)
+rows_of variables kept p = on_kept (kept_of kept p.window) [] (λ k. links.shown variables k.widget p.area.width p.area.height)
 
 -- the character of a window in a cell of the grid
-abbrev pub seen : List Kept → Option Placed → ℕ → ℕ → ℕ
-seen kept None x y = space
-seen kept (Some p) x y = cell_in (rows_of kept p) (x - p.area.x) (y - p.area.y)
+abbrev pub seen : Variables → List Kept → Option Placed → ℕ → ℕ → ℕ
+seen variables kept None x y = space
+seen variables kept (Some p) x y = cell_in (rows_of variables kept p) (x - p.area.x) (y - p.area.y)
 
 -- what a cell shows
 abbrev pub character : World → ℕ → ℕ → ℕ
-character w x y = seen w.kept (topmost w x y) x y
+character w x y = seen w.variables w.kept (topmost w x y) x y
 
 -- what the screen shows, row by row
 abbrev pub shown : World → List (List ℕ)

@@ -32,20 +32,22 @@ fn cell_in(rows: &[Seq<u8>], column: usize, row: usize) -> u8
 
 // The rows that a window shows in its area.
 fn rows_of(alloc: Global, world: &World, placed: &Placed) -> Result<Seq<Seq<u8>>, AllocError>
-    ensures { IfOk result (λ cells. cells ≡ rows_of world.now.kept placed.now) }
+    ensures { IfOk result (λ cells. cells ≡ rows_of world.now.variables world.now.kept placed.now) }
 {
     let Some(kept) = world.kept(placed.window) else {
         return Ok(Seq::new(alloc));
     };
+    let width = placed.area.width as usize;
+    let height = placed.area.height as usize;
     let cells = kept
         .widget
-        .shown(placed.area.width as usize, placed.area.height as usize)?;
+        .shown_as_seen(alloc, world.variables(), width, height)?;
     Ok(cells)
 }
 
 /// What each window that is shown shows, in drawing order.
 pub fn panes_of(alloc: Global, world: &World) -> Result<Vec<Pane>, AllocError>
-    ensures { IfOk result (λ panes. panes.items ≡ map (pane_of world.now.kept) (shown_windows world.now)) }
+    ensures { IfOk result (λ panes. panes.items ≡ map (pane_of world.now.variables world.now.kept) (shown_windows world.now)) }
 {
     let shown = world.shown_windows()?;
     let mut panes = Vec::with_capacity(alloc, shown.len())?;

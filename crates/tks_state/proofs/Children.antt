@@ -7,7 +7,6 @@ use Rattle.tks_text.specs.declared.class.Class.{Class}
 use Rattle.tks_text.specs.declared.fault.ErrorNumber.TheVariants.{NotAllowedOnRoot}
 use Rattle.tks_text.specs.declared.fault.ScriptFault.{ScriptFault}
 use Rattle.tks_opt.specs.Options as options
-use Rattle.tks_opt.specs.declared.said.Said.{Said}
 use Rattle.tks_pack.specs.Packing.{nothing_packed, put, taken_out, settings_of, forgotten}
 use Rattle.tks_pack.specs.Packing as packer
 use Rattle.tks_pack.specs.Settings as settings
@@ -19,11 +18,8 @@ use Rattle.tks_tree.specs.WellFormed.{Rise, Rises}
 use Rattle.tks_tree.proofs.Parents.{Destroyed, destroyed_so, turned}
 use Rattle.tks_state.specs.declared.kept.Kept.{Kept}
 use Rattle.tks_state.specs.declared.widget.Widget.{Widget}
-use Rattle.tks_state.specs.Widget.{called}
-use Rattle.tks_state.specs.Windows.{kept_of, replaced, on_kept, with_widget, with_packing, new_kept, called_at, packed_at, forgotten_at, propagating, still_there}
-use Rattle.tks_state.specs.WellFormed.{InStep, packed_windows, PacksChildren, AllPackChildren, WellFormed}
-use Rattle.tks_text.specs.Size.{Extent}
-use Rattle.tks_vars.specs.Variables.{Variables}
+use Rattle.tks_state.specs.Windows.{kept_of, replaced, on_kept, with_widget, with_packing, new_kept, with_widget_at, packed_at, forgotten_at, propagating, still_there}
+use Rattle.tks_state.specs.WellFormed.{InStep, packed_windows, PacksChildren, AllPackChildren, WellFormedWindows}
 
 abbrev windows_of : List Content → List ℕ
 windows_of cs = map (λ c. c.window) cs
@@ -112,18 +108,14 @@ module _ (t : Windows) where
   put_packs : (n : ℕ) (s : Settings) (k : Kept) → parent t n ≡ Some k.window → PacksChildren t k → PacksChildren t (with_packing k (record k.packing { contents = put n s k.packing.contents }))
   put_packs n s k child p = record { distinct = distinct_put n s k.packing.contents p.distinct; children = all_put (λ m. parent t m ≡ Some k.window) n s k.packing.contents child p.children }
 
-  pub called_packs : (ks : List Kept) (n : ℕ) (words : List (List ℕ)) → AllPackChildren t ks → IfOk (called_at ks n words) (λ x. AllPackChildren t x.1)
-  called_packs ks n words all = by (kept_of ks n) refl
+  pub widget_packs : (ks : List Kept) (n : ℕ) (v : Widget) → AllPackChildren t ks → AllPackChildren t (with_widget_at ks n v)
+  widget_packs ks n v all = by (kept_of ks n) refl
     where
-      answered : (k : Kept) → PacksChildren t k → (r : Result (Said × Widget) ScriptFault)
-          → IfOk (options.after r (λ x. Ok (Some x.0, replaced n (with_widget k x.1) ks))) (λ (x : Option Said × List Kept). AllPackChildren t x.1)
-      answered k p (Ok x) = all_replaced (PacksChildren t) n (with_widget k x.1) ks (record { distinct = p.distinct; children = p.children }) all
-      answered k p (Err fault) = tt
-
-      by : (o : Option Kept) → kept_of ks n ≡ o
-          → IfOk (on_kept o (Ok (None, ks)) (λ k. options.after (called k.widget words) (λ x. Ok (Some x.0, replaced n (with_widget k x.1) ks)))) (λ (x : Option Said × List Kept). AllPackChildren t x.1)
+      by : (o : Option Kept) → kept_of ks n ≡ o → AllPackChildren t (on_kept o ks (λ k. replaced n (with_widget k v) ks))
       by None e = all
-      by (Some k) e = answered k (kept_found n ks k t e all).1 (called k.widget words)
+      by (Some k) e =
+          let p = (kept_found n ks k t e all).1 in
+          all_replaced (PacksChildren t) n (with_widget k v) ks (record { distinct = p.distinct; children = p.children }) all
 
   pub packed_packs : (ks : List Kept) (n : ℕ) (words : List (List ℕ)) → AllPackChildren t ks → IfOk (packed_at ks (parent t n) n words) (AllPackChildren t)
   packed_packs ks n words all = by (parent t n) refl
@@ -291,11 +283,11 @@ left_packs t u n ks w gone s all =
     let r = kept_rise 0 t.windows t.next ks s w.numbered in
     still_packs t n u (forgotten_at ks (parent t n) n) (destroyed_so t u n w gone) (free_all t n ks r all) (forgotten_packs t ks (parent t n) n all)
 
--- what is kept in a world is in the order of windows' numbers
-pub world_rises : (accepted : ℕ) (t : Windows) (ks : List Kept) (variables : Variables) (grid : Extent) → WellFormed (record { accepted = accepted; tree = t; kept = ks; variables = variables; grid = grid }) → Rises (λ k. k.window) 0 ks
-world_rises accepted t ks variables grid f = kept_rise 0 t.windows t.next ks f.in_step f.windows.numbered
+-- what is kept is in the order of windows' numbers
+pub kept_rises : (t : Windows) (ks : List Kept) → WellFormedWindows (record { tree = t; kept = ks }) → Rises (λ k. k.window) 0 ks
+kept_rises t ks f = kept_rise 0 t.windows t.next ks f.in_step f.windows.numbered
 
--- ---- the first world
+-- ---- the first windows
 
 pub first_well : trees.WellFormed first_windows
 first_well = record { first = ([], refl); numbered = (omega arith, omega arith); bounded = omega arith; founded = (record { path = refl; new = refl; parent = tt }, tt) }

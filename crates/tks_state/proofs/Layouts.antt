@@ -14,16 +14,18 @@ use Rattle.tks_pack.specs.declared.area.Extent.{Extent}
 use Rattle.tks_pack.specs.declared.packing.Content.{Content}
 use Rattle.tks_state.specs.declared.layout.Placed.{Placed}
 use Rattle.tks_state.specs.declared.kept.Kept.{Kept}
+use Rattle.tks_vars.specs.Variables.{Variables}
 use Rattle.tks_state.specs.ByWindow.{ByWindow}
 use Rattle.tks_state.specs.Layout.{size_in, with_size, sizes_before, placed_after, on_grid, extent_of, whole, with_content, with_contents, with_contents_of, with_area, shown_of, LiesOn, AllInside, AllLieOn, covers, or_this, last_over}
 
 -- the last one goes first
-pub sizes_last : (kept rest : List Kept) (k : Kept) (known : ByWindow Extent) → rest ≡ kept ++ k ∷ [] → sizes_before rest known ≡ sizes_before kept (with_size k known)
-sizes_last kept rest k known h = ap (λ ks. sizes_before ks known) h ∙ by kept
+pub sizes_last : (variables : Variables) (kept rest : List Kept) (k : Kept) (known : ByWindow Extent) → rest ≡ kept ++ k ∷ []
+    → sizes_before variables rest known ≡ sizes_before variables kept (with_size variables k known)
+sizes_last variables kept rest k known h = ap (λ ks. sizes_before variables ks known) h ∙ by kept
   where
-    by : (ks : List Kept) → sizes_before (ks ++ k ∷ []) known ≡ sizes_before ks (with_size k known)
+    by : (ks : List Kept) → sizes_before variables (ks ++ k ∷ []) known ≡ sizes_before variables ks (with_size variables k known)
     by [] = refl
-    by (l ∷ ks) = ap (with_size l) (by ks)
+    by (l ∷ ks) = ap (with_size variables l) (by ks)
 
 -- ---- all cells lie on the grid
 

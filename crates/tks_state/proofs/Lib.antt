@@ -3,3 +3,4 @@ mod Places
 mod Layouts
 mod Marks
 mod Children
+mod Linked

@@ -9,7 +9,8 @@ use Rattle.tks_pack.specs.declared.area.Area.{Area}
 use Rattle.tks_pack.specs.declared.area.Extent.{Extent}
 use Rattle.tks_pack.specs.declared.packing.Content.{Content}
 use Rattle.tks_tree.specs.Windows.{preorder}
-use Rattle.tks_state.specs.Widget as widget
+use Rattle.tks_vars.specs.Variables.{Variables}
+use Rattle.tks_state.specs.Links.{requested}
 use Rattle.tks_state.specs.World.{World}
 use Rattle.tks_state.specs.ByWindow.{ByWindow}
 use Rattle.tks_state.specs.declared.kept.Kept.{Kept}
@@ -29,20 +30,21 @@ abbrev pub or_own : Extent → Option Extent → Extent
 or_own own None = own
 or_own own (Some size) = size
 
--- what a window asks for: what its contents need, where it asks for that, else what its class says
-abbrev pub size_of : Kept → ByWindow Extent → Extent
-size_of k known = or_own (widget.requested k.widget) (packer.requested (size_in known) k.packing.propagates k.packing.contents)
+module _ (variables : Variables) where
+  -- what a window asks for: what its contents need, where it asks for that, else what its class says, as it is seen
+  abbrev pub size_of : Kept → ByWindow Extent → Extent
+  size_of k known = or_own (requested variables k.widget) (packer.requested (size_in known) k.packing.propagates k.packing.contents)
 
-abbrev pub with_size : Kept → ByWindow Extent → ByWindow Extent
-with_size k known = map.insert known k.window (size_of k known)
+  abbrev pub with_size : Kept → ByWindow Extent → ByWindow Extent
+  with_size k known = map.insert known k.window (size_of k known)
 
--- what windows ask for, where it is known of those made after them: a window's contents were made after it
-abbrev pub sizes_before : List Kept → ByWindow Extent → ByWindow Extent
-sizes_before [] later = later
-sizes_before (k ∷ kept) later = with_size k (sizes_before kept later)
+  -- what windows ask for, where it is known of those made after them: a window's contents were made after it
+  abbrev pub sizes_before : List Kept → ByWindow Extent → ByWindow Extent
+  sizes_before [] later = later
+  sizes_before (k ∷ kept) later = with_size k (sizes_before kept later)
 
-abbrev pub sizes : List Kept → ByWindow Extent
-sizes kept = sizes_before kept map.empty
+  abbrev pub sizes : List Kept → ByWindow Extent
+  sizes kept = sizes_before kept map.empty
 
 -- ---- where they lie
 
@@ -79,11 +81,11 @@ abbrev pub whole : grid.Extent → Area
 whole g = record { x = 0; y = 0; width = g.width; height = g.height }
 
 -- the cells on the grid of each window that is shown
-abbrev pub placed_in : List Kept → grid.Extent → ByWindow Area
-placed_in kept g = placed_after (sizes kept) (map.insert map.empty 0 (whole g)) kept
+abbrev pub placed_in : Variables → List Kept → grid.Extent → ByWindow Area
+placed_in variables kept g = placed_after (sizes variables kept) (map.insert map.empty 0 (whole g)) kept
 
 abbrev pub placed : World → ByWindow Area
-placed w = placed_in w.kept w.grid
+placed w = placed_in w.variables w.kept w.grid
 
 -- ---- what is drawn
 

@@ -5,7 +5,8 @@ use Rattle.tks_text.specs.declared.class.Class.{Class}
 use Rattle.tks_tree.specs.Windows as tree
 use Rattle.tks_tree.specs.WellFormed as trees
 use Rattle.tks_state.specs.Widget.{class_of}
-use Rattle.tks_state.specs.World.{World}
+use Rattle.tks_state.specs.Windows.{Windows}
+use Rattle.tks_state.specs.World.{World, windows_of}
 use Rattle.tks_state.specs.declared.kept.Kept.{Kept}
 
 -- whose something is: the number of the window, and its class
@@ -31,9 +32,13 @@ pub record PacksChildren (t : tree.Windows) (k : Kept) : Type 0 where
 abbrev pub AllPackChildren : tree.Windows → List Kept → Type 0
 AllPackChildren t kept = AllByRecursion (PacksChildren t) kept
 
+-- what holds of all windows
+pub record WellFormedWindows (x : Windows) : Type 0 where
+  -- numbers rise and are below the next one, paths differ, and a parent stands before those in it
+  pub windows : trees.WellFormed x.tree
+  pub in_step : InStep x.tree.windows x.kept
+  pub packs : AllPackChildren x.tree x.kept
+
 pub record WellFormed (w : World) : Type 0 where
   pub counted : w.accepted ≤ 2 ^ 62
-  -- numbers rise and are below the next one, paths differ, and a parent stands before those in it
-  pub windows : trees.WellFormed w.tree
-  pub in_step : InStep w.tree.windows w.kept
-  pub packs : AllPackChildren w.tree w.kept
+  pub windows : WellFormedWindows (windows_of w)

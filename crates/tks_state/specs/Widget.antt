@@ -1,5 +1,6 @@
--- What a window of any class asks for, shows and answers (frame(n), label(n)): that of its class.
-use Rattle.std.specs.Prelude.{ℕ, List, Result, Ok}
+-- What a window of any class asks for, shows and answers (frame(n), label(n), button(n), checkbutton(n), entry(n)): that
+-- of its class.
+use Rattle.std.specs.Prelude.{ℕ, Bool, List, Result, Ok}
 use Rattle.tks_text.specs.declared.class.Class.{Class}
 use Rattle.tks_text.specs.declared.fault.ScriptFault.{ScriptFault}
 use Rattle.tks_opt.specs.Options as options
@@ -8,14 +9,17 @@ use Rattle.tks_opt.specs.Calls as call
 use Rattle.tks_opt.specs.declared.said.Said.{Said}
 use Rattle.tks_pack.specs.Packing.{capped}
 use Rattle.tks_pack.specs.declared.area.Extent.{Extent}
+use Rattle.tks_button.specs.Caption as caption
 use Rattle.tks_button.specs.Frame as frame
-use Rattle.tks_button.specs.Label as label
+use Rattle.tks_entry.specs.Commands as entry
+use Rattle.tks_entry.specs.Shown as entry_shown
 use Rattle.tks_state.specs.declared.widget.Widget.{Widget}
 use Rattle.tks_state.specs.declared.widget.Widget.TheVariants as widget
 
 abbrev pub options_of : Widget → Options
 options_of (widget.Frame t) = t
-options_of (widget.Label t) = t
+options_of (widget.Caption t) = t
+options_of (widget.Entry e) = e.options
 
 abbrev pub class_of : Widget → Class
 class_of w = (options_of w).class
@@ -23,19 +27,23 @@ class_of w = (options_of w).class
 -- options and values in turn
 abbrev pub configured : Widget → List (List ℕ) → Result Widget ScriptFault
 configured (widget.Frame t) pairs = after (options.configured t pairs) (λ u. Ok (widget.Frame u))
-configured (widget.Label t) pairs = after (options.configured t pairs) (λ u. Ok (widget.Label u))
+configured (widget.Caption t) pairs = after (options.configured t pairs) (λ u. Ok (widget.Caption u))
+configured (widget.Entry e) pairs = after (options.configured e.options pairs) (λ u. Ok (widget.Entry (record e { options = u })))
 
 -- the words of a whole command, the window's path first: the answer, and the widget that is left
 abbrev pub called : Widget → List (List ℕ) → Result (Said × Widget) ScriptFault
 called (widget.Frame t) words = after (call.called t words) (λ x. Ok (x.0, widget.Frame x.1))
-called (widget.Label t) words = after (call.called t words) (λ x. Ok (x.0, widget.Label x.1))
+called (widget.Caption t) words = after (caption.called t words) (λ x. Ok (x.0, widget.Caption x.1))
+called (widget.Entry e) words = after (entry.called e words) (λ x. Ok (x.0, widget.Entry x.1))
 
 -- how large it asks to be
 abbrev pub requested : Widget → Extent
 requested (widget.Frame t) = record { width = capped (frame.requested_width t); height = capped (frame.requested_height t) }
-requested (widget.Label t) = record { width = capped (label.requested_width t); height = capped (label.requested_height t) }
+requested (widget.Caption t) = record { width = capped (caption.requested_width t); height = capped (caption.requested_height t) }
+requested (widget.Entry e) = record { width = capped (entry_shown.requested_width e); height = 1 }
 
--- the rows of characters that it shows in an area of so many cells
-abbrev pub shown : Widget → ℕ → ℕ → List (List ℕ)
-shown (widget.Frame t) width height = frame.shown width height
-shown (widget.Label t) width height = label.shown t width height
+-- the rows of characters that it shows in an area of so many cells; a checkbutton by whether it is on
+abbrev pub shown : Widget → Bool → ℕ → ℕ → List (List ℕ)
+shown (widget.Frame t) on width height = frame.shown width height
+shown (widget.Caption t) on width height = caption.shown t width height on
+shown (widget.Entry e) on width height = entry_shown.shown e width height

@@ -11,6 +11,7 @@ use std::alloc::{AllocError, Global};
 use tks_pack::{Area, Content, Extent, Requests, windows_lie_inside};
 use tks_text::Size;
 use tks_tree::WindowId;
+use tks_vars::Vars;
 
 /// A window that is shown, and its cells on the grid.
 #[derive(Clone, Copy, Debug)]
@@ -36,23 +37,31 @@ impl Requests for ByWindow<Extent> {
 }
 
 // How large a window asks to be, where it is known of those in it.
-fn size_of(kept: &Kept, sizes: &ByWindow<Extent>) -> Extent
-    ensures { result ≡ size_of kept.now sizes.now }
+fn size_of(
+    alloc: Global,
+    variables: &Vars,
+    kept: &Kept,
+    sizes: &ByWindow<Extent>,
+) -> Result<Extent, AllocError>
+    ensures { IfOk result (λ e. e ≡ size_of variables.now kept.now sizes.now) }
 {
     match kept.packing.requested(sizes) {
-        Some(size) => size,
-        None => kept.widget.requested(),
+        Some(size) => Ok(size),
+        None => {
+            let size = kept.widget.requested_as_seen(alloc, variables)?;
+            Ok(size)
+        }
     }
 }
 
 // How large windows ask to be.
-fn sizes_of(alloc: Global, kept: &[Kept]) -> Result<ByWindow<Extent>, AllocError>
-    ensures { IfOk result (λ s. s ≡ sizes kept.now) }
+fn sizes_of(alloc: Global, variables: &Vars, kept: &[Kept]) -> Result<ByWindow<Extent>, AllocError>
+    ensures { IfOk result (λ s. s ≡ sizes variables.now kept.now) }
 {
     let mut sizes = ByWindow::new(alloc);
     let mut rest = kept;
     while let Some((one, before)) = rest.split_last() {
-        let size = size_of(one, &sizes);
+        let size = size_of(alloc, variables, one, &sizes)?;
         sizes.insert(one.window, size)?;
         rest = before;
     }
@@ -159,11 +168,16 @@ fn whole(grid: Size) -> Area
 }
 
 // The cells of the windows that are shown.
-fn place_all(alloc: Global, kept: &[Kept], grid: Size) -> Result<ByWindow<Area>, AllocError>
+fn place_all(
+    alloc: Global,
+    variables: &Vars,
+    kept: &[Kept],
+    grid: Size,
+) -> Result<ByWindow<Area>, AllocError>
     ensures inside { IfOk result (AllInside grid) }
-    ensures value { IfOk result (λ p. p ≡ placed_in kept.now grid) }
+    ensures value { IfOk result (λ p. p ≡ placed_in variables.now kept.now grid) }
 {
-    let sizes = sizes_of(alloc, kept)?;
+    let sizes = sizes_of(alloc, variables, kept)?;
     let mut placed = ByWindow::new(alloc);
     placed.insert(WindowId::root(), whole(grid))?;
     for one in kept {
@@ -227,7 +241,7 @@ impl World {
         ensures value { IfOk result (λ shown. shown.items ≡ shown_windows self.now) }
         ensures inside { IfOk result (λ shown. AllLieOn self.now.grid shown.items) }
     {
-        let placed = place_all(self.alloc(), self.all_kept(), self.grid())?;
+        let placed = place_all(self.alloc(), self.variables(), self.all_kept(), self.grid())?;
         let order = self.tree().preorder()?;
         let shown = shown_among(self.alloc(), &order, &placed)?;
         Ok(shown)

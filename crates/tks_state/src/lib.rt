@@ -3,11 +3,15 @@
 
 mod by_window;
 mod kept;
+mod laws;
 mod layout;
+mod links;
 mod widget;
+mod windows;
 mod world;
 
 pub use kept::Kept;
+pub use laws::{linked_widget_shows_its_variable, widgets_of_one_variable_show_one_text};
 pub use layout::Placed;
 pub use widget::Widget;
 pub use world::World;

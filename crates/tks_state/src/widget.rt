@@ -4,7 +4,8 @@ ghost use Rattle.tks_pack.specs.Packing.{capped};
 ghost use Rattle.tks_state.specs.Widget.{options_of, class_of, configured, called, requested, shown};
 
 use std::alloc::AllocError;
-use tks_button::{Frame, Label};
+use tks_button::{Caption, Frame};
+use tks_entry::EntryWidget;
 use tks_opt::{Options, Said};
 use tks_pack::Extent;
 use tks_text::{Failure, Seq, Txt};
@@ -14,7 +15,9 @@ use tks_text::{Failure, Seq, Txt};
 pub enum Widget {
     /// A frame, or `.`.
     Frame(Frame),
-    Label(Label),
+    /// A label, a button or a checkbutton.
+    Caption(Caption),
+    Entry(EntryWidget),
 }
 
 // So many cells, as far as they are told of.
@@ -31,7 +34,8 @@ impl Widget {
     {
         match self {
             Widget::Frame(frame) => frame.options(),
-            Widget::Label(label) => label.options(),
+            Widget::Caption(caption) => caption.options(),
+            Widget::Entry(entry) => entry.options(),
         }
     }
 
@@ -47,8 +51,12 @@ impl Widget {
                 frame.configure(pairs)?;
                 Ok(())
             }
-            Widget::Label(label) => {
-                label.configure(pairs)?;
+            Widget::Caption(caption) => {
+                caption.configure(pairs)?;
+                Ok(())
+            }
+            Widget::Entry(entry) => {
+                entry.configure(pairs)?;
                 Ok(())
             }
         }
@@ -65,8 +73,12 @@ impl Widget {
                 let said = frame.call(words)?;
                 Ok(said)
             }
-            Widget::Label(label) => {
-                let said = label.call(words)?;
+            Widget::Caption(caption) => {
+                let said = caption.call(words)?;
+                Ok(said)
+            }
+            Widget::Entry(entry) => {
+                let said = entry.call(words)?;
                 Ok(said)
             }
         }
@@ -81,24 +93,32 @@ impl Widget {
                 width: capped(frame.requested_width()),
                 height: capped(frame.requested_height()),
             },
-            Widget::Label(label) => Extent {
-                width: capped(label.requested_width()),
-                height: capped(label.requested_height()),
+            Widget::Caption(caption) => Extent {
+                width: capped(caption.requested_width()),
+                height: capped(caption.requested_height()),
+            },
+            Widget::Entry(entry) => Extent {
+                width: capped(entry.requested_width()),
+                height: capped(entry.requested_height()),
             },
         }
     }
 
-    /// The characters that it shows in an area, row by row.
-    pub fn shown(&self, width: usize, height: usize) -> Result<Seq<Seq<u8>>, AllocError>
-        ensures { IfOk result (λ cells. cells ≡ shown self.now width height) }
+    /// The characters that it shows in an area, row by row; a checkbutton by whether it is on.
+    pub fn shown(&self, on: bool, width: usize, height: usize) -> Result<Seq<Seq<u8>>, AllocError>
+        ensures { IfOk result (λ cells. cells ≡ shown self.now on width height) }
     {
         match self {
             Widget::Frame(frame) => {
                 let cells = frame.shown(width, height)?;
                 Ok(cells)
             }
-            Widget::Label(label) => {
-                let cells = label.shown(width, height)?;
+            Widget::Caption(caption) => {
+                let cells = caption.shown(width, height, on)?;
+                Ok(cells)
+            }
+            Widget::Entry(entry) => {
+                let cells = entry.shown(width, height)?;
                 Ok(cells)
             }
         }
@@ -110,7 +130,8 @@ impl Widget {
     {
         match self {
             Widget::Frame(frame) => Ok(Widget::Frame(frame.try_clone()?)),
-            Widget::Label(label) => Ok(Widget::Label(label.try_clone()?)),
+            Widget::Caption(caption) => Ok(Widget::Caption(caption.try_clone()?)),
+            Widget::Entry(entry) => Ok(Widget::Entry(entry.try_clone()?)),
         }
     }
 }

@@ -1,22 +1,19 @@
-ghost use Rattle.std.specs.Prelude.{◌≡◌, ◌==◌, ◌+◌, ◌<◌, ◌^◌, position, option_map, IfOk, OnErr, is_some, map};
+ghost use Rattle.std.specs.Prelude.{◌≡◌, ◌+◌, ◌<◌, ◌^◌, option_map, IfOk, IfSome, OnErr};
 ghost use Rattle.tks_text.specs.Fault.{Gives};
-ghost use Rattle.tks_tree.specs.Windows.{of_number};
 ghost use Rattle.tks_tree.specs.Meets.{MakesSo, AnswersSo};
 ghost use Rattle.tks_tree.specs.WellFormed as trees;
-ghost use Rattle.tks_tree.specs.WellFormed.{Rises};
-ghost use Rattle.tks_state.specs.Windows.{kept_of, called_at, packed_at, forgotten_at, propagating, still_there};
-ghost use Rattle.tks_state.specs.WellFormed.{WellFormed, mark_of};
-ghost use Rattle.tks_state.specs.World.{first_world, with_window, unpacked, destroyed, called, packed, with_propagation};
+ghost use Rattle.tks_state.specs.Widget.{class_of};
+ghost use Rattle.tks_state.specs.Windows.{kept_of};
+ghost use Rattle.tks_state.specs.WellFormed.{WellFormed};
+ghost use Rattle.tks_state.specs.World.{first_world, with_window, with_widget, unpacked, destroyed, packed, with_propagation};
 
 use crate::kept::Kept;
 use crate::widget::Widget;
+use crate::windows::Windows;
 use std::alloc::{AllocError, Global};
 use std::marker::Model;
 use std::mem;
-use tks_button::Frame;
-use tks_opt::Said;
-use tks_pack::Packing;
-use tks_text::{ErrorNumber, Failure, ScriptFault, Size, Txt};
+use tks_text::{Failure, ScriptFault, Size, Txt};
 use tks_tree::{CreateFault, Tree, WindowId};
 use tks_vars::Vars;
 
@@ -25,122 +22,24 @@ use tks_vars::Vars;
 pub struct World {
     alloc: Global,
     accepted: u64,
-    tree: Tree,
-    kept: Vec<Kept>,
+    windows: Windows,
     variables: Vars,
     grid: Size,
 }
 
 impl Model for World {
+    ghost use Rattle.std.specs.Prelude.{◌≤◌, ◌^◌};
     ghost use Rattle.std.specs.Coded.{codes};
     ghost use Rattle.tks_vars.specs.Variables.{variables_code};
     ghost use Rattle.tks_state.specs.World.{World};
-    ghost use Rattle.tks_state.specs.WellFormed.{WellFormed};
 
     ghost Value = { World };
 
     ghost coded = { Prim.hlevel (codes, variables_code) };
 
-    ghost view = { λ w. record { accepted = w.accepted; tree = w.tree; kept = w.kept.items; variables = w.variables; grid = w.grid } };
+    ghost view = { λ w. record { accepted = w.accepted; tree = w.windows.tree; kept = w.windows.kept; variables = w.variables; grid = w.grid } };
 
-    ghost invariant = { λ w. WellFormed (record { accepted = w.accepted; tree = w.tree; kept = w.kept.items; variables = w.variables; grid = w.grid }) };
-}
-
-// The place of what is kept of a window. Windows' numbers rise.
-fn place_of(kept: &[Kept], window: WindowId) -> Option<usize>
-    requires { Rises (λ k. k.window) 0 kept.now }
-    ensures { result ≡ position (λ k. k.window == window) kept.now }
-{
-    kept.binary_search_by_key(&window.number(), |one| one.window.number())
-        .ok()
-}
-
-// What a window's command says.
-fn call_at(kept: &mut Vec<Kept>, window: WindowId, words: &[Txt]) -> Result<Option<Said>, Failure>
-    requires { Rises (λ k. k.window) 0 kept.old.items }
-    ensures value { Gives (λ said. (said, kept.new.items)) result (called_at kept.old.items window words.now) }
-    ensures err { OnErr result (kept.new.items ≡ kept.old.items) }
-    ensures marks { map mark_of kept.new.items ≡ map mark_of kept.old.items }
-{
-    let Some(place) = place_of(kept, window) else {
-        return Ok(None);
-    };
-    let said = kept[place].widget.call(words)?;
-    Ok(Some(said))
-}
-
-// Packs a window in a container.
-fn pack_at(
-    kept: &mut Vec<Kept>,
-    container: Option<WindowId>,
-    window: WindowId,
-    options: &[Txt],
-) -> Result<(), Failure>
-    requires { Rises (λ k. k.window) 0 kept.old.items }
-    ensures value { Gives (λ _. kept.new.items) result (packed_at kept.old.items container window options.now) }
-    ensures err { OnErr result (kept.new.items ≡ kept.old.items) }
-    ensures marks { map mark_of kept.new.items ≡ map mark_of kept.old.items }
-{
-    let Some(container) = container else {
-        return Err(Failure::Script(ScriptFault {
-            number: ErrorNumber::NotAllowedOnRoot,
-            subject: None,
-        }));
-    };
-    let Some(place) = place_of(kept, container) else {
-        return Ok(());
-    };
-    kept[place].packing.pack(window, options)?;
-    Ok(())
-}
-
-// Takes a window out of a container.
-fn forget_at(kept: &mut Vec<Kept>, container: Option<WindowId>, window: WindowId)
-    requires { Rises (λ k. k.window) 0 kept.old.items }
-    ensures value { kept.new.items ≡ forgotten_at kept.old.items container window }
-    ensures marks { map mark_of kept.new.items ≡ map mark_of kept.old.items }
-{
-    let Some(container) = container else {
-        return;
-    };
-    let Some(place) = place_of(kept, container) else {
-        return;
-    };
-    kept[place].packing.forget(window);
-}
-
-// Says whether a container asks for its contents.
-fn set_propagates_at(kept: &mut Vec<Kept>, container: WindowId, propagates: bool)
-    requires { Rises (λ k. k.window) 0 kept.old.items }
-    ensures value { kept.new.items ≡ propagating kept.old.items container propagates }
-    ensures marks { map mark_of kept.new.items ≡ map mark_of kept.old.items }
-{
-    let Some(place) = place_of(kept, container) else {
-        return;
-    };
-    kept[place].packing.set_propagates(propagates);
-}
-
-// Keeps what is kept of windows that are there.
-fn keep_those_in(kept: &mut Vec<Kept>, tree: &Tree)
-    ensures { kept.new.items ≡ still_there tree.now.windows kept.old.items }
-{
-    kept.retain(
-        |one: &Kept| -> bool
-            ensures { result ≡ is_some (of_number tree.entry.now.windows one.now.window) }
-        { tree.window(one.window).is_some() },
-    );
-}
-
-// What is kept of equal windows.
-fn copies_of(alloc: Global, kept: &[Kept]) -> Result<Vec<Kept>, AllocError>
-    ensures { IfOk result (λ copies. copies.items ≡ kept.now) }
-{
-    let mut copies = Vec::with_capacity(alloc, kept.len())?;
-    for one in kept {
-        copies.push(one.try_clone()?)?;
-    }
-    Ok(copies)
+    ghost invariant = { λ w. w.accepted ≤ 2 ^ 62 };
 }
 
 impl World {
@@ -148,19 +47,10 @@ impl World {
     pub fn first(alloc: Global, grid: Size) -> Result<World, AllocError>
         ensures { IfOk result (λ w. w ≡ first_world grid) }
     {
-        let path = Txt::from_text(alloc, b".")?;
-        let widget = Widget::Frame(Frame::root(alloc, &path)?);
-        let mut kept = Vec::new(alloc);
-        kept.push(Kept {
-            window: WindowId::root(),
-            widget,
-            packing: Packing::new(alloc),
-        })?;
         Ok(World {
             alloc,
             accepted: 0,
-            tree: Tree::new(alloc)?,
-            kept,
+            windows: Windows::first(alloc)?,
             variables: Vars::new(alloc),
             grid,
         })
@@ -176,6 +66,7 @@ impl World {
         ensures value { result ≡ self.now.accepted }
         ensures formed { WellFormed self.now }
     {
+        let _ = self.windows.tree();
         self.accepted
     }
 
@@ -191,24 +82,21 @@ impl World {
         ensures value { result.now ≡ self.now.tree }
         ensures formed { trees.WellFormed self.now.tree }
     {
-        &self.tree
+        self.windows.tree()
     }
 
     /// What is kept of each window, in the order in which the windows were made.
     pub fn all_kept(&self) -> &[Kept]
         ensures { result.now ≡ self.now.kept }
     {
-        self.kept.as_slice()
+        self.windows.all()
     }
 
     /// What is kept of the window of a number.
     pub fn kept(&self, window: WindowId) -> Option<&Kept>
         ensures { option_map (λ k. k.now) result ≡ kept_of self.now.kept window }
     {
-        match place_of(&self.kept, window) {
-            Some(place) => Some(&self.kept[place]),
-            None => None,
-        }
+        self.windows.get(window)
     }
 
     /// The variables and procedures.
@@ -239,14 +127,7 @@ impl World {
         ensures value { MakesSo (λ id. (id, self.new)) result (with_window self.old path.now widget) }
         ensures err { OnErr result (self.new ≡ self.old) }
     {
-        let class = widget.options().class();
-        self.kept.reserve(1)?;
-        let window = self.tree.create(path, class)?;
-        self.kept.push(Kept {
-            window,
-            widget,
-            packing: Packing::new(self.alloc),
-        })?;
+        let window = self.windows.add(path, widget)?;
         Ok(window)
     }
 
@@ -256,20 +137,16 @@ impl World {
         ensures value { AnswersSo (λ _. self.new) result (destroyed self.old window) }
         ensures err { OnErr result (self.new ≡ self.old) }
     {
-        let container = self.tree.parent(window);
-        self.tree.destroy(window)?;
-        forget_at(&mut self.kept, container, window);
-        keep_those_in(&mut self.kept, &self.tree);
+        self.windows.remove(window)?;
         Ok(())
     }
 
-    /// What the words of a whole command come to, the window's path first; none where no window has the number.
-    pub fn call(&mut self, window: WindowId, words: &[Txt]) -> Result<Option<Said>, Failure>
-        ensures value { Gives (λ said. (said, self.new)) result (called self.old window words.now) }
-        ensures err { OnErr result (self.new ≡ self.old) }
+    /// Puts another widget of its class in the place of a window's. Where no window has the number, nothing is done.
+    pub fn set_widget(&mut self, window: WindowId, widget: Widget)
+        requires { IfSome (kept_of self.old.kept window) (λ k. class_of k.widget ≡ class_of widget) }
+        ensures { self.new ≡ with_widget self.old window widget }
     {
-        let said = call_at(&mut self.kept, window, words)?;
-        Ok(said)
+        self.windows.set_widget(window, widget);
     }
 
     /// Packs a window in the one that it stands in, with options and values in turn. `.` is never packed.
@@ -277,8 +154,7 @@ impl World {
         ensures value { Gives (λ _. self.new) result (packed self.old window options.now) }
         ensures err { OnErr result (self.new ≡ self.old) }
     {
-        let container = self.tree.parent(window);
-        pack_at(&mut self.kept, container, window, options)?;
+        self.windows.pack(window, options)?;
         Ok(())
     }
 
@@ -286,15 +162,14 @@ impl World {
     pub fn forget(&mut self, window: WindowId)
         ensures { self.new ≡ unpacked self.old window }
     {
-        let container = self.tree.parent(window);
-        forget_at(&mut self.kept, container, window);
+        self.windows.forget(window);
     }
 
     /// Says whether a container asks to be as large as its contents need.
     pub fn set_propagates(&mut self, window: WindowId, propagates: bool)
         ensures { self.new ≡ with_propagation self.old window propagates }
     {
-        set_propagates_at(&mut self.kept, window, propagates);
+        self.windows.set_propagates(window, propagates);
     }
 
     /// An equal world.
@@ -304,8 +179,7 @@ impl World {
         Ok(World {
             alloc: self.alloc,
             accepted: self.accepted,
-            tree: self.tree.try_clone()?,
-            kept: copies_of(self.alloc, &self.kept)?,
+            windows: self.windows.try_clone()?,
             variables: self.variables.try_clone()?,
             grid: self.grid,
         })

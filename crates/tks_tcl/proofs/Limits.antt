@@ -5,13 +5,13 @@ use Rattle.tks_text.specs.Limits.{Wider}
 use Rattle.tks_text.specs.Text.{same_text}
 use Rattle.tks_text.specs.Fault.{fault_text}
 use Rattle.tks_text.specs.declared.limits.Limits.{Limits}
-use Rattle.tks_vars.specs.Variables.{Variables, with_value, linked, exists, grown_by_value, grown_by_link}
+use Rattle.tks_vars.specs.Variables.{Variables, with_value, with_global_value, linked, exists, grown_by_value, grown_by_global_value, grown_by_link}
 use Rattle.tks_tcl.specs.Cause.{Cause, Fault, OverLimit, after, value_or_fault, fits, within, wrong_words}
 use Rattle.tks_tcl.specs.Codes.{bare_code, says, code_does}
 use Rattle.tks_tcl.specs.Words.{truth_text}
 use Rattle.tks_tcl.specs.Lists.{list_does}
 use Rattle.tks_tcl.specs.Strings.{string_does}
-use Rattle.tks_tcl.specs.Variables.{answers, may_grow, stores, link_within, linked_all, value_in, increased, appended, list_appended, silent, set_does, incr_does, append_does, lappend_does, global_does, info_does, unset_does, variable_does}
+use Rattle.tks_tcl.specs.Variables.{answers, may_grow, stores, stores_global, link_within, linked_all, value_in, increased, appended, list_appended, silent, set_does, incr_does, append_does, lappend_does, global_does, info_does, unset_does, variable_does}
 use Rattle.tks_tcl.specs.Names.{command_named}
 use Rattle.tks_tcl.specs.Plain.{Answer, Answers, PassesLimit, Ending, with_code_0, command_does, answered, plain}
 use Rattle.tks_tcl.specs.declared.codes.CodeCommand.{CodeCommand}
@@ -98,6 +98,11 @@ module _ (limits wider : Limits) (w : Wider limits wider) where
   stores_keep name variables value =
       room_keeps _ _ (both_hold _ _ _ _ (fits_wider value) (may_grow_wider (grown_by_value variables name)))
       (itself (after (value_or_fault (with_value variables name value)) (λ new. Ok (value, new))))
+
+  pub stores_global_keep : (name : List ℕ) (variables : Variables) (value : List ℕ) → Keeps (stores_global limits name variables value) (stores_global wider name variables value)
+  stores_global_keep name variables value =
+      room_keeps _ _ (both_hold _ _ _ _ (fits_wider value) (may_grow_wider (grown_by_global_value variables name)))
+      (itself (after (value_or_fault (with_global_value variables name value)) (λ new. Ok (value, new))))
 
   -- what a command that stores a value comes to
   stored_keep : (name : List ℕ) (variables : Variables) (value : Result (List ℕ) Cause) → Keeps (after value (stores limits name variables)) (after value (stores wider name variables))

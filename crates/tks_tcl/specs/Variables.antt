@@ -8,7 +8,7 @@ use Rattle.tks_text.specs.declared.fault.ErrorNumber.TheVariants.{NoSuchVariable
 use Rattle.tks_text.specs.declared.fault.ScriptFault.{ScriptFault}
 use Rattle.tks_text.specs.declared.limits.Limits.{Limits}
 use Rattle.tks_list.specs.Quoting.{joined}
-use Rattle.tks_vars.specs.Variables.{Variables, value_of, exists, with_value, without, linked, grown_by_value, grown_by_link}
+use Rattle.tks_vars.specs.Variables.{Variables, value_of, exists, with_value, with_global_value, without, linked, grown_by_value, grown_by_global_value, grown_by_link}
 use Rattle.tks_tcl.specs.Cause.{Cause, Fault, OverLimit, after, value_or_fault, bare, wrong_words, fits, within}
 use Rattle.tks_tcl.specs.Words.{integer_in, list_in, truth_text}
 use Rattle.tks_tcl.specs.declared.variables.VariableCommand.{VariableCommand}
@@ -90,6 +90,12 @@ module _ (limits : Limits) where
   abbrev pub stores : List ℕ → Variables → List ℕ → Result Changed Cause
   stores name variables value =
       if fits limits value && may_grow (grown_by_value variables name) then after (value_or_fault (with_value variables name value)) (λ new. Ok (value, new))
+      else Err OverLimit
+
+  -- the same of a global, whatever the present frame is
+  abbrev pub stores_global : List ℕ → Variables → List ℕ → Result Changed Cause
+  stores_global name variables value =
+      if fits limits value && may_grow (grown_by_global_value variables name) then after (value_or_fault (with_global_value variables name value)) (λ new. Ok (value, new))
       else Err OverLimit
 
   -- the variables after a name was made a link to a global

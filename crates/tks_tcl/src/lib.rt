@@ -19,5 +19,5 @@ pub use interrupt::{Interrupt, error_about, fits, within, wrong_words};
 pub use laws::wider_limits_keep_answers;
 pub use lists::{concatenated, joined_by};
 pub use stop::Stop;
-pub use variables::store;
+pub use variables::{is_missing, store, store_global};
 pub use words::{integer_in, list_in};

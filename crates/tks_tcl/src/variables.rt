@@ -1,6 +1,6 @@
 ghost use Rattle.std.specs.Prelude.{◌≡◌, ◌++◌, ◌+ℤ◌, OnOk, OnErr};
 ghost use Rattle.tks_tcl.specs.Meets.{GivesSo};
-ghost use Rattle.tks_tcl.specs.Variables.{value_in, is_missing, value_or, decimal_within, increased, flat, appended, list_appended, without_all, may_grow, stores, link_within, linked_all, set_does, unset_does, incr_does, append_does, lappend_does, global_does, info_does, variable_does};
+ghost use Rattle.tks_tcl.specs.Variables.{value_in, is_missing, value_or, decimal_within, increased, flat, appended, list_appended, without_all, may_grow, stores, stores_global, link_within, linked_all, set_does, unset_does, incr_does, append_does, lappend_does, global_does, info_does, variable_does};
 
 use crate::interrupt::{Interrupt, error, fits, within, wrong_words};
 use crate::words::{integer_in, list_in, truth_text};
@@ -54,8 +54,8 @@ fn value_in(variables: &Vars, name: &Txt) -> Result<Txt, Interrupt>
     Ok(value.try_clone()?)
 }
 
-// Whether an error says that a variable is missing.
-fn is_missing(number: ErrorNumber) -> bool
+/// Whether an error says that a variable is missing.
+pub fn is_missing(number: ErrorNumber) -> bool
     ensures { result ≡ is_missing number }
 {
     matches!(number, ErrorNumber::NoSuchVariable)
@@ -106,6 +106,26 @@ pub fn store(
         return Err(Interrupt::TooLarge);
     }
     variables.set(name, &value)?;
+    Ok(value)
+}
+
+/// The same as `store`, of a global, whatever the present frame is.
+pub fn store_global(
+    variables: &mut Vars,
+    name: &Txt,
+    value: Txt,
+    limits: &Limits,
+) -> Result<Txt, Interrupt>
+    ensures value { GivesSo (λ t. (t, variables.new)) result (stores_global limits.now name.now variables.old value) }
+    ensures err { OnErr result (variables.new ≡ variables.old) }
+{
+    if !fits(&value, limits) {
+        return Err(Interrupt::TooLarge);
+    }
+    if !may_grow(variables.grown_by_global_value(name), limits) {
+        return Err(Interrupt::TooLarge);
+    }
+    variables.set_global(name, &value)?;
     Ok(value)
 }
 

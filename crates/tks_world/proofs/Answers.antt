@@ -1,5 +1,5 @@
 -- A command's answer is the same within the limits that it keeps.
-use Rattle.std.proofs.Common.{◌≡◌, Option, Some, None, Result, Ok, Err, ap}
+use Rattle.std.proofs.Common.{Option, Some, None, Result, Ok, Err, ap}
 use Rattle.tks_text.specs.declared.limits.Limits.{Limits}
 use Rattle.tks_vars.specs.Variables.{Variables}
 use Rattle.tks_tcl.specs.declared.stop.Stop.{Stop}

@@ -1,7 +1,6 @@
 use Rattle.std.proofs.Common.{refl, subst}
-use Rattle.tks_cmd.specs.Commands.{words_do}
-use Rattle.tks_cmd.proofs.Errors.{Kept, kept}
+use Rattle.tks_cmd.proofs.Errors.{Unchanged, kept}
 use Rattle.tks_cmd.proofs.laws.errors_change_nothing.Goals as goal
 
 pub returns : goal.returns
-returns c = λ limits w w' variables variables' words text e. subst (Kept w variables) e (kept limits w variables (words_do limits words w)) refl
+returns c = λ limits w w' variables variables' words text e. subst (Unchanged w variables) e (kept limits w variables words) refl

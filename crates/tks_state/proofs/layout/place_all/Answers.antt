@@ -13,7 +13,7 @@ place_in-requires c =
 pub loop-one-init : goal.loop-one-init
 loop-one-init c =
     let is = c.in_ok-insert.ensures.ok ∙ (λ i. map.insert (c.new-placed.ensures i) (c.root.ensures i) (c.whole.ensures.value i)) in
-    record { rest = ap (λ placed. placed_after (sizes c.args.kept.now) placed c.args.kept.now) is; inside = whole_lies c.args.grid c.insert.new.self is }
+    record { rest = ap (λ placed. placed_after (sizes c.args.variables.now c.args.kept.now) placed c.args.kept.now) is; inside = whole_lies c.args.grid c.insert.new.self is }
 
 pub loop-one-preserved : goal.loop-one-preserved
 loop-one-preserved c =
@@ -21,6 +21,6 @@ loop-one-preserved c =
     let k = c.one-item.result in
     let new = c.in_ok-place_in.ensures ∙ ap (λ known. with_contents_of known k c.get-area.result old) c.in_ok-sizes.ensures in
     record {
-      rest = placed_more (sizes c.args.kept.now) old c.place_in.new.placed c.args.kept.now c.loop-one.one-index k c.get-area.result c.loop-one-test.true c.one-item.is c.get-area.ensures new ∙ c.loop-one.invariant.rest;
-      inside = more_lie c.args.grid (sizes c.args.kept.now) old c.place_in.new.placed k c.get-area.result c.loop-one.invariant.inside c.get-area.ensures new;
+      rest = placed_more (sizes c.args.variables.now c.args.kept.now) old c.place_in.new.placed c.args.kept.now c.loop-one.one-index k c.get-area.result c.loop-one-test.true c.one-item.is c.get-area.ensures new ∙ c.loop-one.invariant.rest;
+      inside = more_lie c.args.grid (sizes c.args.variables.now c.args.kept.now) old c.place_in.new.placed k c.get-area.result c.loop-one.invariant.inside c.get-area.ensures new;
     }

@@ -6,6 +6,6 @@ use Rattle.tks_state.proofs.layout.place_all.Given as goal
 -- with those further on, the windows so far are all
 abbrev pub invariant-loop-one : goal.invariant-loop-one
 invariant-loop-one l = record {
-  rest : placed_after (sizes l.fn.kept) l.placed (drop l.one-index l.kept) ≡ placed_after (sizes l.fn.kept) (map.insert map.empty 0 (whole l.fn.grid)) l.fn.kept;
+  rest : placed_after (sizes l.fn.variables l.fn.kept) l.placed (drop l.one-index l.kept) ≡ placed_after (sizes l.fn.variables l.fn.kept) (map.insert map.empty 0 (whole l.fn.grid)) l.fn.kept;
   inside : AllInside l.fn.grid l.placed;
 }

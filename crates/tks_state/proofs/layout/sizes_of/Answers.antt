@@ -9,6 +9,6 @@ loop-one-preserved c =
     let one = c.in-Some.one.now in
     let before = c.in-Some.before.now in
     let known = c.loop-one.sizes in
-    ap (sizes_before before) (c.in_ok-insert.ensures.ok ∙ ap (map.insert known one.window) c.size_of-size.ensures)
-    ∙ sym (sizes_last before c.loop-one.rest.now one known c.in-Some.ensures.cases.0)
+    ap (sizes_before c.args.variables.now before) (c.in_ok-insert.ensures.ok ∙ ap (map.insert known one.window) c.in_ok-size.ensures)
+    ∙ sym (sizes_last c.args.variables.now before c.loop-one.rest.now one known c.in-Some.ensures.cases.0)
     ∙ c.loop-one.invariant

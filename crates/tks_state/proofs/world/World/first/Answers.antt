@@ -1,18 +1,5 @@
-use Rattle.std.proofs.Common.{◌≡◌, rules, [], ◌∷◌, sym, subst}
-use Rattle.tks_tree.specs.WellFormed as trees
-use Rattle.tks_state.specs.WellFormed.{AllPackChildren}
-use Rattle.tks_state.specs.declared.kept.Kept.{Kept}
-use Rattle.tks_state.specs.declared.widget.Widget.TheVariants as widget
-use Rattle.tks_state.proofs.Children.{first_well, alone_packs}
+use Rattle.std.proofs.Common.{rules}
 use Rattle.tks_state.proofs.world.World.first.Goals as goal
 
-pub invariant_of-result : goal.invariant_of-result
-invariant_of-result c =
-    let root : Kept = record { window = c.root-2.result; widget = widget.Frame c.in_ok-root.field-0; packing = c.new.result } in
-    let kept : c.push.new.self.items ≡ root ∷ [] = search rules in
-    record {
-      counted = search rules;
-      windows = subst trees.WellFormed (sym c.in_ok-new.ensures) first_well;
-      in_step = search rules;
-      packs = subst (AllPackChildren c.in_ok-new.field-0) (sym kept) (alone_packs c.in_ok-new.field-0 root c.new.ensures);
-    }
+pub returns : goal.returns
+returns = search rules

@@ -7,7 +7,7 @@ use Rattle.tks_state.proofs.world.World.shown_windows.Goals as goal
 pub returns-clause-value : goal.returns-clause-value
 returns-clause-value c =
     let order = c.deref.ensures.value ∙ c.in_ok-order.ensures ∙ ap preorder c.tree.ensures.value in
-    let all = c.in_ok-placed.ensures.value ∙ (λ i. placed_in (c.all_kept.ensures i) (c.grid.ensures i)) in
+    let all = c.in_ok-placed.ensures.value ∙ (λ i. placed_in (c.variables.ensures i) (c.all_kept.ensures i) (c.grid.ensures i)) in
     c.in_ok-shown.ensures ∙ (λ i. shown_of (all i) (order i))
 
 pub returns-clause-inside : goal.returns-clause-inside

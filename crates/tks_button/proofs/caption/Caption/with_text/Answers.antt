@@ -1,0 +1,5 @@
+use Rattle.std.proofs.Common.{rules}
+use Rattle.tks_button.proofs.caption.Caption.with_text.Goals as goal
+
+pub returns : goal.returns
+returns = search rules

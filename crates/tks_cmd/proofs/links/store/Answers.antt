@@ -1,0 +1,8 @@
+use Rattle.std.proofs.Common.{rules}
+use Rattle.tks_cmd.proofs.links.store.Goals as goal
+
+pub returns-in_err-tell-clause-value : goal.returns-in_err-tell-clause-value
+returns-in_err-tell-clause-value = search rules
+
+pub returns-clause-value : goal.returns-clause-value
+returns-clause-value = search rules

@@ -1,0 +1,5 @@
+use Rattle.std.proofs.Common.{rules}
+use Rattle.tks_state.proofs.widget.Widget.requested.Goals as goal
+
+pub returns-in-Caption : goal.returns-in-Caption
+returns-in-Caption = search rules

@@ -1,0 +1,18 @@
+-- What is to be said of widgets that are linked to globals (label(n), entry(n), `-textvariable`).
+use Rattle.std.specs.Prelude.{◌≡◌, ℕ, Bool, true, false, is_some, List}
+use Rattle.tks_opt.specs.Options.{value_in}
+use Rattle.tks_opt.specs.declared.name.OptionName.TheVariants as name
+use Rattle.tks_vars.specs.Variables.{Variables}
+use Rattle.tks_state.specs.Links.{text_of, seen, global_if, or_empty}
+use Rattle.tks_state.specs.declared.widget.Widget.{Widget}
+use Rattle.tks_state.specs.declared.widget.Widget.TheVariants as widget
+
+-- whether a widget has a text at all
+abbrev pub has_text : Widget → Bool
+has_text (widget.Frame t) = false
+has_text (widget.Caption t) = is_some (value_in t.values name.Text)
+has_text (widget.Entry e) = true
+
+-- a widget's text, as it is seen, is the value of a global, empty where that can't be read
+abbrev pub Shows : Variables → List ℕ → Widget → Type 0
+Shows variables global w = text_of (seen variables w) ≡ or_empty (global_if variables global)

@@ -1,0 +1,15 @@
+ghost use Rattle.std.specs.Prelude.{◌≡◌, ℕ, List, Some, true};
+ghost use Rattle.tks_vars.specs.Variables.{Variables};
+ghost use Rattle.tks_state.specs.Laws.{has_text, Shows};
+ghost use Rattle.tks_state.specs.Links.{link_of, seen, text_of};
+ghost use Rattle.tks_state.specs.declared.widget.Widget.{Widget};
+
+/// A widget with a text that is linked to a global shows the global's value of the moment, whatever came before.
+pub fn linked_widget_shows_its_variable()
+    ensures { (variables : Variables) (global : List ℕ) (w : Widget) → has_text w ≡ true → link_of w ≡ Some global → Shows variables global w }
+{}
+
+/// Two widgets that are linked to one global show one text.
+pub fn widgets_of_one_variable_show_one_text()
+    ensures { (variables : Variables) (global : List ℕ) (v w : Widget) → has_text v ≡ true → has_text w ≡ true → link_of v ≡ Some global → link_of w ≡ Some global → text_of (seen variables v) ≡ text_of (seen variables w) }
+{}
