@@ -1,0 +1,175 @@
+//! Commands by name.
+ghost use Rattle.std.specs.Prelude.{◌≡◌, ◌++◌, ◌∷◌, [], true, is_some, IfOk, IfErr, IfSome, OnOk, OnErr};
+ghost use Rattle.std.specs.List.{list_all};
+ghost use Rattle.tks_app.specs.Applications.{is_name_byte, begins_dot, is_name, has, AreNames, Joins, RefusedFor};
+
+use crate::{AppAnswer, AppBody, AppClosure, AppCommand, AppMeaning};
+use std::alloc::{AllocError, Global};
+use std::marker::Model;
+use thiserror::Error;
+use tks_tcl::is_built_in;
+use tks_text::Txt;
+
+/// How many bytes a name has at most.
+const NAME_LEN: usize = 64;
+
+// Whether a name may hold the byte.
+fn is_name_byte(byte: u8) -> bool
+    ensures { result ≡ is_name_byte byte }
+{
+    byte.is_ascii_alphanumeric() || byte == b'_' || byte == b'.'
+}
+
+// Whether all of the bytes may stand in names.
+fn are_name_bytes(bytes: &[u8]) -> bool
+    ensures { result ≡ list_all is_name_byte bytes.now }
+{
+    bytes.iter().all(|byte| is_name_byte(*byte))
+}
+
+// Whether the first byte is a dot.
+fn begins_dot(name: &[u8]) -> bool
+    ensures { result ≡ begins_dot name.now }
+{
+    match name {
+        [] => false,
+        [first, ..] => *first == b'.',
+    }
+}
+
+/// Whether a command of an application may have this name: 1 to 64 letters, digits, `_` or `.`, of which the first is no
+/// dot, and no built-in command has it.
+pub fn is_name(name: &Txt) -> bool
+    ensures { result ≡ is_name name.now }
+{
+    let bytes = name.as_bytes();
+    1 <= bytes.len()
+        && bytes.len() <= NAME_LEN
+        && are_name_bytes(bytes)
+        && !begins_dot(bytes)
+        && !is_built_in(name)
+}
+
+/// Why a command doesn't join the others.
+#[derive(Clone, Copy, Debug, PartialEq, Eq, Error)]
+pub enum AddRefusal {
+    /// No command of an application may have its name.
+    #[error("a command can't have this name")]
+    BadName,
+    /// A command of this name is there.
+    #[error("a command of this name is there")]
+    Twice,
+    /// An allocation was refused.
+    #[error("out of memory")]
+    NoMemory,
+}
+
+/// A command that didn't join the others.
+#[derive(Drop)]
+pub struct AddFault<T: AppMeaning, B: AppBody = AppClosure> {
+    pub command: AppCommand<T, B>,
+    pub why: AddRefusal,
+}
+
+/// The commands of an application, each of another name. Contracts see their names, in the order in which they joined.
+#[derive(Drop)]
+pub struct Apps<T: AppMeaning, B: AppBody = AppClosure> {
+    commands: Vec<AppCommand<T, B>>,
+}
+
+impl<T: AppMeaning, B: AppBody> Model for Apps<T, B> {
+    ghost use Rattle.std.specs.Prelude.{List, ℕ};
+    ghost use Rattle.std.specs.Coded.{coded_list, coded_ℕ};
+
+    ghost Value = { List (List ℕ) };
+
+    ghost coded = { coded_list (coded_list coded_ℕ) };
+
+    ghost use Rattle.tks_app.specs.Applications.{AreNames};
+
+    ghost view = { λ a. a.commands.items };
+
+    ghost invariant = { λ a. AreNames a.commands.items };
+}
+
+impl<T: AppMeaning, B: AppBody> Apps<T, B> {
+    /// No command.
+    pub fn new(alloc: Global) -> Apps<T, B>
+        ensures { result ≡ [] }
+    {
+        Apps {
+            commands: Vec::new(alloc),
+        }
+    }
+
+    /// The commands, in the order in which they joined.
+    pub fn commands(&self) -> &[AppCommand<T, B>]
+        ensures commands { result.now ≡ self.now }
+        ensures names { AreNames self.now }
+    {
+        &self.commands
+    }
+
+    // The command of a name.
+    fn find(&self, name: &Txt) -> Option<&AppCommand<T, B>>
+        ensures found { IfSome result (λ command. command.now ≡ name.now) }
+        ensures there { is_some result ≡ has self.now name.now }
+    {
+        let mut rest = self.commands.as_slice();
+        while let Some((command, behind)) = rest.split_first() {
+            if command.name().as_bytes() == name.as_bytes() {
+                return Some(command);
+            }
+            rest = behind;
+        }
+        None
+    }
+
+    /// Whether a command has this name.
+    pub fn has(&self, name: &Txt) -> bool
+        ensures { result ≡ has self.now name.now }
+    {
+        self.find(name).is_some()
+    }
+
+    #[tactic(auto, using(crate::proofs::Joining::joined))]
+    /// Adds a command. One that doesn't join is handed back, with the reason.
+    pub fn add(&mut self, command: AppCommand<T, B>) -> Result<(), AddFault<T, B>>
+        ensures ok { OnOk result (self.new ≡ self.old ++ command ∷ []) }
+        ensures joins { OnOk result (Joins self.old command) }
+        ensures err { OnErr result (self.new ≡ self.old) }
+        ensures handed_back { IfErr result (λ fault. fault.command ≡ command) }
+        ensures why { IfErr result (λ fault. RefusedFor self.old command fault.why) }
+    {
+        if !is_name(command.name()) {
+            return Err(AddFault {
+                command,
+                why: AddRefusal::BadName,
+            });
+        }
+        if self.has(command.name()) {
+            return Err(AddFault {
+                command,
+                why: AddRefusal::Twice,
+            });
+        }
+        if let Err(refused) = self.commands.push(command) {
+            return Err(AddFault {
+                command: refused.value,
+                why: AddRefusal::NoMemory,
+            });
+        }
+        Ok(())
+    }
+
+    /// What the command of this name answers. Memory is refused where its body is refused it.
+    pub fn call(&self, name: &Txt, memory: &Txt, words: &[Txt]) -> Result<AppAnswer, AllocError>
+        requires there { has self.now name.now ≡ true }
+        ensures answer { IfOk result (λ a. a ≡ T.meaning name.now memory.now words.now) }
+    {
+        let Some(command) = self.find(name) else {
+            unreachable!()
+        };
+        command.call(memory, words)
+    }
+}
