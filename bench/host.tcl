@@ -11,3 +11,4 @@ while {[gets stdin line] >= 0} {
     puts [string trimright "[expr {$code == 1 ? "error" : "ok"}] $accepted $text" { }]
     flush stdout
 }
+exit
