@@ -38,7 +38,7 @@ pub record Lawful {T : Type 0} (s : Spelling T) : Type 0 where
   -- nothing else is read
   pub nothing_else : (bytes : List ℕ) (value : T) (rest : List ℕ) → IsBytes bytes → s.read bytes ≡ Ok (value, rest) → Spells s bytes value rest
   -- a fault stands in the bytes or at their end
-  pub within : (bytes : List ℕ) (left : ℕ) → s.read bytes ≡ Err left → left ≤ length bytes
+  pub within : (bytes : List ℕ) (left : ℕ) → IsBytes bytes → s.read bytes ≡ Err left → left ≤ length bytes
   -- from the byte at fault on it doesn't matter what stands there
   pub sure : (front : List ℕ) (byte : ℕ) (behind other : List ℕ) → IsBytes (front ++ byte ∷ behind) → s.read (front ++ byte ∷ behind) ≡ Err (suc (length behind)) → s.read (front ++ byte ∷ other) ≡ Err (suc (length other))
   -- of a spelling that is cut the end is at fault
@@ -89,6 +89,11 @@ whole value = record { Legal = λ other. other ≡ value; write = λ other. []; 
 -- no value
 abbrev pub none : {T : Type 0} → Spelling T
 none = record { Legal = λ value. ⊥; write = λ value. []; read = λ bytes. Err 0 }
+
+-- the one or the other
+abbrev pub which : {T : Type 0} → Bool → Spelling T → Spelling T → Spelling T
+which true s t = s
+which false s t = t
 
 -- ---- lists
 

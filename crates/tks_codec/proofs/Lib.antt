@@ -1,0 +1,4 @@
+pub mod Joining
+pub mod EachKind
+pub mod Headers
+pub mod Inputs
