@@ -31,6 +31,12 @@ module _ {T : Type 0} {s t : Spelling T} (l : Lawful s) (writes : (v : T) → t.
     cut = λ v front b behind h e. reads front ∙ l.cut v front b behind (into v h) (sym (writes v h) ∙ e);
   }
 
+-- No spelling begins another: what begins with two is spelled by one value, with one rest.
+pub one_front : {T : Type 0} (s : Spelling T) → Lawful s → (a b : T) (x y : List ℕ) → s.Legal a → s.Legal b → s.write a ++ x ≡ s.write b ++ y → (a ≡ b) × (x ≡ y)
+one_front {T} s l a b x y p q e =
+    let same = ok_is {A = T × List ℕ} (a, x) (b, y) (sym (l.reads_back a x p) ∙ ap s.read e ∙ l.reads_back b y q) in
+    (ap (λ (v : T × List ℕ). v.0) same, ap (λ (v : T × List ℕ). v.1) same)
+
 -- ---- nothing left to be spelled
 
 pub whole_lawful : {T : Type 0} (value : T) → Lawful (whole value)

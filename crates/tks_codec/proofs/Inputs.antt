@@ -5,7 +5,7 @@ use Rattle.std.proofs.lemmas.Bool.{eqb-true}
 use Rattle.tks_input.specs.declared.input.Input.{Input}
 use Rattle.tks_input.specs.declared.input.Input.TheVariants.{Script, KeyPress, KeyRelease, Press, Release, Clock, Turn}
 use Rattle.tks_codec.specs.Spelling.{Spelling, Lawful, byte, number, which, whole, none, text}
-use Rattle.tks_codec.specs.Input.{text_of, button_of, x_of, y_of, time_of, tag_of, of_text, of_button, of_time, behind_tag, is_tag, input}
+use Rattle.tks_codec.specs.Input.{text_of, button_of, x_of, y_of, time_of, tag_of, of_text, of_button, of_time, behind_tag, is_tag, input, IsInput}
 use Rattle.tks_codec.proofs.EachKind.{whole_lawful, none_lawful, byte_lawful, wide16, wide64, number_lawful, test_lawful, which_lawful, which_told, field_lawful, text_lawful}
 
 of_text_lawful : (make : List ℕ → Input) → ((t : List ℕ) → text_of (make t) ≡ t) → Lawful (of_text make)
@@ -44,3 +44,12 @@ tag_told tag v =
 
 pub input_lawful : Lawful input
 input_lawful = field_lawful tag_of _ behind_tag tag_told (test_lawful is_tag byte (λ v h. omega arith) byte_lawful) behind_tag_lawful
+
+pub input_legal : (i : Input) → IsInput i → input.Legal i
+input_legal (Script t) h = ((omega arith, refl), (h, refl))
+input_legal (KeyPress t) h = ((omega arith, refl), (h, refl))
+input_legal (KeyRelease t) h = ((omega arith, refl), (h, refl))
+input_legal (Press b x y) h = ((omega arith, refl), (omega (arith, h.0), (h.1, (h.2, refl))))
+input_legal (Release b x y) h = ((omega arith, refl), (omega (arith, h.0), (h.1, (h.2, refl))))
+input_legal (Clock t) h = ((omega arith, refl), (h, refl))
+input_legal Turn h = ((omega arith, refl), refl)

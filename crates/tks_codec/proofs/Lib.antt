@@ -2,3 +2,5 @@ pub mod Joining
 pub mod EachKind
 pub mod Headers
 pub mod Inputs
+mod Texts
+pub mod Loop

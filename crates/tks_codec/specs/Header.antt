@@ -15,11 +15,17 @@ is_width n = nat_le 1 n && nat_le n 200
 abbrev pub is_height : ℕ → Bool
 is_height n = nat_le 1 n && nat_le n 100
 
+abbrev pub width : Spelling ℕ
+width = such_that is_width (number w16)
+
+abbrev pub height : Spelling ℕ
+height = such_that is_height (number w16)
+
 abbrev pub grid : Spelling Extent
 grid =
-    field (λ grid. grid.width) (such_that is_width (number w16)) (λ width.
-    field (λ grid. grid.height) (such_that is_height (number w16)) (λ height.
-    whole (record { width = width; height = height })))
+    field (λ size. size.width) width (λ w.
+    field (λ size. size.height) height (λ h.
+    whole (record { width = w; height = h })))
 
 -- Names rise by their bytes: each is behind the one before it.
 abbrev pub is_behind : Option (List ℕ) → List ℕ → Bool

@@ -1,6 +1,7 @@
 -- Inputs as bytes (this project's own format): a tag, and what the input holds.
-use Rattle.std.specs.Prelude.{ℕ, Bool, ◌&&◌, ◌==◌, List, [], nat_le}
+use Rattle.std.specs.Prelude.{ℕ, ◌<◌, ◌^◌, Bool, ◌&&◌, ◌==◌, List, [], length, nat_le}
 use Rattle.std.specs.Int.{w16, w64}
+use Rattle.tks_text.specs.Text.{IsText}
 use Rattle.tks_input.specs.declared.input.Input.{Input}
 use Rattle.tks_input.specs.declared.input.Input.TheVariants.{Script, KeyPress, KeyRelease, Press, Release, Clock, Turn}
 use Rattle.tks_codec.specs.Spelling.{Read, Spelling, byte, number, text, such_that, field, which, whole, none}
@@ -75,3 +76,13 @@ input = field tag_of (such_that is_tag byte) behind_tag
 -- the input at the front of bytes, and what stands behind it
 unfoldable pub input_at : List ℕ → Read Input
 input_at bytes = input.read bytes
+
+-- inputs that have a spelling
+abbrev pub IsInput : Input → Type 0
+IsInput (Script script) = (length script < 2 ^ 32) × IsText script
+IsInput (KeyPress key) = (length key < 2 ^ 32) × IsText key
+IsInput (KeyRelease key) = (length key < 2 ^ 32) × IsText key
+IsInput (Press button x y) = (button < 2 ^ 8) × (x < 2 ^ 16) × (y < 2 ^ 16)
+IsInput (Release button x y) = (button < 2 ^ 8) × (x < 2 ^ 16) × (y < 2 ^ 16)
+IsInput (Clock time) = time < 2 ^ 64
+IsInput Turn = Unit {0}

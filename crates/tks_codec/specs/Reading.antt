@@ -2,6 +2,8 @@
 use Rattle.std.specs.Prelude.{◌≡◌, ℕ, ◌≤◌, ◌-◌, List, length, drop, Result, Ok, Err}
 use Rattle.tks_codec.specs.declared.fault.CodecFault.{CodecFault}
 use Rattle.tks_codec.specs.declared.fault.CodecFault.TheVariants.{Bad, NoMemory}
+use Rattle.tks_codec.specs.declared.unread.Unread.{Unread}
+use Rattle.tks_codec.specs.declared.unread.Unread.TheVariants as unread
 use Rattle.tks_codec.specs.Spelling.{Read}
 
 -- A value and the length of its spelling, or where the fault is: just as reading says, unless memory was refused.
@@ -9,3 +11,12 @@ abbrev pub FindsSo : {T : Type 0} → Result (T × ℕ) CodecFault → List ℕ 
 FindsSo (Ok found) bytes read = (found.1 ≤ length bytes) × (read ≡ Ok (found.0, drop found.1 bytes))
 FindsSo (Err (Bad position)) bytes read = (position ≤ length bytes) × (read ≡ Err (length bytes - position))
 FindsSo (Err NoMemory) bytes read = Unit {0}
+
+-- What a reader of one value answers, seen by view: just what reading gives, unless memory was refused.
+abbrev pub Fails : {Y : Type 0} → Unread → Result Y ℕ → Type 0
+Fails (unread.Left left) read = read ≡ Err left
+Fails unread.NoMemory read = Unit {0}
+
+abbrev pub Gives : {X Y : Type 0} → (X → Y) → Result X Unread → Result Y ℕ → Type 0
+Gives view (Ok x) read = read ≡ Ok (view x)
+Gives view (Err e) read = Fails e read

@@ -97,6 +97,11 @@ which false s t = t
 
 -- ---- lists
 
+-- the last of a list, or what is before it
+abbrev pub last_of : {T : Type 0} → Option T → List T → Option T
+last_of before [] = before
+last_of before (value ∷ values) = last_of (Some value) values
+
 -- How a member is spelled may depend on the one before it.
 module _ {T : Type 0} (member : Option T → Spelling T) where
   abbrev pub AreLegal : Option T → List T → Type 0
@@ -133,6 +138,10 @@ list s = list_by (λ before. s)
 
 abbrev pub text_byte : Spelling ℕ
 text_byte = such_that is_text_byte byte
+
+-- so many bytes of a text
+abbrev pub letters_at : ℕ → List ℕ → Read (List ℕ)
+letters_at count bytes = members_at (λ before. text_byte) None count bytes
 
 -- the length, and so many bytes of a text
 abbrev pub text : Spelling (List ℕ)

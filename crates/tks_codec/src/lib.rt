@@ -3,6 +3,11 @@
 
 mod fault;
 mod header;
+mod laws;
+mod names;
+mod reading;
+mod unread;
 
 pub use fault::CodecFault;
 pub use header::Header;
+pub use laws::{one_header, one_input};
