@@ -2,12 +2,12 @@
 use Rattle.std.proofs.Common.{◌≡◌, ℕ, zero, suc, ◌+◌, ◌*◌, ◌^◌, ◌<◌, ◌≤◌, ◌⊎◌, inl, inr, Bool, true, false, cond, ltb, leb, eqb, List, [], ◌∷◌, ◌++◌, length, get_or, take, drop, Option, Some, None, Result, Ok, Err, refl, sym, ap, subst, ◌∙◌, append_assoc, arith}
 use Rattle.std.specs.Int.{Width, w8, w16, w32, w64, byte_len, from_be_bytes, to_be_bytes}
 use Rattle.std.proofs.lemmas.Bool.{cases_lt, ltb-false, lt-ltb, le-ltb, eqb-true, leb-true}
-use Rattle.std.proofs.lemmas.List.{take_at, drop_at, take-append-drop, length-append, length-take, get_or-drop, get_or-take, get_or_past, nil_from_length}
+use Rattle.std.proofs.lemmas.List.{append-nil, take_at, drop_at, take-append-drop, length-append, length-take, get_or-drop, get_or-take, get_or_past, nil_from_length}
 use Rattle.std.proofs.lemmas.Nat.{be_bytes_2, be_bytes_4, be_bytes_8, from_be_bytes-to_be_bytes_2, from_be_bytes-to_be_bytes_4, from_be_bytes-to_be_bytes_8}
 use Rattle.std.specs.Prelude.{◌||◌, ◌&&◌}
 use Rattle.tks_text.proofs.Texts.{both}
 use Rattle.tks_text.specs.Text.{is_text_byte, IsText}
-use Rattle.tks_codec.specs.Spelling.{Read, ◌>>=◌, Spelling, Spells, IsBytes, Lawful, number_at, number, byte_at, byte, passed, such_that, field, which, whole, none, AreLegal, members, members_at, list_at, list_by, list, text_byte, text}
+use Rattle.tks_codec.specs.Spelling.{Read, ◌>>=◌, Spelling, Spells, IsBytes, Lawful, number_at, number, byte_at, byte, passed, such_that, field, through, which, whole, none, AreLegal, members, members_at, list_at, list_by, list, text_byte, text}
 use Rattle.tks_codec.proofs.Joining.{bytes_behind, not_nil, Stands, in_first, in_second, stands, bind_ok, bind_err, bind_same, bind_done, ok_is, no_fault, Parts, Joins, joined}
 
 
@@ -28,6 +28,7 @@ module _ {T : Type 0} {s t : Spelling T} (l : Lawful s) (writes : (v : T) → t.
     nothing_else = λ bytes v rest fits e. spelled bytes v rest (l.nothing_else bytes v rest fits (sym (reads bytes) ∙ e));
     within = λ bytes left fits e. l.within bytes left fits (sym (reads bytes) ∙ e);
     sure = λ front b behind other fits e. reads (front ++ b ∷ other) ∙ l.sure front b behind other fits (sym (reads (front ++ b ∷ behind)) ∙ e);
+    early = λ front b behind fits e. reads front ∙ l.early front b behind fits (sym (reads (front ++ b ∷ behind)) ∙ e);
     cut = λ v front b behind h e. reads front ∙ l.cut v front b behind (into v h) (sym (writes v h) ∙ e);
   }
 
@@ -45,6 +46,7 @@ whole_lawful {T} value = record {
   nothing_else = λ bytes v rest fits e. let p = ok_is (value, bytes) (v, rest) e in record { legal = sym (ap (λ (x : T × List ℕ). x.0) p); parts = ap (λ (x : T × List ℕ). x.1) p };
   within = λ bytes left fits e. absurd (no_fault (value, bytes) left e);
   sure = λ front b behind other fits e. absurd (no_fault (value, front ++ b ∷ behind) (suc (length behind)) e);
+  early = λ front b behind fits e. absurd (no_fault (value, front ++ b ∷ behind) (suc (length behind)) e);
   cut = λ v front b behind h e. not_nil front b behind e;
 }
 
@@ -54,6 +56,7 @@ none_lawful {T} = record {
   nothing_else = λ bytes v rest fits e. absurd (no_fault (v, rest) 0 (sym e));
   within = λ bytes left fits e. let n = left_is {A = T × List ℕ} 0 left e in omega (arith, n);
   sure = λ front b behind other fits e. let n = left_is {A = T × List ℕ} 0 (suc (length behind)) e in absurd (omega (arith, n));
+  early = λ front b behind fits e. refl;
   cut = λ v front b behind h e. refl;
 }
 
@@ -79,6 +82,7 @@ byte_lawful = record {
   nothing_else = byte_read;
   within = λ bytes left fits e. let n = byte_fault bytes left e in omega (arith, n);
   sure = λ front b behind other fits e. let n = byte_fault (front ++ b ∷ behind) (suc (length behind)) e in absurd (omega (arith, n));
+  early = λ front b behind fits e. let n = byte_fault (front ++ b ∷ behind) (suc (length behind)) e in absurd (omega (arith, n));
   cut = λ v front b behind h e. byte_cut v front b behind e;
 }
 
@@ -171,6 +175,7 @@ module _ (w : Width) (wide : IsWide w) where
     nothing_else = number_read;
     within = λ bytes left fits e. let n = number_fault bytes left e in omega (arith, n);
     sure = λ front b behind other fits e. let n = number_fault (front ++ b ∷ behind) (suc (length behind)) e in absurd (omega (arith, n));
+    early = λ front b behind fits e. let n = number_fault (front ++ b ∷ behind) (suc (length behind)) e in absurd (omega (arith, n));
     cut = λ v front b behind h e. number_cut v front b behind e;
   }
 
@@ -217,6 +222,24 @@ module _ {T : Type 0} (test : T → Bool) (s : Spelling T) where
             last_byte l a.0.0 a.0.1 front b behind other p.legal c.0 same (stands (s.write a.0.0) a.0.1 front b behind (sym p.parts))
       ]
 
+  -- a value that fails is cut before its last byte
+  before_last : Lawful s → (v : T) (rest front : List ℕ) (b : ℕ) (behind : List ℕ) → s.Legal v → length rest ≡ length behind → Stands (s.write v) rest front b behind → (s.read front >>= passed test) ≡ Err 0
+  before_last l v rest front b behind h same (in_first more p q) = ap (λ r. r >>= passed test) (l.cut v front b more h p)
+  before_last l v rest front b behind h same (in_second more p q) =
+      let n : length rest ≡ length more + suc (length behind) = ap length q ∙ length-append more (b ∷ behind) in
+      absurd (omega (arith, n, same))
+
+  test_early : Lawful s → (front : List ℕ) (b : ℕ) (behind : List ℕ) → IsBytes (front ++ b ∷ behind) → (s.read (front ++ b ∷ behind) >>= passed test) ≡ Err (suc (length behind)) → (s.read front >>= passed test) ≡ Err 0
+  test_early l front b behind fits e =
+      elim (bind_err (s.read (front ++ b ∷ behind)) (passed test) (suc (length behind)) e) [
+        | inl f ↦ ap (λ r. r >>= passed test) (l.early front b behind fits f)
+        | inr a ↦
+            let c = cases_failed (test a.0.0) a.0 (suc (length behind)) a.2 in
+            let p = l.nothing_else (front ++ b ∷ behind) a.0.0 a.0.1 fits a.1 in
+            let same : length a.0.1 ≡ length behind = omega (arith, c.1) in
+            before_last l a.0.0 a.0.1 front b behind p.legal same (stands (s.write a.0.0) a.0.1 front b behind (sym p.parts))
+      ]
+
   test_within : ((v : T) → s.Legal v → 0 < length (s.write v)) → Lawful s → (bytes : List ℕ) (left : ℕ) → IsBytes bytes → (s.read bytes >>= passed test) ≡ Err left → left ≤ length bytes
   test_within filled l bytes left fits e =
       elim (bind_err (s.read bytes) (passed test) left e) [
@@ -234,6 +257,7 @@ module _ {T : Type 0} (test : T → Bool) (s : Spelling T) where
     nothing_else = test_read l;
     within = test_within filled l;
     sure = test_sure l;
+    early = test_early l;
     cut = λ v front b behind h e. ap (λ r. r >>= passed test) (l.cut v front b behind h.0 e);
   }
 
@@ -259,6 +283,14 @@ module _ {A T : Type 0} (get : T → A) (s : Spelling A) (others : A → Spellin
 
   pub field_lawful : Lawful s → ((a : A) → Lawful (others a)) → Lawful (field get s others)
   field_lawful l m = joined field_joins l m
+
+module _ {A T : Type 0} (get : T → A) (make : A → T) (s : Spelling A) (told : (a : A) → get (make a) ≡ a) where
+  pub through_lawful : Lawful s → Lawful (through get make s)
+  through_lawful l = same {s = field get s (λ a. whole (make a))} {t = through get make s} (field_lawful get s (λ a. whole (make a)) (λ a v h. ap get h ∙ told a) l (λ a. whole_lawful (make a)))
+      (λ v h. sym (append-nil (s.write (get v))))
+      (λ bytes. refl)
+      (λ v h. h)
+      (λ v h. h)
 
 -- ---- lists
 

@@ -10,7 +10,7 @@ use Rattle.tks_text.specs.Text.{IsText}
 use Rattle.tks_codec.specs.declared.header.Header.{Header}
 use Rattle.tks_codec.specs.Spelling.{Lawful, AreLegal, number, such_that, field, whole, text}
 use Rattle.tks_codec.specs.Header.{is_width, is_height, width, height, grid, is_behind, name, names, header, Rise, AreNames}
-use Rattle.tks_codec.proofs.EachKind.{whole_lawful, wide16, wide64, number_lawful, test_lawful, field_lawful, list_lawful, text_lawful}
+use Rattle.tks_codec.proofs.EachKind.{wide16, wide64, number_lawful, test_lawful, field_lawful, through_lawful, list_lawful, text_lawful}
 
 width_lawful : Lawful width
 width_lawful = test_lawful is_width (number w16) (λ v h. omega arith) (number_lawful w16 wide16)
@@ -21,8 +21,7 @@ height_lawful = test_lawful is_height (number w16) (λ v h. omega arith) (number
 grid_lawful : Lawful grid
 grid_lawful =
     field_lawful (λ g. g.width) _ _ (λ w g h. ap (λ (g : Extent). g.width) h.1) width_lawful (λ w.
-    field_lawful (λ g. g.height) _ _ (λ h g e. ap (λ (g : Extent). g.height) e) height_lawful (λ h.
-    whole_lawful (record { width = w; height = h })))
+    through_lawful (λ g. g.height) _ _ (λ h. refl) height_lawful)
 
 filled_text : (t : List ℕ) → 0 < length (text.write t)
 filled_text t = let n = length-append (to_be_bytes w32 (length t)) t in omega (arith, n)
@@ -35,8 +34,7 @@ header_lawful =
     field_lawful (λ h. h.generation) _ _ (λ generation v h. ap (λ (h : Header). h.generation) h.1.1.1) (number_lawful w64 wide64) (λ generation.
     field_lawful (λ h. h.grid) _ _ (λ size v h. ap (λ (h : Header). h.grid) h.1.1) grid_lawful (λ size.
     field_lawful (λ h. h.names) _ _ (λ names v h. ap (λ (h : Header). h.names) h.1) names_lawful (λ names.
-    field_lawful (λ h. h.world_length) _ _ (λ world_length v h. ap (λ (h : Header). h.world_length) h) (number_lawful w64 wide64) (λ world_length.
-    whole_lawful (record { generation = generation; grid = size; names = names; world_length = world_length })))))
+    through_lawful (λ h. h.world_length) _ _ (λ world_length. refl) (number_lawful w64 wide64))))
 
 -- ---- which headers have a spelling
 

@@ -6,20 +6,19 @@ use Rattle.tks_input.specs.declared.input.Input.{Input}
 use Rattle.tks_input.specs.declared.input.Input.TheVariants.{Script, KeyPress, KeyRelease, Press, Release, Clock, Turn}
 use Rattle.tks_codec.specs.Spelling.{Spelling, Lawful, byte, number, which, whole, none, text}
 use Rattle.tks_codec.specs.Input.{text_of, button_of, x_of, y_of, time_of, tag_of, of_text, of_button, of_time, behind_tag, is_tag, input, IsInput}
-use Rattle.tks_codec.proofs.EachKind.{whole_lawful, none_lawful, byte_lawful, wide16, wide64, number_lawful, test_lawful, which_lawful, which_told, field_lawful, text_lawful}
+use Rattle.tks_codec.proofs.EachKind.{whole_lawful, none_lawful, byte_lawful, wide16, wide64, number_lawful, test_lawful, which_lawful, which_told, field_lawful, through_lawful, text_lawful}
 
 of_text_lawful : (make : List ℕ → Input) → ((t : List ℕ) → text_of (make t) ≡ t) → Lawful (of_text make)
-of_text_lawful make told = field_lawful text_of text _ (λ t v h. ap text_of h ∙ told t) text_lawful (λ t. whole_lawful (make t))
+of_text_lawful make told = through_lawful text_of make text told text_lawful
 
 of_button_lawful : (make : ℕ → ℕ → ℕ → Input) → ((b x y : ℕ) → (button_of (make b x y) ≡ b) × (x_of (make b x y) ≡ x) × (y_of (make b x y) ≡ y)) → Lawful (of_button make)
 of_button_lawful make told =
     field_lawful button_of byte _ (λ b v h. ap button_of h.1.1 ∙ (told b (x_of v) (y_of v)).0) byte_lawful (λ b.
     field_lawful x_of (number w16) _ (λ x v h. ap x_of h.1 ∙ (told b x (y_of v)).1) (number_lawful w16 wide16) (λ x.
-    field_lawful y_of (number w16) _ (λ y v h. ap y_of h ∙ (told b x y).2) (number_lawful w16 wide16) (λ y.
-    whole_lawful (make b x y))))
+    through_lawful y_of (λ y. make b x y) (number w16) (λ y. (told b x y).2) (number_lawful w16 wide16)))
 
 of_time_lawful : (make : ℕ → Input) → ((t : ℕ) → time_of (make t) ≡ t) → Lawful (of_time make)
-of_time_lawful make told = field_lawful time_of (number w64) _ (λ t v h. ap time_of h ∙ told t) (number_lawful w64 wide64) (λ t. whole_lawful (make t))
+of_time_lawful make told = through_lawful time_of make (number w64) told (number_lawful w64 wide64)
 
 behind_tag_lawful : (tag : ℕ) → Lawful (behind_tag tag)
 behind_tag_lawful tag =

@@ -152,6 +152,27 @@ module _ {A B T : Type 0} {s : Spelling A} {o : A → Spelling B} {make : A → 
             ]
       ]
 
+  early_at : (a : A) (rest front : List ℕ) (b : ℕ) (behind : List ℕ) → s.Legal a → IsBytes rest → (o a).read rest ≡ Err (suc (length behind)) → Stands (s.write a) rest front b behind → t.read front ≡ Err 0
+  unfolding then_read
+  early_at a rest front b behind l fits e (in_first more p q) =
+      let k = (others a).within rest (suc (length behind)) fits e in
+      let n : length behind ≡ length more + length rest = ap length q ∙ length-append more rest in
+      absurd (omega (arith, k, n))
+  early_at a rest front b behind l fits e (in_second more p q) =
+      ap t.read p ∙ behind_first a more l (Err 0) ((others a).early more b behind (subst IsBytes q fits) (ap (o a).read (sym q) ∙ e))
+
+  before_fault : (front : List ℕ) (b : ℕ) (behind : List ℕ) → IsBytes (front ++ b ∷ behind) → t.read (front ++ b ∷ behind) ≡ Err (suc (length behind)) → t.read front ≡ Err 0
+  before_fault front b behind fits e =
+      elim (bind_err (s.read (front ++ b ∷ behind)) (λ a. (o a.0).read a.1 >>= λ b. Ok (make a.0 b.0, b.1)) (suc (length behind)) (sym (j.reads (front ++ b ∷ behind)) ∙ e)) [
+        | inl f ↦ j.reads front ∙ ap (λ r. r >>= λ a. (o a.0).read a.1 >>= λ b. Ok (make a.0 b.0, b.1)) (first.early front b behind fits f)
+        | inr a ↦
+            let p = first.nothing_else (front ++ b ∷ behind) a.0.0 a.0.1 fits a.1 in
+            elim (bind_err ((o a.0.0).read a.0.1) (λ b. Ok (make a.0.0 b.0, b.1)) (suc (length behind)) a.2) [
+              | inl f ↦ early_at a.0.0 a.0.1 front b behind p.legal (bytes_behind (front ++ b ∷ behind) (s.write a.0.0) a.0.1 fits p.parts) f (stands (s.write a.0.0) a.0.1 front b behind (sym p.parts))
+              | inr b ↦ absurd (no_fault _ (suc (length behind)) b.2)
+            ]
+      ]
+
   cut_at : (v : T) (front : List ℕ) (b : ℕ) (behind : List ℕ) (p : Parts s o make t v) → Stands (s.write p.first) ((o p.first).write p.others) front b behind → t.read front ≡ Err 0
   unfolding then_read
   cut_at v front b behind p (in_first more q r) = j.reads front ∙ rw (first.cut p.first front b more p.legal q) refl
@@ -164,4 +185,4 @@ module _ {A B T : Type 0} {s : Spelling A} {o : A → Spelling B} {make : A → 
       cut_at v front b behind p (stands (s.write p.first) ((o p.first).write p.others) front b behind (sym p.parts ∙ e))
 
   pub joined : Lawful t
-  joined = record { reads_back = back; nothing_else = only; within = inside; sure = certain; cut = ends }
+  joined = record { reads_back = back; nothing_else = only; within = inside; sure = certain; early = before_fault; cut = ends }

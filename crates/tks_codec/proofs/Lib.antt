@@ -4,3 +4,5 @@ pub mod Headers
 pub mod Inputs
 mod Texts
 pub mod Loop
+pub mod Found
+mod Puts

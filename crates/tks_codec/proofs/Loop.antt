@@ -4,7 +4,7 @@ use Rattle.std.proofs.lemmas.List.{append-nil}
 use Rattle.tks_codec.specs.declared.unread.Unread.{Unread}
 use Rattle.tks_codec.specs.declared.unread.Unread.TheVariants as unread
 use Rattle.tks_codec.specs.Reading.{Fails}
-use Rattle.tks_codec.specs.Spelling.{Read, ◌>>=◌, Spelling, last_of, members_at}
+use Rattle.tks_codec.specs.Spelling.{Read, ◌>>=◌, Spelling, last_of, members, members_at}
 
 pub last_is : {T : Type 0} (before : Option T) (xs : List T) (x : T) → last_of before (xs ++ x ∷ []) ≡ Some x
 last_is before [] x = refl
@@ -49,3 +49,10 @@ last_at before (y ∷ []) x some e = ap (λ z. Some z) (sym e)
 last_at before (y ∷ z ∷ zs) x some e =
     let k : suc (suc (length zs)) - 1 ≡ suc (suc (length zs) - 1) = omega arith in
     last_at (Some y) (z ∷ zs) x (omega arith) (e ∙ ap (λ n. get_or (y ∷ z ∷ zs) n x) k)
+
+-- the members, and one more
+pub members_more : {T : Type 0} (member : Option T → Spelling T) (before : Option T) (xs : List T) (x : T) → members member before (xs ++ x ∷ []) ≡ members member before xs ++ (member (last_of before xs)).write x
+members_more member before [] x = append-nil ((member before).write x)
+members_more member before (y ∷ xs) x =
+    ap (λ (w : List ℕ). (member before).write y ++ w) (members_more member (Some y) xs x)
+    ∙ sym (append_assoc ((member before).write y) (members member (Some y) xs) ((member (last_of (Some y) xs)).write x))

@@ -4,7 +4,7 @@ use Rattle.std.specs.Int.{w16, w64}
 use Rattle.tks_text.specs.Text.{IsText}
 use Rattle.tks_input.specs.declared.input.Input.{Input}
 use Rattle.tks_input.specs.declared.input.Input.TheVariants.{Script, KeyPress, KeyRelease, Press, Release, Clock, Turn}
-use Rattle.tks_codec.specs.Spelling.{Read, Spelling, byte, number, text, such_that, field, which, whole, none}
+use Rattle.tks_codec.specs.Spelling.{Read, Spelling, byte, number, text, such_that, field, through, which, whole, none}
 
 -- what an input holds; nothing, where it doesn't hold such a thing
 abbrev pub text_of : Input → List ℕ
@@ -43,18 +43,17 @@ tag_of Turn = 7
 
 -- a text
 abbrev pub of_text : (List ℕ → Input) → Spelling Input
-of_text make = field text_of text (λ text. whole (make text))
+of_text make = through text_of make text
 
 -- a button and a cell
 abbrev pub of_button : (ℕ → ℕ → ℕ → Input) → Spelling Input
 of_button make =
     field button_of byte (λ button.
     field x_of (number w16) (λ x.
-    field y_of (number w16) (λ y.
-    whole (make button x y))))
+    through y_of (λ y. make button x y) (number w16)))
 
 abbrev pub of_time : (ℕ → Input) → Spelling Input
-of_time make = field time_of (number w64) (λ time. whole (make time))
+of_time make = through time_of make (number w64)
 
 -- what stands behind this tag
 abbrev pub behind_tag : ℕ → Spelling Input

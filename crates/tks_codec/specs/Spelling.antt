@@ -41,6 +41,8 @@ pub record Lawful {T : Type 0} (s : Spelling T) : Type 0 where
   pub within : (bytes : List ℕ) (left : ℕ) → IsBytes bytes → s.read bytes ≡ Err left → left ≤ length bytes
   -- from the byte at fault on it doesn't matter what stands there
   pub sure : (front : List ℕ) (byte : ℕ) (behind other : List ℕ) → IsBytes (front ++ byte ∷ behind) → s.read (front ++ byte ∷ behind) ≡ Err (suc (length behind)) → s.read (front ++ byte ∷ other) ≡ Err (suc (length other))
+  -- what stands before the byte at fault only ends too early
+  pub early : (front : List ℕ) (byte : ℕ) (behind : List ℕ) → IsBytes (front ++ byte ∷ behind) → s.read (front ++ byte ∷ behind) ≡ Err (suc (length behind)) → s.read front ≡ Err 0
   -- of a spelling that is cut the end is at fault
   pub cut : (value : T) (front : List ℕ) (byte : ℕ) (behind : List ℕ) → s.Legal value → s.write value ≡ front ++ byte ∷ behind → s.read front ≡ Err 0
 
@@ -80,6 +82,14 @@ field get first others = record {
   Legal = λ value. first.Legal (get value) × (others (get value)).Legal value;
   write = λ value. first.write (get value) ++ (others (get value)).write value;
   read = λ bytes. first.read bytes >>= λ found. (others found.0).read found.1;
+}
+
+-- a value that is made of its last field
+abbrev pub through : {A T : Type 0} → (T → A) → (A → T) → Spelling A → Spelling T
+through get make s = record {
+  Legal = λ value. s.Legal (get value) × (value ≡ make (get value));
+  write = λ value. s.write (get value);
+  read = λ bytes. s.read bytes >>= λ found. Ok (make found.0, found.1);
 }
 
 -- this value, of which nothing is left to be spelled

@@ -1,13 +1,16 @@
 //! Names that rise by their bytes.
 
-ghost use Rattle.std.specs.Prelude.{◌≡◌, None};
-ghost use Rattle.tks_codec.specs.Spelling.{list_at, members_at, last_of};
-ghost use Rattle.tks_codec.specs.Header.{is_behind, name};
+ghost use Rattle.std.specs.Prelude.{◌≡◌, ◌<◌, ◌^◌, length, None};
+ghost use Rattle.std.specs.List.{AllByRecursion};
+ghost use Rattle.tks_codec.specs.Spelling.{list_at, list_by, members_at, members, last_of};
+ghost use Rattle.tks_codec.specs.Header.{is_behind, name, AreNames};
 ghost use Rattle.tks_codec.specs.Reading.{Gives};
+ghost use Rattle.tks_codec.specs.Writing.{PutsSo};
 
 use crate::reading::{text_of, u32_of};
 use crate::unread::Unread;
-use std::alloc::Global;
+use crate::writing::{put_text, put_u32};
+use std::alloc::{AllocError, Global};
 use tks_text::{Seq, Txt};
 
 // Whether a name may stand behind these.
@@ -53,4 +56,25 @@ pub fn names_of(alloc: Global, bytes: &[u8]) -> Result<(Seq<Txt>, &[u8]), Unread
     let (count, rest) = u32_of(bytes)?;
     let (names, rest) = names_of_count(alloc, count, rest)?;
     Ok((names, rest))
+}
+
+// Adds each of the names.
+fn put_each(out: &mut Vec<u8>, names: &[Txt]) -> Result<(), AllocError>
+    requires { AllByRecursion (λ name. length name < 2 ^ 32) names.now }
+    ensures { PutsSo result out.old.items out.new.items (members name None names.now) }
+{
+    for name in names {
+        put_text(out, name)?;
+    }
+    Ok(())
+}
+
+/// Adds the names.
+pub fn put_names(out: &mut Vec<u8>, names: &[Txt]) -> Result<(), AllocError>
+    requires { AreNames names.now }
+    ensures { PutsSo result out.old.items out.new.items ((list_by name).write names.now) }
+{
+    put_u32(out, names.len() as u32)?;
+    put_each(out, names)?;
+    Ok(())
 }
