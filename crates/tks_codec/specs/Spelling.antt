@@ -1,7 +1,9 @@
 -- Spellings: how values are written as bytes and read back (this project's own format).
-use Rattle.std.specs.Prelude.{◌≡◌, ℕ, zero, suc, ◌<◌, ◌≤◌, ◌*◌, ◌^◌, Bool, true, false, List, [], ◌∷◌, ◌++◌, length, take, drop, get_or, Option, Some, None, Result, Ok, Err, nat_lt, ◌==◌, if◌then◌else◌}
+use Rattle.std.specs.Prelude.{◌≡◌, ℕ, zero, suc, ◌<◌, ◌≤◌, ◌*◌, ◌^◌, Bool, true, false, List, [], ◌∷◌, ◌++◌, length, take, drop, get_or, Option, Some, None, Result, Ok, Err, nat_lt, nat_le, ◌==◌, if◌then◌else◌}
 use Rattle.std.specs.List.{flat_map}
 use Rattle.std.specs.Int.{Width, w32, byte_len, to_be_bytes, from_be_bytes}
+use Rattle.std.specs.Ordering.{is_lt, nat_cmp}
+use Rattle.std.specs.Cmp.Lexicographic.{slice_cmp}
 use Rattle.tks_text.specs.Text.{is_text_byte, IsText}
 
 -- What reading finds at the front of bytes: a value, and what stands behind it; or how many bytes are left,
@@ -105,6 +107,42 @@ abbrev pub which : {T : Type 0} → Bool → Spelling T → Spelling T → Spell
 which true s t = s
 which false s t = t
 
+-- two values
+abbrev pub pair : {A B : Type 0} → Spelling A → Spelling B → Spelling (A × B)
+pair s t = field (λ both. both.0) s (λ first. through (λ both. both.1) (λ second. (first, second)) t)
+
+abbrev pub is_flag : ℕ → Bool
+is_flag byte = nat_le byte 1
+
+abbrev pub flag_of : Bool → ℕ
+flag_of false = 0
+flag_of true = 1
+
+-- a truth value: 0 or 1
+abbrev pub flag : Spelling Bool
+flag = field flag_of (such_that is_flag byte) (λ n. which (n == 1) (whole true) (which (n == 0) (whole false) none))
+
+-- a value that is there
+module _ {T : Type 0} (s : Spelling T) where
+  abbrev pub IsLegalSome : Option T → Type 0
+  IsLegalSome None = ⊥
+  IsLegalSome (Some value) = s.Legal value
+
+  abbrev pub write_some : Option T → List ℕ
+  write_some None = []
+  write_some (Some value) = s.write value
+
+  abbrev pub just : Spelling (Option T)
+  just = record { Legal = IsLegalSome; write = write_some; read = λ bytes. s.read bytes >>= λ found. Ok (Some found.0, found.1) }
+
+abbrev pub count_of : {T : Type 0} → Option T → ℕ
+count_of None = 0
+count_of (Some value) = 1
+
+-- 0, or 1 and a value
+abbrev pub option : {T : Type 0} → Spelling T → Spelling (Option T)
+option s = field count_of (such_that is_flag byte) (λ n. which (n == 1) (just s) (which (n == 0) (whole None) none))
+
 -- ---- lists
 
 -- the last of a list, or what is before it
@@ -143,6 +181,19 @@ module _ {T : Type 0} (member : Option T → Spelling T) where
 
 abbrev pub list : {T : Type 0} → Spelling T → Spelling (List T)
 list s = list_by (λ before. s)
+
+-- The name of a value is behind that of the value before it, by their bytes.
+abbrev pub is_behind : {T : Type 0} → (T → List ℕ) → Option T → T → Bool
+is_behind name None value = true
+is_behind name (Some before) value = is_lt (slice_cmp nat_cmp (name before) (name value))
+
+-- values whose names rise: of maps, the names and what is under each
+abbrev pub rising : {T : Type 0} → (T → List ℕ) → Spelling T → Spelling (List T)
+rising name s = list_by (λ before. such_that (is_behind name before) s)
+
+abbrev pub Rise : {T : Type 0} → (T → List ℕ) → Option T → List T → Type 0
+Rise name before [] = Unit {0}
+Rise name before (value ∷ values) = (is_behind name before value ≡ true) × Rise name (Some value) values
 
 -- ---- texts
 

@@ -3,7 +3,7 @@
 ghost use Rattle.std.specs.Prelude.{◌≡◌, ◌<◌, ◌^◌, length, None};
 ghost use Rattle.std.specs.List.{AllByRecursion};
 ghost use Rattle.tks_codec.specs.Spelling.{list_at, list_by, members_at, members, last_of};
-ghost use Rattle.tks_codec.specs.Header.{is_behind, name, AreNames};
+ghost use Rattle.tks_codec.specs.Header.{may_follow, name, AreNames};
 ghost use Rattle.tks_codec.specs.Reading.{Gives};
 ghost use Rattle.tks_codec.specs.Writing.{PutsSo};
 
@@ -15,7 +15,7 @@ use tks_text::{Seq, Txt};
 
 // Whether a name may stand behind these.
 fn is_behind(names: &[Txt], name: &Txt) -> bool
-    ensures { result ≡ is_behind (last_of None names.now) name.now }
+    ensures { result ≡ may_follow (last_of None names.now) name.now }
 {
     match names {
         [] => true,
