@@ -1,4 +1,5 @@
 ghost use Rattle.std.specs.Prelude.{◌≡◌, ℕ, ◌++◌, List, take, Ok, Err, IfOk, OnOk, OnErr};
+ghost use Rattle.tks_text.specs.Size.{IsGridSize};
 ghost use Rattle.tks_codec.specs.declared.header.Header.{Header};
 ghost use Rattle.tks_codec.specs.Header as headers;
 ghost use Rattle.tks_codec.specs.Header.{width, height, header_at, AreNames};
@@ -99,7 +100,8 @@ pub fn read_header(alloc: Global, bytes: &[u8]) -> Result<(Header, usize), Codec
 // Adds the spelling; where memory is refused, perhaps a front of it.
 fn put_header(header: &Header, out: &mut Vec<u8>) -> Result<(), AllocError>
     requires { AreNames header.now.names }
-    ensures { PutsSo result out.old.items out.new.items (headers.header.write header.now) }
+    ensures puts { PutsSo result out.old.items out.new.items (headers.header.write header.now) }
+    ensures legal { OnOk result (IsGridSize header.now.grid.width header.now.grid.height → headers.header.Legal header.now) }
 {
     put_u64(out, header.generation)?;
     put_u16(out, header.grid.width())?;
@@ -114,6 +116,8 @@ fn put_header(header: &Header, out: &mut Vec<u8>) -> Result<(), AllocError>
 pub fn write_header(header: &Header, out: &mut Vec<u8>) -> Result<(), AllocError>
     requires { AreNames header.now.names }
     ensures ok { OnOk result (out.new.items ≡ out.old.items ++ headers.header.write header.now) }
+    // It is read back, by the law of headers, since each size of a grid is in the grid's range.
+    ensures legal { OnOk result (IsGridSize header.now.grid.width header.now.grid.height → headers.header.Legal header.now) }
     ensures err { OnErr result (out.new.items ≡ out.old.items) }
 {
     let before = out.len();

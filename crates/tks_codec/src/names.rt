@@ -1,7 +1,8 @@
 //! Names that rise by their bytes.
 
-ghost use Rattle.std.specs.Prelude.{◌≡◌, ◌<◌, ◌^◌, length, None};
+ghost use Rattle.std.specs.Prelude.{◌≡◌, ◌<◌, ◌^◌, length, None, OnOk};
 ghost use Rattle.std.specs.List.{AllByRecursion};
+ghost use Rattle.tks_text.specs.Text.{IsText};
 ghost use Rattle.tks_codec.specs.Spelling.{list_at, list_by, members_at, members, last_of};
 ghost use Rattle.tks_codec.specs.Header.{may_follow, name, AreNames};
 ghost use Rattle.tks_codec.specs.Reading.{Gives};
@@ -61,7 +62,8 @@ pub fn names_of(alloc: Global, bytes: &[u8]) -> Result<(Seq<Txt>, &[u8]), Unread
 // Adds each of the names.
 fn put_each(out: &mut Vec<u8>, names: &[Txt]) -> Result<(), AllocError>
     requires { AllByRecursion (λ name. length name < 2 ^ 32) names.now }
-    ensures { PutsSo result out.old.items out.new.items (members name None names.now) }
+    ensures puts { PutsSo result out.old.items out.new.items (members name None names.now) }
+    ensures texts { OnOk result (AllByRecursion IsText names.now) }
 {
     for name in names {
         put_text(out, name)?;
@@ -72,7 +74,8 @@ fn put_each(out: &mut Vec<u8>, names: &[Txt]) -> Result<(), AllocError>
 /// Adds the names.
 pub fn put_names(out: &mut Vec<u8>, names: &[Txt]) -> Result<(), AllocError>
     requires { AreNames names.now }
-    ensures { PutsSo result out.old.items out.new.items ((list_by name).write names.now) }
+    ensures puts { PutsSo result out.old.items out.new.items ((list_by name).write names.now) }
+    ensures texts { OnOk result (AllByRecursion IsText names.now) }
 {
     put_u32(out, names.len() as u32)?;
     put_each(out, names)?;
