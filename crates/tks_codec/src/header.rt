@@ -1,4 +1,4 @@
-ghost use Rattle.std.specs.Prelude.{◌≡◌, ℕ, ◌++◌, List, take, Ok, Err, IfOk, OnOk, OnErr};
+ghost use Rattle.std.specs.Prelude.{◌≡◌, ℕ, ◌++◌, ◌↔◌, true, List, take, Ok, Err, IfOk, OnOk, OnErr};
 ghost use Rattle.tks_text.specs.Size.{IsGridSize};
 ghost use Rattle.tks_codec.specs.declared.header.Header.{Header};
 ghost use Rattle.tks_codec.specs.Header as headers;
@@ -7,7 +7,7 @@ ghost use Rattle.tks_codec.specs.Reading.{Gives, FindsSo, StopsAt};
 ghost use Rattle.tks_codec.specs.Writing.{PutsSo};
 
 use crate::fault::CodecFault;
-use crate::names::{names_of, put_names};
+use crate::names::{are_names, names_of, put_names};
 use crate::reading::{u16_of, u64_of};
 use crate::unread::Unread;
 use crate::writing::{put_u16, put_u64};
@@ -25,6 +25,16 @@ pub struct Header {
     pub names: Seq<Txt>,
     /// How many bytes spell the world behind the header.
     pub world_length: u64,
+}
+
+impl Header {
+    /// Whether it has a spelling: the names rise by their bytes, and there are fewer than 2^32 of them, each
+    /// of fewer than 2^32 bytes.
+    pub fn has_spelling(&self) -> bool
+        ensures { (result ≡ true) ↔ AreNames self.now.names }
+    {
+        are_names(self.names.as_slice())
+    }
 }
 
 // A grid's width.
@@ -111,8 +121,8 @@ fn put_header(header: &Header, out: &mut Vec<u8>) -> Result<(), AllocError>
     Ok(())
 }
 
-/// Adds the header's spelling at the end. The names have to rise by their bytes, and there are fewer than
-/// 2^32 of them, each of fewer than 2^32 bytes.
+/// Adds the header's spelling at the end, which it has to have (`Header::has_spelling`). Where memory is
+/// refused, the bytes are as they were.
 pub fn write_header(header: &Header, out: &mut Vec<u8>) -> Result<(), AllocError>
     requires { AreNames header.now.names }
     ensures ok { OnOk result (out.new.items ≡ out.old.items ++ headers.header.write header.now) }

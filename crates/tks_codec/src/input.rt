@@ -1,6 +1,6 @@
 //! Inputs as bytes.
 
-ghost use Rattle.std.specs.Prelude.{◌≡◌, ℕ, ◌<◌, ◌^◌, ◌++◌, ◌∷◌, List, length, take, true, Ok, Err, IfOk, OnOk, OnErr};
+ghost use Rattle.std.specs.Prelude.{◌≡◌, ℕ, ◌<◌, ◌^◌, ◌↔◌, ◌++◌, ◌∷◌, List, length, take, true, Ok, Err, IfOk, OnOk, OnErr};
 ghost use Rattle.std.specs.Int.{w16, w64, to_be_bytes};
 ghost use Rattle.tks_text.specs.Text.{IsText};
 ghost use Rattle.tks_input.specs.declared.input.Input.{Input};
@@ -187,7 +187,20 @@ fn put_input(input: &Input, out: &mut Vec<u8>) -> Result<(), AllocError>
     }
 }
 
-/// Adds the input's spelling at the end. A text in it has fewer than 2^32 bytes.
+/// Whether an input has a spelling: a text in it has fewer than 2^32 bytes.
+pub fn has_spelling(input: &Input) -> bool
+    ensures { (result ≡ true) ↔ (length (text_of input.now) < 2 ^ 32) }
+{
+    match input {
+        Input::Script(text) | Input::KeyPress(text) | Input::KeyRelease(text) => {
+            text.len() < 1 << 32
+        }
+        _ => true,
+    }
+}
+
+/// Adds the input's spelling at the end, which it has to have (`has_spelling`). Where memory is refused, the
+/// bytes are as they were.
 pub fn write_input(input: &Input, out: &mut Vec<u8>) -> Result<(), AllocError>
     requires { length (text_of input.now) < 2 ^ 32 }
     ensures ok { OnOk result (out.new.items ≡ out.old.items ++ inputs.input.write input.now) }

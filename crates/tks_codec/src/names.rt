@@ -1,9 +1,9 @@
 //! Names that rise by their bytes.
 
-ghost use Rattle.std.specs.Prelude.{◌≡◌, ◌<◌, ◌^◌, length, None, OnOk};
-ghost use Rattle.std.specs.List.{AllByRecursion};
+ghost use Rattle.std.specs.Prelude.{◌≡◌, ◌<◌, ◌^◌, ◌↔◌, length, nat_lt, true, None, OnOk};
+ghost use Rattle.std.specs.List.{AllByRecursion, list_all};
 ghost use Rattle.tks_text.specs.Text.{IsText};
-ghost use Rattle.tks_codec.specs.Spelling.{list_at, list_by, members_at, members, last_of};
+ghost use Rattle.tks_codec.specs.Spelling.{list_at, list_by, members_at, members, last_of, Rise};
 ghost use Rattle.tks_codec.specs.Header.{may_follow, name, AreNames};
 ghost use Rattle.tks_codec.specs.Reading.{Gives};
 ghost use Rattle.tks_codec.specs.Writing.{PutsSo};
@@ -80,4 +80,37 @@ pub fn put_names(out: &mut Vec<u8>, names: &[Txt]) -> Result<(), AllocError>
     put_u32(out, names.len() as u32)?;
     put_each(out, names)?;
     Ok(())
+}
+
+// Whether each is short enough for its length to be told.
+fn are_short(names: &[Txt]) -> bool
+    ensures { result ≡ list_all (λ name. nat_lt (length name) (2 ^ 32)) names.now }
+{
+    names.iter().all(|name| name.len() < 1 << 32)
+}
+
+// Whether each is behind the one before it.
+fn rise(names: &[Txt]) -> bool
+    ensures { (result ≡ true) ↔ Rise (λ name. name) None names.now }
+{
+    for index in 0..names.len() {
+        let (before, _) = names.split_at(index);
+        if !is_behind(before, &names[index]) {
+            return false;
+        }
+    }
+    true
+}
+
+/// Whether names have a spelling.
+pub fn are_names(names: &[Txt]) -> bool
+    ensures { (result ≡ true) ↔ AreNames names.now }
+{
+    if 1 << 32 <= names.len() {
+        return false;
+    }
+    if !are_short(names) {
+        return false;
+    }
+    rise(names)
 }
