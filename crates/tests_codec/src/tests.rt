@@ -5,13 +5,21 @@ use tks_input::Input;
 use tks_text::{Seq, Size, Txt};
 
 const SCRIPT: &[u8] = b"\x01\x00\x00\x00\x07set x 5";
+
 const KEY_PRESS: &[u8] = b"\x02\x00\x00\x00\x05Right";
+
 const KEY_RELEASE: &[u8] = b"\x03\x00\x00\x00\x01a";
+
 const PRESS: &[u8] = b"\x04\x01\x00\x03\x00\x02";
+
 const RELEASE: &[u8] = b"\x05\xff\xff\xfe\x01\x02";
+
 const CLOCK: &[u8] = b"\x06\x01\x02\x03\x04\x05\x06\x07\x08";
+
 const TURN: &[u8] = b"\x07";
-const HEADER: &[u8] = b"\x00\x00\x00\x00\x00\x00\x00\x02\x00\x50\x00\x18\x00\x00\x00\x02\x00\x00\x00\x01a\x00\x00\x00\x02ab\x00\x00\x00\x00\x00\x01\x00\x07";
+
+const HEADER: &[u8] =
+    b"\x00\x00\x00\x00\x00\x00\x00\x02\x00\x50\x00\x18\x00\x00\x00\x02\x00\x00\x00\x01a\x00\x00\x00\x02ab\x00\x00\x00\x00\x00\x01\x00\x07";
 
 fn text(alloc: Global, bytes: &[u8]) -> Option<Txt> {
     Txt::from_bytes(alloc, bytes).ok()
@@ -72,7 +80,10 @@ fn is_input_written(alloc: Global, tag: u8) -> Option<bool> {
 #[test]
 fn inputs_are_written_as_the_table_says(rt: HostRuntime) {
     for tag in 1..8 {
-        assert!(rt; is_input_written(rt.alloc(), tag) == Some(true), "tag {tag}");
+        assert!(rt;
+            is_input_written(rt.alloc(), tag) == Some(true),
+            "tag {tag}"
+        );
     }
 }
 
@@ -214,15 +225,54 @@ fn bad_headers(alloc: Global) -> bool {
         && is_bad_at(headed(alloc, 201, 1, none), 9)
         && is_bad_at(headed(alloc, 200, 0, none), 11)
         && is_bad_at(headed(alloc, 200, 101, none), 11)
-        && is_bad_at(headed(alloc, 1, 1, b"\x00\x00\x00\x02\x00\x00\x00\x02ab\x00\x00\x00\x01b"), 27)
+        && is_bad_at(
+            headed(
+                alloc,
+                1,
+                1,
+                b"\x00\x00\x00\x02\x00\x00\x00\x02ab\x00\x00\x00\x01b",
+            ),
+            27,
+        )
 }
 
 fn bad_names(alloc: Global) -> bool {
-    is_bad_at(headed(alloc, 1, 1, b"\x00\x00\x00\x02\x00\x00\x00\x01b\x00\x00\x00\x01a\x00"), 25)
-        && is_bad_at(headed(alloc, 1, 1, b"\x00\x00\x00\x02\x00\x00\x00\x01a\x00\x00\x00\x01a\x00"), 25)
-        && is_bad_at(headed(alloc, 1, 1, b"\x00\x00\x00\x02\x00\x00\x00\x01a\x00\x00\x00\x00\x00"), 24)
-        && is_bad_at(headed(alloc, 1, 1, b"\x00\x00\x00\x02\x00\x00\x00\x02ab\x00\x00\x00\x01a\x00"), 26)
-        && is_bad_at(headed(alloc, 1, 1, b"\xff\xff\xff\xff\x00\x00\x00\x01a"), 21)
+    is_bad_at(
+        headed(
+            alloc,
+            1,
+            1,
+            b"\x00\x00\x00\x02\x00\x00\x00\x01b\x00\x00\x00\x01a\x00",
+        ),
+        25,
+    ) && is_bad_at(
+        headed(
+            alloc,
+            1,
+            1,
+            b"\x00\x00\x00\x02\x00\x00\x00\x01a\x00\x00\x00\x01a\x00",
+        ),
+        25,
+    ) && is_bad_at(
+        headed(
+            alloc,
+            1,
+            1,
+            b"\x00\x00\x00\x02\x00\x00\x00\x01a\x00\x00\x00\x00\x00",
+        ),
+        24,
+    ) && is_bad_at(
+        headed(
+            alloc,
+            1,
+            1,
+            b"\x00\x00\x00\x02\x00\x00\x00\x02ab\x00\x00\x00\x01a\x00",
+        ),
+        26,
+    ) && is_bad_at(
+        headed(alloc, 1, 1, b"\xff\xff\xff\xff\x00\x00\x00\x01a"),
+        21,
+    )
 }
 
 #[test]

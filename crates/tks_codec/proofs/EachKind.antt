@@ -1,15 +1,14 @@
 -- What holds of each kind of spelling, of what it is made of.
-use Rattle.std.proofs.Common.{◌≡◌, ℕ, zero, suc, ◌+◌, ◌*◌, ◌^◌, ◌<◌, ◌≤◌, ◌⊎◌, inl, inr, Bool, true, false, cond, ltb, leb, eqb, List, [], ◌∷◌, ◌++◌, length, get_or, take, drop, Option, Some, None, Result, Ok, Err, refl, sym, ap, subst, ◌∙◌, append_assoc, arith}
-use Rattle.std.specs.Int.{Width, w8, w16, w32, w64, byte_len, from_be_bytes, to_be_bytes}
+use Rattle.std.proofs.Common.{◌≡◌, ℕ, zero, suc, ◌+◌, ◌*◌, ◌^◌, ◌<◌, ◌≤◌, ◌⊎◌, inl, inr, Bool, true, false, cond, ltb, leb, eqb, List, [], ◌∷◌, ◌++◌, length, take, drop, Option, Some, None, Result, Ok, Err, refl, sym, ap, subst, ◌∙◌, append_assoc, arith}
+use Rattle.std.specs.Int.{Width, w16, w32, w64, byte_len, from_be_bytes, to_be_bytes}
 use Rattle.std.proofs.lemmas.Bool.{cases_lt, ltb-false, lt-ltb, le-ltb, eqb-true, leb-true}
 use Rattle.std.proofs.lemmas.List.{append-nil, take_at, drop_at, take-append-drop, length-append, length-take, get_or-drop, get_or-take, get_or_past, nil_from_length}
 use Rattle.std.proofs.lemmas.Nat.{be_bytes_2, be_bytes_4, be_bytes_8, from_be_bytes-to_be_bytes_2, from_be_bytes-to_be_bytes_4, from_be_bytes-to_be_bytes_8}
 use Rattle.std.specs.Prelude.{◌||◌, ◌&&◌, ◌==◌}
 use Rattle.tks_text.proofs.Texts.{both}
 use Rattle.tks_text.specs.Text.{is_text_byte, IsText}
-use Rattle.tks_codec.specs.Spelling.{Read, ◌>>=◌, Spelling, Spells, IsBytes, Lawful, number_at, number, byte_at, byte, passed, such_that, field, through, which, whole, none, pair, is_flag, flag_of, flag, just, count_of, option, is_behind, rising, AreLegal, members, members_at, list_at, list_by, list, text_byte, text}
-use Rattle.tks_codec.proofs.Joining.{bytes_behind, not_nil, Stands, in_first, in_second, stands, bind_ok, bind_err, bind_same, bind_done, ok_is, no_fault, Parts, Joins, joined}
-
+use Rattle.tks_codec.specs.Spelling.{◌>>=◌, Spelling, Spells, IsBytes, Lawful, number_at, number, byte_at, byte, passed, such_that, field, through, which, whole, none, pair, is_flag, flag_of, flag, just, count_of, option, is_behind, rising, AreLegal, members, members_at, list_at, list_by, list, text_byte, text}
+use Rattle.tks_codec.proofs.Joining.{not_nil, Stands, in_first, in_second, stands, bind_ok, bind_err, bind_same, bind_done, ok_is, no_fault, Parts, Joins, joined}
 
 abbrev failed : {A : Type 0} → ℕ → Result A ℕ
 failed n = Err n
@@ -305,9 +304,9 @@ flag_byte_lawful = test_lawful is_flag byte (λ v h. omega arith) byte_lawful
 pub flag_lawful : Lawful flag
 flag_lawful =
     field_lawful flag_of (such_that is_flag byte) _
-        (λ n v k. which_told _ _ (n == 1) v (λ e h. ap flag_of h ∙ sym (eqb-true n 1 e)) (which_told _ _ (n == 0) v (λ e h. ap flag_of h ∙ sym (eqb-true n 0 e)) (λ h. absurd h)))
-        flag_byte_lawful
-        (λ n. which_lawful (n == 1) (whole_lawful true) (which_lawful (n == 0) (whole_lawful false) none_lawful))
+    (λ n v k. which_told _ _ (n == 1) v (λ e h. ap flag_of h ∙ sym (eqb-true n 1 e)) (which_told _ _ (n == 0) v (λ e h. ap flag_of h ∙ sym (eqb-true n 0 e)) (λ h. absurd h)))
+    flag_byte_lawful
+    (λ n. which_lawful (n == 1) (whole_lawful true) (which_lawful (n == 0) (whole_lawful false) none_lawful))
 
 module _ {T : Type 0} (s : Spelling T) where
   just_parts : (o : Option T) → (just s).Legal o → Parts s (λ v. whole v) (λ a b. Some b) (just s) o
@@ -328,7 +327,7 @@ module _ {T : Type 0} (s : Spelling T) where
   pub option_lawful : Lawful s → Lawful (option s)
   option_lawful l =
       field_lawful count_of (such_that is_flag byte) _ (λ n v k. count_told n v) flag_byte_lawful
-          (λ n. which_lawful (n == 1) (joined just_joins l (λ v. whole_lawful v)) (which_lawful (n == 0) (whole_lawful None) none_lawful))
+      (λ n. which_lawful (n == 1) (joined just_joins l (λ v. whole_lawful v)) (which_lawful (n == 0) (whole_lawful None) none_lawful))
 
 -- ---- lists
 
@@ -359,6 +358,7 @@ module _ {T : Type 0} (member : Option T → Spelling T) (each : (before : Optio
       empty : (vs : List T) → (length vs ≡ 0) × AreLegal member before vs → vs ≡ []
       empty [] h = refl
       empty (v ∷ vs) h = absurd (omega (arith, h.0))
+
       writes : (vs : List T) → (length vs ≡ 0) × AreLegal member before vs → members member before vs ≡ []
       writes [] h = refl
       writes (v ∷ vs) h = absurd (omega (arith, h.0))

@@ -1,5 +1,5 @@
 -- What holds of the spellings of headers.
-use Rattle.std.proofs.Common.{◌≡◌, ℕ, ◌+◌, ◌<◌, ◌≤◌, ◌^◌, Bool, true, List, [], ◌∷◌, ◌++◌, length, Option, Some, None, refl, ap, arith}
+use Rattle.std.proofs.Common.{◌≡◌, ℕ, ◌<◌, ◌≤◌, ◌^◌, true, List, [], ◌∷◌, length, Option, Some, None, refl, ap, arith}
 use Rattle.std.specs.Int.{w16, w32, w64, to_be_bytes}
 use Rattle.std.specs.List.{AllByRecursion}
 use Rattle.std.proofs.lemmas.List.{length-append}
@@ -8,8 +8,8 @@ use Rattle.std.specs.Prelude.{nat_le, ◌&&◌}
 use Rattle.tks_text.specs.Size.{Extent, IsGridSize}
 use Rattle.tks_text.specs.Text.{IsText}
 use Rattle.tks_codec.specs.declared.header.Header.{Header}
-use Rattle.tks_codec.specs.Spelling.{Lawful, AreLegal, number, such_that, field, Rise, text}
-use Rattle.tks_codec.specs.Header.{is_width, is_height, width, height, grid, may_follow, name, names, header, AreNames}
+use Rattle.tks_codec.specs.Spelling.{Lawful, AreLegal, number, Rise, text}
+use Rattle.tks_codec.specs.Header.{is_width, is_height, width, height, grid, name, names, header, AreNames}
 use Rattle.tks_codec.proofs.EachKind.{wide16, wide64, number_lawful, test_lawful, field_lawful, through_lawful, rising_lawful, text_lawful}
 
 width_lawful : Lawful width

@@ -1,10 +1,10 @@
 -- What holds of the spellings of inputs.
-use Rattle.std.proofs.Common.{◌≡◌, ℕ, ◌<◌, Bool, true, List, ◌==◌, refl, sym, ap, ◌∙◌, arith}
+use Rattle.std.proofs.Common.{◌≡◌, ℕ, List, ◌==◌, refl, sym, ap, ◌∙◌, arith}
 use Rattle.std.specs.Int.{w16, w64}
 use Rattle.std.proofs.lemmas.Bool.{eqb-true}
 use Rattle.tks_input.specs.declared.input.Input.{Input}
 use Rattle.tks_input.specs.declared.input.Input.TheVariants.{Script, KeyPress, KeyRelease, Press, Release, Clock, Turn}
-use Rattle.tks_codec.specs.Spelling.{Spelling, Lawful, such_that, byte, number, which, whole, none, text}
+use Rattle.tks_codec.specs.Spelling.{Lawful, such_that, byte, number, text}
 use Rattle.tks_codec.specs.Input.{text_of, button_of, x_of, y_of, time_of, tag_of, of_text, of_button, of_time, behind_tag, is_tag, input, IsInput}
 use Rattle.tks_codec.proofs.EachKind.{whole_lawful, none_lawful, byte_lawful, wide16, wide64, number_lawful, test_lawful, which_lawful, which_told, field_lawful, through_lawful, text_lawful}
 

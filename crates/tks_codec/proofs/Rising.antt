@@ -1,11 +1,10 @@
 -- Names that rise, one after the other.
-use Rattle.std.proofs.Common.{◌≡◌, ℕ, zero, suc, ◌+◌, ◌<◌, ◌≤◌, ◌^◌, ◌↔◌, Bool, true, false, List, [], ◌∷◌, ◌++◌, length, take, drop, get_or, Option, Some, None, refl, sym, ap, subst, ◌∙◌, append_assoc, arith}
-use Rattle.std.specs.Prelude.{◌&&◌, nat_lt}
+use Rattle.std.proofs.Common.{◌≡◌, ℕ, ◌<◌, ◌^◌, true, false, List, [], ◌∷◌, ◌++◌, length, Option, Some, refl}
+use Rattle.std.specs.Prelude.{nat_lt}
 use Rattle.std.specs.List.{AllByRecursion, list_all}
 use Rattle.std.proofs.lemmas.Bool.{ltb-true, lt-ltb}
 use Rattle.tks_text.proofs.Texts.{both}
 use Rattle.tks_codec.specs.Spelling.{last_of, is_behind, Rise}
-
 
 -- one name more
 pub rise_more : (before : Option (List ℕ)) (xs : List (List ℕ)) (x : List ℕ) → Rise (λ n. n) before xs → is_behind (λ n. n) (last_of before xs) x ≡ true → Rise (λ n. n) before (xs ++ x ∷ [])

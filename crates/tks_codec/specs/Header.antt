@@ -1,5 +1,5 @@
 -- The header of a side (this project's own format): from its generation to the length of its world.
-use Rattle.std.specs.Prelude.{◌≡◌, ℕ, ◌<◌, ◌^◌, Bool, true, ◌&&◌, List, [], ◌∷◌, length, Option, Some, None, nat_le}
+use Rattle.std.specs.Prelude.{ℕ, ◌<◌, ◌^◌, Bool, ◌&&◌, List, length, Option, None, nat_le}
 use Rattle.std.specs.List.{AllByRecursion}
 use Rattle.std.specs.Int.{w16, w64}
 use Rattle.tks_text.specs.Size.{Extent}

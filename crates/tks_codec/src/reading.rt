@@ -67,10 +67,7 @@ fn text_len(bytes: &[u8]) -> usize
     ensures value { result ≡ prefix_len is_text_byte bytes.now }
     ensures bound { result ≤ length bytes.now }
 {
-    bytes
-        .iter()
-        .take_while(|byte| is_text_byte(**byte))
-        .count()
+    bytes.iter().take_while(|byte| is_text_byte(**byte)).count()
 }
 
 // A text of so many bytes. What stands behind a text begins with a byte that stands in none, or ends.

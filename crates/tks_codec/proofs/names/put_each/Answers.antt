@@ -1,4 +1,4 @@
-use Rattle.std.proofs.Common.{◌≡◌, ◌++◌, ◌∷◌, [], ◌∙◌, None, ap, sym, subst, take, append_assoc}
+use Rattle.std.proofs.Common.{◌++◌, ◌∷◌, [], ◌∙◌, None, ap, sym, subst, take, append_assoc}
 use Rattle.std.specs.List.{AllByRecursion}
 use Rattle.std.proofs.lemmas.Result.{err_from_is_err_and}
 use Rattle.std.proofs.lemmas.List.{take_more}
@@ -18,6 +18,7 @@ pub loop-name-preserved : goal.loop-name-preserved
 loop-name-preserved c =
     let i = c.loop-name.name-index in
     let x = c.name-item.result in
-    let more = take_more c.args.names.now i x c.loop-name-test.true ∙ ap (λ y. take i c.args.names.now ++ y ∷ []) (sym c.name-item.is) in
-    (c.in_ok-put_text.ensures.puts ∙ rw (c.loop-name.invariant.0, more, members_more name None (take i c.args.names.now) x) (append_assoc c.args.out.now.items (members name None (take i c.args.names.now)) (text.write x)),
-     subst (AllByRecursion IsText) (sym more) (all_more IsText (take i c.args.names.now) x c.loop-name.invariant.1 c.in_ok-put_text.ensures.text))
+    let more = take_more c.args.names.now i x c.loop-name-test.true ∙ ap (λ y. take i c.args.names.now ++ y ∷ []) (sym c.name-item.is) in (
+      c.in_ok-put_text.ensures.puts ∙ rw (c.loop-name.invariant.0, more, members_more name None (take i c.args.names.now) x) (append_assoc c.args.out.now.items (members name None (take i c.args.names.now)) (text.write x)),
+      subst (AllByRecursion IsText) (sym more) (all_more IsText (take i c.args.names.now) x c.loop-name.invariant.1 c.in_ok-put_text.ensures.text),
+    )
