@@ -1,13 +1,14 @@
 -- What holds of each kind of spelling, of what it is made of.
 use Rattle.std.proofs.Common.{◌≡◌, ℕ, zero, suc, ◌+◌, ◌*◌, ◌^◌, ◌<◌, ◌≤◌, ◌⊎◌, inl, inr, Bool, true, false, cond, ltb, leb, eqb, List, [], ◌∷◌, ◌++◌, length, take, drop, Option, Some, None, Result, Ok, Err, refl, sym, ap, subst, ◌∙◌, append_assoc, arith}
-use Rattle.std.specs.Int.{Width, w16, w32, w64, byte_len, from_be_bytes, to_be_bytes}
+use Rattle.std.specs.Int.{Width, w16, w32, w64, byte_len, from_be_bytes, to_be_bytes, cast_unsigned, cast_signed}
 use Rattle.std.proofs.lemmas.Bool.{cases_lt, ltb-false, lt-ltb, le-ltb, eqb-true, leb-true}
 use Rattle.std.proofs.lemmas.List.{append-nil, take_at, drop_at, take-append-drop, length-append, length-take, get_or-drop, get_or-take, get_or_past, nil_from_length}
+use Rattle.std.proofs.lemmas.Int.{of_z-to_z}
 use Rattle.std.proofs.lemmas.Nat.{be_bytes_2, be_bytes_4, be_bytes_8, from_be_bytes-to_be_bytes_2, from_be_bytes-to_be_bytes_4, from_be_bytes-to_be_bytes_8}
 use Rattle.std.specs.Prelude.{◌||◌, ◌&&◌, ◌==◌}
 use Rattle.tks_text.proofs.Texts.{both}
 use Rattle.tks_text.specs.Text.{is_text_byte, IsText}
-use Rattle.tks_codec.specs.Spelling.{◌>>=◌, Spelling, Spells, IsBytes, Lawful, number_at, number, byte_at, byte, passed, such_that, field, through, which, whole, none, pair, is_flag, flag_of, flag, just, count_of, option, is_behind, rising, AreLegal, members, members_at, list_at, list_by, list, text_byte, text}
+use Rattle.tks_codec.specs.Spelling.{◌>>=◌, Spelling, Spells, IsBytes, Lawful, number_at, number, byte_at, byte, passed, such_that, field, through, signed, which, whole, none, pair, is_flag, flag_of, flag, just, count_of, option, is_behind, rising, AreLegal, members, members_at, list_at, list_by, list, text_byte, text}
 use Rattle.tks_codec.proofs.Joining.{not_nil, Stands, in_first, in_second, stands, bind_ok, bind_err, bind_same, bind_done, ok_is, no_fault, Parts, Joins, joined}
 
 abbrev failed : {A : Type 0} → ℕ → Result A ℕ
@@ -290,6 +291,9 @@ module _ {A T : Type 0} (get : T → A) (make : A → T) (s : Spelling A) (told 
       (λ bytes. refl)
       (λ v h. h)
       (λ v h. h)
+
+pub signed64_lawful : Lawful (signed w64)
+signed64_lawful = through_lawful (cast_unsigned w64) (cast_signed w64) (number w64) (λ n lt. of_z-to_z w64 n lt) (number_lawful w64 wide64)
 
 -- ---- two values, truth values, values that may be there
 

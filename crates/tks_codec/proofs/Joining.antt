@@ -114,7 +114,7 @@ module _ {A B T : Type 0} {s : Spelling A} {o : A → Spelling B} {make : A → 
       let m = j.together a.0.0 b.0.0 p.legal q.legal in
       let made : T × List ℕ = (make a.0.0 b.0.0, b.0.1) in
       let whole = glued bytes (s.write a.0.0) a.0.1 ((o a.0.0).write b.0.0) b.0.1 (t.write (make a.0.0 b.0.0)) p.parts q.parts m.1 in
-      subst (λ (x : T × List ℕ). Spells t bytes x.0 x.1) (ok_is made (v, rest) b.2) (record { legal = m.0; parts = whole })
+      subst (λ (x : T × List ℕ). Spells t bytes x.0 x.1) {x = made} (ok_is made (v, rest) b.2) (record { legal = m.0; parts = whole })
 
   inside : (bytes : List ℕ) (left : ℕ) → IsBytes bytes → t.read bytes ≡ Err left → left ≤ length bytes
   inside bytes left fits e =

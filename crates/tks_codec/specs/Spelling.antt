@@ -1,6 +1,6 @@
 -- Spellings: how values are written as bytes and read back (this project's own format).
-use Rattle.std.specs.Prelude.{◌≡◌, ℕ, zero, suc, ◌<◌, ◌≤◌, ◌*◌, ◌^◌, Bool, true, false, List, [], ◌∷◌, ◌++◌, length, take, drop, get_or, Option, Some, None, Result, Ok, Err, nat_lt, nat_le, ◌==◌, if◌then◌else◌}
-use Rattle.std.specs.Int.{Width, w32, byte_len, to_be_bytes, from_be_bytes}
+use Rattle.std.specs.Prelude.{◌≡◌, ℕ, ℤ, zero, suc, ◌<◌, ◌≤◌, ◌*◌, ◌^◌, Bool, true, false, List, [], ◌∷◌, ◌++◌, length, take, drop, get_or, Option, Some, None, Result, Ok, Err, nat_lt, nat_le, ◌==◌, if◌then◌else◌}
+use Rattle.std.specs.Int.{Width, w32, byte_len, to_be_bytes, from_be_bytes, cast_unsigned, cast_signed}
 use Rattle.std.specs.Ordering.{is_lt, nat_cmp}
 use Rattle.std.specs.Cmp.Lexicographic.{slice_cmp}
 use Rattle.tks_text.specs.Text.{is_text_byte, IsText}
@@ -92,6 +92,10 @@ through get make s = record {
   write = λ value. s.write (get value);
   read = λ bytes. s.read bytes >>= λ found. Ok (make found.0, found.1);
 }
+
+-- an integer of so many bits, as its bits
+abbrev pub signed : Width → Spelling ℤ
+signed w = through (cast_unsigned w) (cast_signed w) (number w)
 
 -- this value, of which nothing is left to be spelled
 abbrev pub whole : {T : Type 0} → T → Spelling T
