@@ -1,6 +1,7 @@
 -- What holds of each kind of spelling, of what it is made of.
 use Rattle.std.proofs.Common.{◌≡◌, ℕ, zero, suc, ◌+◌, ◌*◌, ◌^◌, ◌<◌, ◌≤◌, ◌⊎◌, inl, inr, Bool, true, false, cond, ltb, leb, eqb, List, [], ◌∷◌, ◌++◌, length, take, drop, Option, Some, None, Result, Ok, Err, refl, sym, ap, subst, ◌∙◌, append_assoc, arith}
 use Rattle.std.specs.Int.{Width, w16, w32, w64, byte_len, from_be_bytes, to_be_bytes, cast_unsigned, cast_signed}
+use Rattle.std.specs.List.{flat_map, AllByRecursion}
 use Rattle.std.proofs.lemmas.Bool.{cases_lt, ltb-false, lt-ltb, le-ltb, eqb-true, leb-true}
 use Rattle.std.proofs.lemmas.List.{append-nil, take_at, drop_at, take-append-drop, length-append, length-take, get_or-drop, get_or-take, get_or_past, nil_from_length}
 use Rattle.std.proofs.lemmas.Int.{of_z-to_z}
@@ -37,6 +38,19 @@ pub one_front : {T : Type 0} (s : Spelling T) → Lawful s → (a b : T) (x y : 
 one_front {T} s l a b x y p q e =
     let same = ok_is {A = T × List ℕ} (a, x) (b, y) (sym (l.reads_back a x p) ∙ ap s.read e ∙ l.reads_back b y q) in
     (ap (λ (v : T × List ℕ). v.0) same, ap (λ (v : T × List ℕ). v.1) same)
+
+-- Values one behind the other are one list of values.
+pub one_list : {T : Type 0} (s : Spelling T) → Lawful s → ((v : T) → 0 < length (s.write v)) → (xs ys : List T) → AllByRecursion s.Legal xs → AllByRecursion s.Legal ys → flat_map s.write xs ≡ flat_map s.write ys → xs ≡ ys
+one_list s l filled [] [] p q e = refl
+one_list s l filled [] (y ∷ ys) p q e =
+    let n : 0 ≡ length (s.write y) + length (flat_map s.write ys) = ap length e ∙ length-append (s.write y) (flat_map s.write ys) in
+    absurd (omega (arith, n, filled y))
+one_list s l filled (x ∷ xs) [] p q e =
+    let n : length (s.write x) + length (flat_map s.write xs) ≡ 0 = sym (length-append (s.write x) (flat_map s.write xs)) ∙ ap length e in
+    absurd (omega (arith, n, filled x))
+one_list s l filled (x ∷ xs) (y ∷ ys) p q e =
+    let first = one_front s l x y (flat_map s.write xs) (flat_map s.write ys) p.0 q.0 e in
+    ap (λ v. v ∷ xs) first.0 ∙ ap (λ vs. y ∷ vs) (one_list s l filled xs ys p.1 q.1 first.1)
 
 -- ---- nothing left to be spelled
 

@@ -1,5 +1,5 @@
 -- What holds of the spellings of inputs.
-use Rattle.std.proofs.Common.{◌≡◌, ℕ, List, ◌==◌, refl, sym, ap, ◌∙◌, arith}
+use Rattle.std.proofs.Common.{◌≡◌, ℕ, ◌<◌, List, length, ◌==◌, refl, sym, ap, ◌∙◌, arith}
 use Rattle.std.specs.Int.{w16, w64}
 use Rattle.std.proofs.lemmas.Bool.{eqb-true}
 use Rattle.tks_input.specs.declared.input.Input.{Input}
@@ -52,3 +52,6 @@ input_legal (Press b x y) h = ((omega arith, refl), (omega (arith, h.0), (h.1, (
 input_legal (Release b x y) h = ((omega arith, refl), (omega (arith, h.0), (h.1, (h.2, refl))))
 input_legal (Clock t) h = ((omega arith, refl), (h, refl))
 input_legal Turn h = ((omega arith, refl), refl)
+
+pub input_filled : (i : Input) → 0 < length (input.write i)
+input_filled i = omega arith

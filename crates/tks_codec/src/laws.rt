@@ -1,7 +1,7 @@
 //! Laws of the spellings.
 
 ghost use Rattle.std.specs.Prelude.{◌≡◌, ℕ, ◌<◌, ◌^◌, ◌++◌, ◌∷◌, [], List, codes};
-ghost use Rattle.std.specs.List.{AllByRecursion};
+ghost use Rattle.std.specs.List.{AllByRecursion, flat_map};
 ghost use Rattle.tks_text.specs.Size.{IsGridSize};
 ghost use Rattle.tks_text.specs.Text.{IsText};
 ghost use Rattle.tks_input.specs.declared.input.Input.{Input};
@@ -24,6 +24,8 @@ pub fn one_header()
 pub fn one_input()
     ensures spelled { (i : Input) → IsInput i → input.Legal i }
     ensures one { (a b : Input) (x y : List ℕ) → input.Legal a → input.Legal b → input.write a ++ x ≡ input.write b ++ y → (a ≡ b) × (x ≡ y) }
+    // Inputs one behind the other are one list of inputs.
+    ensures list { (xs ys : List Input) → AllByRecursion input.Legal xs → AllByRecursion input.Legal ys → flat_map input.write xs ≡ flat_map input.write ys → xs ≡ ys }
     ensures lawful { Lawful input }
 {}
 
