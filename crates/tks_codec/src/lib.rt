@@ -1,0 +1,16 @@
+//! Inputs and headers as bytes, read back exactly, and nothing else read.
+#![tactic(auto)]
+
+mod fault;
+mod header;
+mod input;
+mod laws;
+mod names;
+mod reading;
+mod unread;
+mod writing;
+
+pub use fault::CodecFault;
+pub use header::{Header, read_header, write_header};
+pub use input::{has_spelling, read_input, write_input};
+pub use laws::{one_header, one_input, two_inputs};
