@@ -65,3 +65,8 @@ bound tag sequence (p ∷ more) c = set tag sequence (made (script_for tag seque
 abbrev pub spelled : List ℕ → List Binding → List (List ℕ)
 spelled tag [] = []
 spelled tag (b ∷ bs) = if same_text b.tag tag then canonical b.sequence ∷ spelled tag bs else spelled tag bs
+
+-- without the bindings of a tag
+abbrev pub without_tag : List ℕ → List Binding → List Binding
+without_tag tag [] = []
+without_tag tag (b ∷ bs) = if same_text b.tag tag then without_tag tag bs else b ∷ without_tag tag bs

@@ -1,5 +1,6 @@
 -- By which index the code finds a binding.
 use Rattle.std.specs.Prelude.{ℕ, suc, if◌then◌else◌, List, [], ◌∷◌, Option, Some, None}
+use Rattle.tks_text.specs.Text.{same_text}
 use Rattle.tks_event.specs.declared.pattern.Pattern.{Pattern}
 use Rattle.tks_bind.specs.declared.binding.Binding.{Binding}
 use Rattle.tks_bind.specs.Binding.{Content, is_for}
@@ -13,3 +14,8 @@ index_of tag sequence (b ∷ bs) = if is_for tag sequence b then 0 else suc (ind
 abbrev pub then_of : Option (List Binding) → ℕ → Option Content
 then_of None next = None
 then_of (Some bindings) next = Some (record { bindings = bindings; next = next })
+
+-- the index of the first binding of a tag, or the end
+abbrev pub index_tagged : List ℕ → List Binding → ℕ
+index_tagged tag [] = 0
+index_tagged tag (b ∷ bs) = if same_text b.tag tag then 0 else suc (index_tagged tag bs)

@@ -2,9 +2,9 @@
 ghost use Rattle.std.specs.Prelude.{◌≡◌, ◌≢◌, ◌↔◌, ◌≤◌, ◌<◌, ◌^◌, [], ◌∷◌, ◌++◌, length, map, Some, None, Err, IsSome, is_some, IfSome, IfOk, OnOk, OnErr, option_copied};
 ghost use Rattle.tks_text.specs.Text.{IsText};
 ghost use Rattle.tks_event.specs.Canonical.{canonical};
-ghost use Rattle.tks_bind.specs.Binding.{Content, nothing, script_for, placed, without, set, unset, made, appended, bound, spelled};
+ghost use Rattle.tks_bind.specs.Binding.{Content, nothing, script_for, placed, without, set, unset, made, appended, bound, spelled, without_tag};
 ghost use Rattle.tks_bind.specs.Chosen.{ChosenSo};
-ghost use Rattle.tks_bind.specs.Indexes.{index_of};
+ghost use Rattle.tks_bind.specs.Indexes.{index_of, index_tagged};
 
 use crate::binding::Binding;
 use crate::fault::BindFault;
@@ -122,6 +122,13 @@ impl Bindings {
         Ok(())
     }
 
+    /// Takes all bindings of a tag away. It takes no memory.
+    pub fn drop_tag(&mut self, tag: &Txt)
+        ensures { self.new ≡ record self.old { present = record self.old.present { bindings = without_tag tag.now self.old.present.bindings } } }
+    {
+        drop_tagged(&mut self.bindings, tag);
+    }
+
     // Takes a binding away, if it is there.
     #[tactic(auto, using(crate::proofs::Placing::taken_there, crate::proofs::Placing::none_taken))]
     fn unset(&mut self, tag: &Txt, sequence: &Sequence)
@@ -208,6 +215,32 @@ fn index_of(bindings: &Marked<Binding>, tag: &Txt, sequence: &Sequence) -> usize
         left -= 1;
     }
     len
+}
+
+// The index of the first binding of a tag, or the end.
+fn index_tagged(bindings: &Marked<Binding>, tag: &Txt) -> usize
+    ensures { result ≡ index_tagged tag.now bindings.now.present }
+{
+    let len = bindings.len();
+    let mut left = len;
+    for binding in bindings.items() {
+        if binding.tag == *tag {
+            return len - left;
+        }
+        left -= 1;
+    }
+    len
+}
+
+// Takes all bindings of a tag away.
+fn drop_tagged(bindings: &mut Marked<Binding>, tag: &Txt)
+    ensures { bindings.new ≡ record bindings.old { present = without_tag tag.now bindings.old.present } }
+{
+    let mut index = index_tagged(bindings, tag);
+    while index < bindings.len() {
+        bindings.remove(index);
+        index = index_tagged(bindings, tag);
+    }
 }
 
 fn script_for<'a>(bindings: &'a Marked<Binding>, tag: &Txt, sequence: &Sequence) -> Option<&'a Txt>
