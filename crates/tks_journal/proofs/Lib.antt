@@ -1,0 +1,6 @@
+mod Frames
+mod Fronts
+mod Gates
+mod Lists
+mod Phases
+mod Stages

@@ -1,0 +1,34 @@
+-- What holds of a disk between two calls of a journal.
+use Rattle.std.specs.Prelude.{◌≡◌, ◌≢◌, ◌<◌, ◌⊎◌, ℕ, List, [], ◌∷◌, ◌++◌, length, take, slice_index, Option, Some, Result}
+use Rattle.tks_disk.specs.DiskModel.{View, Images, on, beside}
+use Rattle.tks_disk.specs.declared.disk.Side.{Side}
+use Rattle.tks_journal.specs.Moments.{IsSettled}
+use Rattle.tks_journal.specs.declared.fault.SideFault.{SideFault}
+use Rattle.tks_journal.specs.Sides.{Kept, holds, with_frames, live_of, pair, framed, AllShort}
+
+-- Whatever frames are put behind the closed gate at this place, and whatever stands behind the closed gate after them, the
+-- sides hold what they hold now, and these frames.
+pub record Carries (live : Side) (gate : ℕ) (reads : Images) : Type 0 where
+  pub carries : (more : List (List ℕ)) (shut : ℕ) (rest : List ℕ) → AllShort more → shut ≢ 1
+      → holds (pair live (take gate (on live reads) ++ (framed more ++ shut ∷ rest)) (beside live reads)) ≡ with_frames more (holds reads)
+
+-- all is synced, with a closed gate at this place of the live side
+pub record AtRest (view : View) (live : Side) (gate : ℕ) : Type 0 where
+  pub settled : IsSettled view
+  pub within : gate < length (on live view.reads)
+  pub shut : slice_index (on live view.reads) gate ≢ 1
+  pub carries : Carries live gate view.reads
+
+-- a disk at rest, of which this side is live, in this generation
+pub record Rests (view : View) (live : Side) (generation gate : ℕ) : Type 0 where
+  pub at_rest : AtRest view live gate
+  pub is_live : live_of (holds view.reads) ≡ Some (live, generation)
+
+-- what is read holds this, and so does all that a crash now may leave
+pub record AllHold (view : View) (kept : Result (Option Kept) SideFault) : Type 0 where
+  pub reads : holds view.reads ≡ kept
+  pub images : (i : Images) → view.may_leave i → holds i ≡ kept
+
+-- the sides hold what these held, or that with this frame too
+abbrev pub BeforeOrAfter : Images → List ℕ → Images → Type 0
+BeforeOrAfter old body i = (holds i ≡ holds old) ⊎ (holds i ≡ with_frames (body ∷ []) (holds old))

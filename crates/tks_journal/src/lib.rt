@@ -1,0 +1,9 @@
+//! Frames on a disk of two sides that may lose power at any moment.
+#![tactic(auto)]
+
+mod fault;
+mod frame;
+mod gate;
+mod pieces;
+
+pub use fault::SideFault;
