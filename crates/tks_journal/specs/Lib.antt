@@ -1,5 +1,5 @@
+pub mod Journal
 pub mod Moments
-pub mod Heading
 pub mod Sides
 pub mod Resting
 pub mod Staging

@@ -4,7 +4,9 @@ use Rattle.std.specs.Int.{w32, from_be_bytes, to_be_bytes}
 use Rattle.tks_disk.specs.DiskModel.{Images}
 use Rattle.tks_disk.specs.declared.disk.Side.{Side}
 use Rattle.tks_disk.specs.declared.disk.Side.TheVariants.{A, B}
-use Rattle.tks_journal.specs.Heading.{Header, header_at}
+use Rattle.tks_codec.specs.Header.{header_at}
+use Rattle.tks_codec.specs.Spelling.{Read}
+use Rattle.tks_codec.specs.declared.header.Header.{Header}
 use Rattle.tks_journal.specs.declared.fault.SideFault.{SideFault}
 use Rattle.tks_journal.specs.declared.fault.SideFault.TheVariants.{UnknownFormat, Damaged}
 
@@ -32,9 +34,9 @@ pub data Face : Type 0 where
 abbrev pub is_given : ℕ → Bool
 is_given generation = nat_lt 0 generation && nat_le generation (2 ^ 62)
 
-abbrev pub headed : Option (Header × List ℕ) → Face
-headed None = broken
-headed (Some x) = if is_given x.0.generation then whole x.0 x.1 else broken
+abbrev pub headed : Read Header → Face
+headed (Err left) = broken
+headed (Ok x) = if is_given x.0.generation then whole x.0 x.1 else broken
 
 unfoldable pub face : List ℕ → Face
 face bytes = if is_closed bytes then closed else (if format_of bytes == 1 then headed (header_at (drop 2 bytes)) else unknown)

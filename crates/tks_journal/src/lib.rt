@@ -4,6 +4,8 @@
 mod fault;
 mod frame;
 mod gate;
+mod journal;
 mod pieces;
 
 pub use fault::SideFault;
+pub use journal::Journal;

@@ -1,0 +1,109 @@
+//! A live side at rest, to which frames are added.
+ghost use Rattle.std.specs.Prelude.{◌≡◌, ◌↔◌, ◌<◌, ◌^◌, ◌+◌, ◌∷◌, [], ℕ, true, false, OnOk, OnErr, length, Some};
+ghost use Rattle.tks_disk.specs.DiskModel.{Counts};
+
+use crate::frame::append_frame;
+use std::marker::Model;
+use tks_disk::{DeviceFault, Disk, Side};
+
+/// The most bytes that a side grows to.
+const SIDE_MAX: usize = 1 << 40;
+
+/// What two sides hold, open for more: a live side, with a closed gate behind its last frame.
+///
+/// Once a call has failed, what the disk holds is known no longer but by opening it again.
+#[derive(Drop)]
+pub struct Journal<D: Disk> {
+    disk: D,
+    live: Side,
+    generation: u64,
+    gate: usize,
+    failed: bool,
+}
+
+impl<D: Disk> Model for Journal<D> {
+    ghost use Rattle.std.specs.Prelude.{◌≡◌, ◌<◌, ◌^◌, false};
+    ghost use Rattle.tks_journal.specs.Journal.{JournalState};
+    ghost use Rattle.tks_journal.specs.Resting.{Rests};
+
+    ghost Value = { JournalState D };
+
+    ghost view = { λ j. record { disk = j.disk; live = j.live; generation = j.generation; gate = j.gate; failed = j.failed } };
+
+    ghost invariant = { λ j. (j.failed ≡ false → D.honest j.disk → Rests (D.view j.disk) j.live j.generation j.gate) × (j.gate < 2 ^ 40) };
+}
+
+impl<D: Disk> Journal<D> {
+    ghost use Rattle.tks_journal.specs.Journal.{JournalState, room_for};
+    ghost use Rattle.tks_journal.specs.Moments.{LeavesOnly, IsSettled};
+    ghost use Rattle.tks_journal.specs.Resting.{Rests, AllHold, BeforeOrAfter};
+    ghost use Rattle.tks_journal.specs.Sides.{holds, live_of, with_frames};
+
+    /// While no call has failed, a crash leaves just what is read, and this side is live in it.
+    pub fn stands(&self)
+        ensures { self.now.failed ≡ false → D.honest self.now.disk
+            → IsSettled (D.view self.now.disk) × (live_of (holds (D.view self.now.disk).reads) ≡ Some (self.now.live, self.now.generation)) }
+    {
+        let _ = &self.failed;
+    }
+
+    /// How many sides were begun by now, the live one counted.
+    pub fn generation(&self) -> u64
+        ensures { result ≡ self.now.generation }
+    {
+        self.generation
+    }
+
+    /// Whether a call has failed.
+    pub fn has_failed(&self) -> bool
+        ensures { result ≡ self.now.failed }
+    {
+        self.failed
+    }
+
+    /// Whether a frame of so many bytes finds room: it is shorter than 2^32, and the side stays within 2^40 bytes.
+    pub fn has_room(&self, count: usize) -> bool
+        ensures { result ≡ room_for self.now count }
+    {
+        count < 1 << 32 && count <= SIDE_MAX && self.gate + 6 + count <= SIDE_MAX
+    }
+
+    /// Puts a frame of these bytes behind the others. It takes no memory.
+    pub fn append(&mut self, body: &[u8]) -> Result<(), DeviceFault>
+        requires working { self.old.failed ≡ false }
+        requires room { room_for self.old (length body.now) ≡ true }
+
+        // At Ok, what is read, and all that a crash may leave, holds the frame too.
+        ensures added { OnOk result (D.honest self.old.disk
+            → AllHold (D.view self.new.disk) (with_frames (body.now ∷ []) (holds (D.view self.old.disk).reads))) }
+
+        // A crash at any moment of the call leaves what was held, with the frame or without.
+        ensures any_moment { D.honest self.old.disk
+            → LeavesOnly (D.view self.old.disk) (D.view self.new.disk) (BeforeOrAfter (D.view self.old.disk).reads body.now) }
+
+        ensures ok { OnOk result (self.new ≡ record self.old { disk = self.new.disk; gate = self.old.gate + 5 + length body.now }) }
+        ensures err { OnErr result (self.new ≡ record self.old { disk = self.new.disk; failed = true }) }
+        ensures honesty { D.honest self.old.disk ↔ D.honest self.new.disk }
+        ensures counts { Counts result (D.failures self.old.disk) (D.failures self.new.disk) }
+    {
+        self.failed = true;
+        append_frame(&mut self.disk, self.live, self.gate, body)?;
+        self.gate += 5 + body.len();
+        self.failed = false;
+        Ok(())
+    }
+
+    /// Gives the disk back, and makes no call of it.
+    pub fn into_disk(self) -> D
+        ensures { result ≡ self.disk }
+    {
+        let Journal {
+            disk,
+            live: _,
+            generation: _,
+            gate: _,
+            failed: _,
+        } = self;
+        disk
+    }
+}
