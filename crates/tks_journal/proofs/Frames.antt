@@ -10,7 +10,7 @@ use Rattle.tks_journal.specs.Moments.{IsSettled}
 use Rattle.tks_journal.specs.Sides.{holds, with_frames, live_of, pair, framed, AllShort, Kept}
 use Rattle.tks_journal.specs.declared.fault.SideFault.{SideFault}
 use Rattle.tks_journal.specs.Staging.{Begins, Staged, AtGate, Opened}
-use Rattle.tks_journal.specs.Resting.{AtRest, BeforeOrAfter}
+use Rattle.tks_journal.specs.Resting.{AtRest, OneOf}
 use Rattle.tks_journal.proofs.Gates.{pair_of, on_pair}
 use Rattle.tks_journal.proofs.Lists.{at_place, take_less}
 use Rattle.tks_journal.proofs.Stages.{front_long, reaches}
@@ -54,7 +54,7 @@ module _ (v : View) (live : Side) (gate : ℕ) (rest : AtRest v live gate) (body
   shut_holds i g tail is shut = ap holds is ∙ rest.carries.carries [] g tail tt shut ∙ no_frames old
 
   -- while the frame is written
-  pub behind_holds : (i : Images) → Begins live (take (gate + 1) x0) other i → BeforeOrAfter v.reads body i
+  pub behind_holds : (i : Images) → Begins live (take (gate + 1) x0) other i → OneOf old (with_frames (body ∷ []) old) i
   behind_holds i b =
       let x = on live i in
       let stem : take (gate + 1) x ≡ take (gate + 1) x0 = ap (λ k. take k x) (sym stem_is) ∙ b.front in
@@ -112,7 +112,7 @@ module _ (v : View) (live : Side) (gate : ℕ) (rest : AtRest v live gate) (body
         ∙ rest.carries.carries (body ∷ []) 0 junk (short, tt) (omega arith)
 
     -- while the gate is opened
-    pub gate_holds : (i : Images) → AtGate live gate m.reads i → BeforeOrAfter v.reads body i
+    pub gate_holds : (i : Images) → AtGate live gate m.reads i → OneOf old (with_frames (body ∷ []) old) i
     gate_holds i a = elim (cases_eq (get_or (on live i) gate 0) 1) [
       | inl is_open ↦ inr (open_holds i a is_open)
       | inr shut ↦ inl (shut_holds i (get_or (on live i) gate 0) (written ++ junk) (parts i a) shut)

@@ -1,8 +1,9 @@
 -- Bytes that are written behind a closed gate, and the gate's own byte.
-use Rattle.std.specs.Prelude.{◌≡◌, ℕ, ◌+◌, List, ◌++◌, length, take, drop, slice_index}
+use Rattle.std.specs.Prelude.{◌≡◌, ◌≢◌, ◌<◌, ◌⊎◌, ℕ, ◌+◌, Bool, true, false, List, [], ◌++◌, length, take, drop, slice_index}
 use Rattle.tks_disk.specs.DiskModel.{View, Images, on, beside}
 use Rattle.tks_disk.specs.declared.disk.Side.{Side}
 use Rattle.tks_journal.specs.Moments.{LeavesOnly, IsSettled}
+use Rattle.tks_journal.specs.Sides.{is_closed}
 
 -- this side begins with these bytes, and the other side is this
 pub record Begins (side : Side) (stem other : List ℕ) (i : Images) : Type 0 where
@@ -37,3 +38,20 @@ pub record Opened (side : Side) (place : ℕ) (old new : View) : Type 0 where
   pub settled : IsSettled new
   pub at_gate : AtGate side place old.reads new.reads
   pub is_open : slice_index (on side new.reads) place ≡ 1
+
+-- the other side is as it was, and this one too, or it is closed
+pub record Closing (side : Side) (reads i : Images) : Type 0 where
+  pub other_side : beside side i ≡ beside side reads
+  pub either : (on side i ≡ on side reads) ⊎ (is_closed (on side i) ≡ true)
+
+-- all is synced, and this side has a gate, which is closed
+pub record Shut (side : Side) (old new : View) : Type 0 where
+  pub settled : IsSettled new
+  pub other_side : beside side new.reads ≡ beside side old.reads
+  pub some : 0 < length (on side new.reads)
+  pub shut : slice_index (on side new.reads) 0 ≢ 1
+
+-- Is a write needed to close a gate? It is where the side is empty, or its gate open.
+pub record ClosesBy (answer : Bool) (bytes : List ℕ) : Type 0 where
+  pub write : answer ≡ true → (bytes ≡ []) ⊎ (slice_index bytes 0 ≡ 1)
+  pub none : answer ≡ false → (0 < length bytes) × (slice_index bytes 0 ≢ 1)

@@ -4,7 +4,7 @@ ghost use Rattle.std.specs.Int.{w32, to_be_bytes};
 ghost use Rattle.tks_disk.specs.DiskModel.{View, Images, on, beside, Counts};
 ghost use Rattle.tks_journal.specs.Moments.{LeavesOnly, IsSettled};
 ghost use Rattle.tks_journal.specs.Staging.{Begins, Staged};
-ghost use Rattle.tks_journal.specs.Resting.{AtRest, BeforeOrAfter};
+ghost use Rattle.tks_journal.specs.Resting.{AtRest, OneOf};
 ghost use Rattle.tks_journal.specs.Sides.{holds, with_frames};
 
 use crate::gate::open_gate;
@@ -49,7 +49,8 @@ pub fn append_frame<D: Disk>(
     requires at_rest { D.honest disk.old → AtRest (D.view disk.old) live gate }
     ensures at_rest { OnOk result (D.honest disk.old → AtRest (D.view disk.new) live (gate + 5 + length body.now)) }
     ensures holds { OnOk result (D.honest disk.old → holds (D.view disk.new).reads ≡ with_frames (body.now ∷ []) (holds (D.view disk.old).reads)) }
-    ensures any_moment { D.honest disk.old → LeavesOnly (D.view disk.old) (D.view disk.new) (BeforeOrAfter (D.view disk.old).reads body.now) }
+    ensures any_moment { D.honest disk.old → LeavesOnly (D.view disk.old) (D.view disk.new)
+        (OneOf (holds (D.view disk.old).reads) (with_frames (body.now ∷ []) (holds (D.view disk.old).reads))) }
     ensures honesty { D.honest disk.old ↔ D.honest disk.new }
     ensures counts { Counts result (D.failures disk.old) (D.failures disk.new) }
 {

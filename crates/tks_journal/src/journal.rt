@@ -24,19 +24,19 @@ pub struct Journal<D: Disk> {
 impl<D: Disk> Model for Journal<D> {
     ghost use Rattle.std.specs.Prelude.{◌≡◌, ◌<◌, ◌^◌, false};
     ghost use Rattle.tks_journal.specs.Journal.{JournalState};
-    ghost use Rattle.tks_journal.specs.Resting.{Rests};
+    ghost use Rattle.tks_journal.specs.Resting.{IsLive};
 
     ghost Value = { JournalState D };
 
     ghost view = { λ j. record { disk = j.disk; live = j.live; generation = j.generation; gate = j.gate; failed = j.failed } };
 
-    ghost invariant = { λ j. (j.failed ≡ false → D.honest j.disk → Rests (D.view j.disk) j.live j.generation j.gate) × (j.gate < 2 ^ 40) };
+    ghost invariant = { λ j. (j.failed ≡ false → D.honest j.disk → IsLive (D.view j.disk) j.live j.generation j.gate) × (j.gate < 2 ^ 40) };
 }
 
 impl<D: Disk> Journal<D> {
     ghost use Rattle.tks_journal.specs.Journal.{JournalState, room_for};
     ghost use Rattle.tks_journal.specs.Moments.{LeavesOnly, IsSettled};
-    ghost use Rattle.tks_journal.specs.Resting.{Rests, AllHold, BeforeOrAfter};
+    ghost use Rattle.tks_journal.specs.Resting.{AllHold, OneOf};
     ghost use Rattle.tks_journal.specs.Sides.{holds, live_of, with_frames};
 
     /// While no call has failed, a crash leaves just what is read, and this side is live in it.
@@ -79,7 +79,7 @@ impl<D: Disk> Journal<D> {
 
         // A crash at any moment of the call leaves what was held, with the frame or without.
         ensures any_moment { D.honest self.old.disk
-            → LeavesOnly (D.view self.old.disk) (D.view self.new.disk) (BeforeOrAfter (D.view self.old.disk).reads body.now) }
+            → LeavesOnly (D.view self.old.disk) (D.view self.new.disk) (OneOf (holds (D.view self.old.disk).reads) (with_frames (body.now ∷ []) (holds (D.view self.old.disk).reads))) }
 
         ensures ok { OnOk result (self.new ≡ record self.old { disk = self.new.disk; gate = self.old.gate + 5 + length body.now }) }
         ensures err { OnErr result (self.new ≡ record self.old { disk = self.new.disk; failed = true }) }

@@ -6,6 +6,7 @@ mod frame;
 mod gate;
 mod journal;
 mod pieces;
+mod side;
 
 pub use fault::SideFault;
 pub use journal::Journal;

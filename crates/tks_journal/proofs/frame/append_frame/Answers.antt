@@ -1,6 +1,7 @@
-use Rattle.std.proofs.Common.{◌+◌, take}
+use Rattle.std.proofs.Common.{◌+◌, ◌∷◌, [], take}
 use Rattle.tks_disk.specs.DiskModel.{on, beside}
-use Rattle.tks_journal.specs.Resting.{BeforeOrAfter}
+use Rattle.tks_journal.specs.Resting.{OneOf}
+use Rattle.tks_journal.specs.Sides.{holds, with_frames}
 use Rattle.tks_journal.specs.Staging.{Begins, AtGate}
 use Rattle.tks_journal.proofs.Phases.{then, weaker}
 use Rattle.tks_journal.proofs.Frames.{behind_holds, gate_holds, staged_long, opened_holds, opened_rests}
@@ -19,7 +20,7 @@ open_gate-requires g c =
 pub returns-in_err-stage_frame-clause-any_moment : goal.returns-in_err-stage_frame-clause-any_moment
 returns-in_err-stage_frame-clause-any_moment g c h =
     let v = g.D.Disk.view c.args.disk.now in
-    weaker v (g.D.Disk.view c.stage_frame.new.disk) (Begins c.args.live (take (c.args.gate + 1) (on c.args.live v.reads)) (beside c.args.live v.reads)) (BeforeOrAfter v.reads c.args.body.now)
+    weaker v (g.D.Disk.view c.stage_frame.new.disk) (Begins c.args.live (take (c.args.gate + 1) (on c.args.live v.reads)) (beside c.args.live v.reads)) (OneOf (holds v.reads) (with_frames (c.args.body.now ∷ []) (holds v.reads)))
     (behind_holds v c.args.live c.args.gate (c.requires.at_rest h) c.args.body.now c.requires.short) (c.stage_frame.ensures.any_moment h)
 
 pub returns-in_err-open_gate-clause-any_moment : goal.returns-in_err-open_gate-clause-any_moment
@@ -30,10 +31,10 @@ returns-in_err-open_gate-clause-any_moment g c h =
     let rest = c.requires.at_rest h in
     let h1 = c.stage_frame.ensures.honesty.0 h in
     let staged = c.in_ok-stage_frame.ensures.staged h in
-    let first = weaker v m (Begins c.args.live (take (c.args.gate + 1) (on c.args.live v.reads)) (beside c.args.live v.reads)) (BeforeOrAfter v.reads c.args.body.now)
+    let first = weaker v m (Begins c.args.live (take (c.args.gate + 1) (on c.args.live v.reads)) (beside c.args.live v.reads)) (OneOf (holds v.reads) (with_frames (c.args.body.now ∷ []) (holds v.reads)))
       (behind_holds v c.args.live c.args.gate rest c.args.body.now c.requires.short) (c.stage_frame.ensures.any_moment h) in
-    then v m f (BeforeOrAfter v.reads c.args.body.now) first
-    (weaker m f (AtGate c.args.live c.args.gate m.reads) (BeforeOrAfter v.reads c.args.body.now) (gate_holds v c.args.live c.args.gate rest c.args.body.now c.requires.short m staged) (c.open_gate.ensures.any_moment h1))
+    then v m f (OneOf (holds v.reads) (with_frames (c.args.body.now ∷ []) (holds v.reads))) first
+    (weaker m f (AtGate c.args.live c.args.gate m.reads) (OneOf (holds v.reads) (with_frames (c.args.body.now ∷ []) (holds v.reads))) (gate_holds v c.args.live c.args.gate rest c.args.body.now c.requires.short m staged) (c.open_gate.ensures.any_moment h1))
 
 pub returns-clause-any_moment : goal.returns-clause-any_moment
 returns-clause-any_moment g c h =
@@ -43,10 +44,10 @@ returns-clause-any_moment g c h =
     let rest = c.requires.at_rest h in
     let h1 = c.stage_frame.ensures.honesty.0 h in
     let staged = c.in_ok-stage_frame.ensures.staged h in
-    let first = weaker v m (Begins c.args.live (take (c.args.gate + 1) (on c.args.live v.reads)) (beside c.args.live v.reads)) (BeforeOrAfter v.reads c.args.body.now)
+    let first = weaker v m (Begins c.args.live (take (c.args.gate + 1) (on c.args.live v.reads)) (beside c.args.live v.reads)) (OneOf (holds v.reads) (with_frames (c.args.body.now ∷ []) (holds v.reads)))
       (behind_holds v c.args.live c.args.gate rest c.args.body.now c.requires.short) (c.stage_frame.ensures.any_moment h) in
-    then v m f (BeforeOrAfter v.reads c.args.body.now) first
-    (weaker m f (AtGate c.args.live c.args.gate m.reads) (BeforeOrAfter v.reads c.args.body.now) (gate_holds v c.args.live c.args.gate rest c.args.body.now c.requires.short m staged) (c.open_gate.ensures.any_moment h1))
+    then v m f (OneOf (holds v.reads) (with_frames (c.args.body.now ∷ []) (holds v.reads))) first
+    (weaker m f (AtGate c.args.live c.args.gate m.reads) (OneOf (holds v.reads) (with_frames (c.args.body.now ∷ []) (holds v.reads))) (gate_holds v c.args.live c.args.gate rest c.args.body.now c.requires.short m staged) (c.open_gate.ensures.any_moment h1))
 
 pub returns-clause-at_rest : goal.returns-clause-at_rest
 returns-clause-at_rest g c h =

@@ -1,0 +1,70 @@
+//! A side that is begun: its header and world, behind a gate that is opened last.
+ghost use Rattle.std.specs.Prelude.{◌≡◌, ◌↔◌, ◌<◌, ◌^◌, ◌+◌, ◌++◌, ◌∷◌, [], ℕ, true, List, OnOk, length, take, Ok};
+ghost use Rattle.tks_codec.specs.Header.{header_at};
+ghost use Rattle.tks_disk.specs.DiskModel.{View, Images, on, beside, Counts};
+ghost use Rattle.tks_journal.specs.Moments.{LeavesOnly, IsSettled};
+ghost use Rattle.tks_journal.specs.Staging.{Begins, Staged};
+ghost use Rattle.tks_journal.specs.Resting.{AtRest, OneOf, Vacant, begun_as};
+ghost use Rattle.tks_journal.specs.Sides.{holds, is_given};
+
+use crate::gate::{close_gate, open_gate};
+use crate::pieces::write_pieces;
+use tks_codec::Header;
+use tks_disk::{DeviceFault, Disk, Side};
+
+/// The format in which sides are written.
+const FORMAT: u8 = 1;
+
+/// Writes the format, the header, the world and a closed gate behind the gate at the front, which stays closed, and syncs the
+/// side.
+fn stage_side<D: Disk>(
+    disk: &mut D,
+    side: Side,
+    head: &[u8],
+    world: &[u8],
+) -> Result<(), DeviceFault>
+    requires room { length head.now + length world.now < 2 ^ 41 }
+    requires some { D.honest disk.old → 0 < length (on side (D.view disk.old).reads) }
+    requires settled { D.honest disk.old → IsSettled (D.view disk.old) }
+    ensures any_moment { D.honest disk.old → LeavesOnly (D.view disk.old) (D.view disk.new)
+        (Begins side (take 1 (on side (D.view disk.old).reads)) (beside side (D.view disk.old).reads)) }
+    ensures staged { OnOk result (D.honest disk.old
+        → Staged side 1 (1 ∷ head.now ++ (world.now ++ 0 ∷ [])) (D.view disk.old) (D.view disk.new)) }
+    ensures honesty { D.honest disk.old ↔ D.honest disk.new }
+    ensures counts { Counts result (D.failures disk.old) (D.failures disk.new) }
+{
+    write_pieces(disk, side, 1, &[FORMAT])?;
+    write_pieces(disk, side, 2, head)?;
+    write_pieces(disk, side, 2 + head.len(), world)?;
+    write_pieces(disk, side, 2 + head.len() + world.len(), &[0])?;
+    disk.sync(side)?;
+    Ok(())
+}
+
+/// Begins a side with this header, spelled as `head`, and this world: closes its gate, writes what stands behind it, and opens
+/// it.
+pub fn start_side<D: Disk>(
+    disk: &mut D,
+    side: Side,
+    header: &Header,
+    head: &[u8],
+    world: &[u8],
+) -> Result<(), DeviceFault>
+    requires spelled { (rest : List ℕ) → header_at (head.now ++ rest) ≡ Ok (header.now, rest) }
+    requires given { is_given header.now.generation ≡ true }
+    requires whole { header.now.world_length ≡ length world.now }
+    requires room { length head.now + length world.now < 2 ^ 41 }
+    requires settled { D.honest disk.old → IsSettled (D.view disk.old) }
+    requires vacant { D.honest disk.old → Vacant side header.now.generation (D.view disk.old).reads }
+    ensures at_rest { OnOk result (D.honest disk.old → AtRest (D.view disk.new) side (2 + length head.now + length world.now)) }
+    ensures holds { OnOk result (D.honest disk.old → holds (D.view disk.new).reads ≡ begun_as side header.now world.now) }
+    ensures any_moment { D.honest disk.old → LeavesOnly (D.view disk.old) (D.view disk.new)
+        (OneOf (holds (D.view disk.old).reads) (begun_as side header.now world.now)) }
+    ensures honesty { D.honest disk.old ↔ D.honest disk.new }
+    ensures counts { Counts result (D.failures disk.old) (D.failures disk.new) }
+{
+    close_gate(disk, side)?;
+    stage_side(disk, side, head, world)?;
+    open_gate(disk, side, 0)?;
+    Ok(())
+}
