@@ -1,9 +1,9 @@
 mod Closes
+mod Faces
 mod Frames
 mod Fronts
 mod Gates
 mod Lists
 mod Phases
-mod Reads
 mod Stages
 mod Starts

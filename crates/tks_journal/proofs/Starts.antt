@@ -14,7 +14,7 @@ use Rattle.tks_journal.specs.Resting.{AtRest, OneOf, Vacant, gives_way, begun_as
 use Rattle.tks_journal.proofs.Gates.{pair_of, on_pair, exact}
 use Rattle.tks_journal.proofs.Lists.{at_place}
 use Rattle.tks_journal.proofs.Stages.{front_long}
-use Rattle.tks_journal.proofs.Reads.{closed_front, closed_gate, begun_face, live_holds, begun_content}
+use Rattle.tks_journal.proofs.Faces.{closed_front, closed_gate, begun_face, live_holds, begun_content}
 
 module _ (v : View) (side : Side) (header : Header) (head world : List ℕ) (spelled : (rest : List ℕ) → header_at (head ++ rest) ≡ Ok (header, rest)) (given : is_given header.generation ≡ true)
     (size : header.world_length ≡ length world) (vacant : Vacant side header.generation v.reads) where
