@@ -7,3 +7,4 @@ mod Lists
 mod Phases
 mod Stages
 mod Starts
+mod Vacancies

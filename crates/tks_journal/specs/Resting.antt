@@ -30,6 +30,11 @@ pub record AllHold (view : View) (kept : Result (Option Kept) SideFault) : Type 
   pub reads : holds view.reads ≡ kept
   pub images : (i : Images) → view.may_leave i → holds i ≡ kept
 
+-- all is synced, and both sides are closed
+pub record HoldsNothing (view : View) : Type 0 where
+  pub settled : IsSettled view
+  pub nothing : holds view.reads ≡ Ok None
+
 -- the sides hold the one or the other
 abbrev pub OneOf : Result (Option Kept) SideFault → Result (Option Kept) SideFault → Images → Type 0
 OneOf before after i = (holds i ≡ before) ⊎ (holds i ≡ after)

@@ -126,6 +126,10 @@ abbrev pub pair : Side → List ℕ → List ℕ → Images
 pair A x y = record { a = x; b = y }
 pair B x y = record { a = y; b = x }
 
+abbrev pub other_of : Side → Side
+other_of A = B
+other_of B = A
+
 -- open frames of these bodies
 abbrev pub framed : List (List ℕ) → List ℕ
 framed [] = []

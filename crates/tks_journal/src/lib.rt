@@ -1,6 +1,7 @@
 //! Frames on a disk of two sides that may lose power at any moment.
 #![tactic(auto)]
 
+mod blank;
 mod fault;
 mod frame;
 mod gate;
@@ -8,5 +9,6 @@ mod journal;
 mod pieces;
 mod side;
 
+pub use blank::Blank;
 pub use fault::SideFault;
 pub use journal::Journal;

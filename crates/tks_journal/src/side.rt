@@ -1,11 +1,11 @@
 //! A side that is begun: its header and world, behind a gate that is opened last.
 ghost use Rattle.std.specs.Prelude.{◌≡◌, ◌↔◌, ◌<◌, ◌^◌, ◌+◌, ◌++◌, ◌∷◌, [], ℕ, true, List, OnOk, length, take, Ok};
-ghost use Rattle.tks_codec.specs.Header.{header_at};
 ghost use Rattle.tks_disk.specs.DiskModel.{View, Images, on, beside, Counts};
+ghost use Rattle.tks_journal.specs.Journal.{SpelledAs};
 ghost use Rattle.tks_journal.specs.Moments.{LeavesOnly, IsSettled};
 ghost use Rattle.tks_journal.specs.Staging.{Begins, Staged};
 ghost use Rattle.tks_journal.specs.Resting.{AtRest, OneOf, Vacant, begun_as};
-ghost use Rattle.tks_journal.specs.Sides.{holds, is_given};
+ghost use Rattle.tks_journal.specs.Sides.{holds, is_given, other_of};
 
 use crate::gate::{close_gate, open_gate};
 use crate::pieces::write_pieces;
@@ -15,6 +15,16 @@ use tks_disk::{DeviceFault, Disk, Side};
 /// The format in which sides are written.
 const FORMAT: u8 = 1;
 
+/// The side beside this one.
+pub fn other(side: Side) -> Side
+    ensures { result ≡ other_of side }
+{
+    match side {
+        Side::A => Side::B,
+        Side::B => Side::A,
+    }
+}
+
 /// Writes the format, the header, the world and a closed gate behind the gate at the front, which stays closed, and syncs the
 /// side.
 fn stage_side<D: Disk>(
@@ -23,7 +33,7 @@ fn stage_side<D: Disk>(
     head: &[u8],
     world: &[u8],
 ) -> Result<(), DeviceFault>
-    requires room { length head.now + length world.now < 2 ^ 41 }
+    requires room { length head.now + length world.now < 2 ^ 61 }
     requires some { D.honest disk.old → 0 < length (on side (D.view disk.old).reads) }
     requires settled { D.honest disk.old → IsSettled (D.view disk.old) }
     ensures any_moment { D.honest disk.old → LeavesOnly (D.view disk.old) (D.view disk.new)
@@ -50,10 +60,10 @@ pub fn start_side<D: Disk>(
     head: &[u8],
     world: &[u8],
 ) -> Result<(), DeviceFault>
-    requires spelled { (rest : List ℕ) → header_at (head.now ++ rest) ≡ Ok (header.now, rest) }
+    requires spelled { SpelledAs head.now header.now }
     requires given { is_given header.now.generation ≡ true }
     requires whole { header.now.world_length ≡ length world.now }
-    requires room { length head.now + length world.now < 2 ^ 41 }
+    requires room { length head.now + length world.now < 2 ^ 61 }
     requires settled { D.honest disk.old → IsSettled (D.view disk.old) }
     requires vacant { D.honest disk.old → Vacant side header.now.generation (D.view disk.old).reads }
     ensures at_rest { OnOk result (D.honest disk.old → AtRest (D.view disk.new) side (2 + length head.now + length world.now)) }

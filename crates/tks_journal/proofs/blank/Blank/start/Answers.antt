@@ -1,0 +1,5 @@
+use Rattle.tks_journal.proofs.Vacancies.{first_vacant}
+use Rattle.tks_journal.proofs.blank.Blank.start.Goals as goal
+
+pub start_side-requires-clause-vacant : goal.start_side-requires-clause-vacant
+start_side-requires-clause-vacant g c h = first_vacant (g.D.Disk.view c.self.inside.disk).reads c.args.header.now.generation (c.self.invariant h).nothing
