@@ -6,7 +6,7 @@ use Rattle.std.specs.Cmp.Lexicographic.{slice_cmp}
 use Rattle.std.specs.Int.{w16, w64}
 use Rattle.tks_text.specs.Size.{Extent}
 use Rattle.tks_codec.specs.declared.header.Header.{Header}
-use Rattle.tks_codec.specs.Spelling.{Read, Spelling, number, such_that, field, whole, list_by, text}
+use Rattle.tks_codec.specs.Spelling.{Read, Spelling, number, such_that, field, through, list_by, text}
 
 -- a grid's width and height, in its range
 abbrev pub is_width : ℕ → Bool
@@ -15,11 +15,16 @@ is_width n = nat_le 1 n && nat_le n 200
 abbrev pub is_height : ℕ → Bool
 is_height n = nat_le 1 n && nat_le n 100
 
+abbrev pub width : Spelling ℕ
+width = such_that is_width (number w16)
+
+abbrev pub height : Spelling ℕ
+height = such_that is_height (number w16)
+
 abbrev pub grid : Spelling Extent
 grid =
-    field (λ grid. grid.width) (such_that is_width (number w16)) (λ width.
-    field (λ grid. grid.height) (such_that is_height (number w16)) (λ height.
-    whole (record { width = width; height = height })))
+    field (λ size. size.width) width (λ w.
+    through (λ size. size.height) (λ h. record { width = w; height = h }) height)
 
 -- Names rise by their bytes: each is behind the one before it.
 abbrev pub is_behind : Option (List ℕ) → List ℕ → Bool
@@ -37,8 +42,7 @@ header =
     field (λ header. header.generation) (number w64) (λ generation.
     field (λ header. header.grid) grid (λ size.
     field (λ header. header.names) names (λ names.
-    field (λ header. header.world_length) (number w64) (λ world_length.
-    whole (record { generation = generation; grid = size; names = names; world_length = world_length })))))
+    through (λ header. header.world_length) (λ world_length. record { generation = generation; grid = size; names = names; world_length = world_length }) (number w64))))
 
 -- the header at the front of bytes, and what stands behind it
 unfoldable pub header_at : List ℕ → Read Header

@@ -38,9 +38,11 @@ pub record Lawful {T : Type 0} (s : Spelling T) : Type 0 where
   -- nothing else is read
   pub nothing_else : (bytes : List ℕ) (value : T) (rest : List ℕ) → IsBytes bytes → s.read bytes ≡ Ok (value, rest) → Spells s bytes value rest
   -- a fault stands in the bytes or at their end
-  pub within : (bytes : List ℕ) (left : ℕ) → s.read bytes ≡ Err left → left ≤ length bytes
+  pub within : (bytes : List ℕ) (left : ℕ) → IsBytes bytes → s.read bytes ≡ Err left → left ≤ length bytes
   -- from the byte at fault on it doesn't matter what stands there
   pub sure : (front : List ℕ) (byte : ℕ) (behind other : List ℕ) → IsBytes (front ++ byte ∷ behind) → s.read (front ++ byte ∷ behind) ≡ Err (suc (length behind)) → s.read (front ++ byte ∷ other) ≡ Err (suc (length other))
+  -- what stands before the byte at fault only ends too early
+  pub early : (front : List ℕ) (byte : ℕ) (behind : List ℕ) → IsBytes (front ++ byte ∷ behind) → s.read (front ++ byte ∷ behind) ≡ Err (suc (length behind)) → s.read front ≡ Err 0
   -- of a spelling that is cut the end is at fault
   pub cut : (value : T) (front : List ℕ) (byte : ℕ) (behind : List ℕ) → s.Legal value → s.write value ≡ front ++ byte ∷ behind → s.read front ≡ Err 0
 
@@ -82,6 +84,14 @@ field get first others = record {
   read = λ bytes. first.read bytes >>= λ found. (others found.0).read found.1;
 }
 
+-- a value that is made of its last field
+abbrev pub through : {A T : Type 0} → (T → A) → (A → T) → Spelling A → Spelling T
+through get make s = record {
+  Legal = λ value. s.Legal (get value) × (value ≡ make (get value));
+  write = λ value. s.write (get value);
+  read = λ bytes. s.read bytes >>= λ found. Ok (make found.0, found.1);
+}
+
 -- this value, of which nothing is left to be spelled
 abbrev pub whole : {T : Type 0} → T → Spelling T
 whole value = record { Legal = λ other. other ≡ value; write = λ other. []; read = λ bytes. Ok (value, bytes) }
@@ -90,7 +100,17 @@ whole value = record { Legal = λ other. other ≡ value; write = λ other. []; 
 abbrev pub none : {T : Type 0} → Spelling T
 none = record { Legal = λ value. ⊥; write = λ value. []; read = λ bytes. Err 0 }
 
+-- the one or the other
+abbrev pub which : {T : Type 0} → Bool → Spelling T → Spelling T → Spelling T
+which true s t = s
+which false s t = t
+
 -- ---- lists
+
+-- the last of a list, or what is before it
+abbrev pub last_of : {T : Type 0} → Option T → List T → Option T
+last_of before [] = before
+last_of before (value ∷ values) = last_of (Some value) values
 
 -- How a member is spelled may depend on the one before it.
 module _ {T : Type 0} (member : Option T → Spelling T) where
@@ -128,6 +148,10 @@ list s = list_by (λ before. s)
 
 abbrev pub text_byte : Spelling ℕ
 text_byte = such_that is_text_byte byte
+
+-- so many bytes of a text
+abbrev pub letters_at : ℕ → List ℕ → Read (List ℕ)
+letters_at count bytes = members_at (λ before. text_byte) None count bytes
 
 -- the length, and so many bytes of a text
 abbrev pub text : Spelling (List ℕ)

@@ -3,6 +3,14 @@
 
 mod fault;
 mod header;
+mod input;
+mod laws;
+mod names;
+mod reading;
+mod unread;
+mod writing;
 
 pub use fault::CodecFault;
-pub use header::Header;
+pub use header::{Header, read_header, write_header};
+pub use input::{read_input, write_input};
+pub use laws::{one_header, one_input};

@@ -1,0 +1,55 @@
+-- What holds of the spellings of headers.
+use Rattle.std.proofs.Common.{◌≡◌, ℕ, ◌+◌, ◌<◌, ◌≤◌, ◌^◌, Bool, true, List, [], ◌∷◌, ◌++◌, length, Option, Some, None, refl, ap, arith}
+use Rattle.std.specs.Int.{w16, w32, w64, to_be_bytes}
+use Rattle.std.specs.List.{AllByRecursion}
+use Rattle.std.proofs.lemmas.List.{length-append}
+use Rattle.std.proofs.lemmas.Bool.{le-leb}
+use Rattle.std.specs.Prelude.{nat_le, ◌&&◌}
+use Rattle.tks_text.specs.Size.{Extent, IsGridSize}
+use Rattle.tks_text.specs.Text.{IsText}
+use Rattle.tks_codec.specs.declared.header.Header.{Header}
+use Rattle.tks_codec.specs.Spelling.{Lawful, AreLegal, number, such_that, field, whole, text}
+use Rattle.tks_codec.specs.Header.{is_width, is_height, width, height, grid, is_behind, name, names, header, Rise, AreNames}
+use Rattle.tks_codec.proofs.EachKind.{wide16, wide64, number_lawful, test_lawful, field_lawful, through_lawful, list_lawful, text_lawful}
+
+width_lawful : Lawful width
+width_lawful = test_lawful is_width (number w16) (λ v h. omega arith) (number_lawful w16 wide16)
+
+height_lawful : Lawful height
+height_lawful = test_lawful is_height (number w16) (λ v h. omega arith) (number_lawful w16 wide16)
+
+grid_lawful : Lawful grid
+grid_lawful =
+    field_lawful (λ g. g.width) _ _ (λ w g h. ap (λ (g : Extent). g.width) h.1) width_lawful (λ w.
+    through_lawful (λ g. g.height) _ _ (λ h. refl) height_lawful)
+
+filled_text : (t : List ℕ) → 0 < length (text.write t)
+filled_text t = let n = length-append (to_be_bytes w32 (length t)) t in omega (arith, n)
+
+names_lawful : Lawful names
+names_lawful = list_lawful name (λ before. test_lawful (is_behind before) text (λ v h. filled_text v) text_lawful)
+
+pub header_lawful : Lawful header
+header_lawful =
+    field_lawful (λ h. h.generation) _ _ (λ generation v h. ap (λ (h : Header). h.generation) h.1.1.1) (number_lawful w64 wide64) (λ generation.
+    field_lawful (λ h. h.grid) _ _ (λ size v h. ap (λ (h : Header). h.grid) h.1.1) grid_lawful (λ size.
+    field_lawful (λ h. h.names) _ _ (λ names v h. ap (λ (h : Header). h.names) h.1) names_lawful (λ names.
+    through_lawful (λ h. h.world_length) _ _ (λ world_length. refl) (number_lawful w64 wide64))))
+
+-- ---- which headers have a spelling
+
+all_legal : (before : Option (List ℕ)) (ns : List (List ℕ)) → AllByRecursion (λ n. length n < 2 ^ 32) ns → AllByRecursion IsText ns → Rise before ns → AreLegal name before ns
+all_legal before [] p q r = tt
+all_legal before (n ∷ ns) p q r = (((p.0, q.0), r.0), all_legal (Some n) ns p.1 q.1 r.1)
+
+pub names_legal : (ns : List (List ℕ)) → AreNames ns → AllByRecursion IsText ns → names.Legal ns
+names_legal ns p q = (p.count, all_legal None ns p.lengths q p.rise)
+
+is_legal : (size : Extent) → IsGridSize size.width size.height → grid.Legal size
+is_legal size g = ((omega (arith, g.1), in_range 200 size.width g.0 g.1), ((omega (arith, g.3), in_range 100 size.height g.2 g.3), refl))
+  where
+    in_range : (most n : ℕ) → 1 ≤ n → n ≤ most → (nat_le 1 n && nat_le n most) ≡ true
+    in_range most n p q = rw (le-leb 1 n p, le-leb n most q) refl
+
+pub header_legal : (h : Header) → h.generation < 2 ^ 64 → IsGridSize h.grid.width h.grid.height → AreNames h.names → AllByRecursion IsText h.names → h.world_length < 2 ^ 64 → header.Legal h
+header_legal h a g n t b = (a, (is_legal h.grid g, (names_legal h.names n t, (b, refl))))

@@ -1,0 +1,29 @@
+//! Laws of the spellings.
+
+ghost use Rattle.std.specs.Prelude.{◌≡◌, ℕ, ◌<◌, ◌^◌, ◌++◌, List};
+ghost use Rattle.std.specs.List.{AllByRecursion};
+ghost use Rattle.tks_text.specs.Size.{IsGridSize};
+ghost use Rattle.tks_text.specs.Text.{IsText};
+ghost use Rattle.tks_input.specs.declared.input.Input.{Input};
+ghost use Rattle.tks_codec.specs.declared.header.Header.{Header};
+ghost use Rattle.tks_codec.specs.Spelling.{Lawful};
+ghost use Rattle.tks_codec.specs.Header.{AreNames, header};
+ghost use Rattle.tks_codec.specs.Input.{IsInput, input};
+
+/// Each header has one spelling, no spelling of a header is a proper front of another, and what reading
+/// says of bytes is what these spellings say.
+pub fn one_header()
+    ensures spelled { (h : Header) → h.generation < 2 ^ 64 → IsGridSize h.grid.width h.grid.height → AreNames h.names → AllByRecursion IsText h.names → h.world_length < 2 ^ 64 → header.Legal h }
+    ensures one { (a b : Header) (x y : List ℕ) → header.Legal a → header.Legal b → header.write a ++ x ≡ header.write b ++ y → (a ≡ b) × (x ≡ y) }
+    ensures lawful { Lawful header }
+{
+}
+
+/// Each input has one spelling, no spelling of an input is a proper front of another, and what reading
+/// says of bytes is what these spellings say.
+pub fn one_input()
+    ensures spelled { (i : Input) → IsInput i → input.Legal i }
+    ensures one { (a b : Input) (x y : List ℕ) → input.Legal a → input.Legal b → input.write a ++ x ≡ input.write b ++ y → (a ≡ b) × (x ≡ y) }
+    ensures lawful { Lawful input }
+{
+}

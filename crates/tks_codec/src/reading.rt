@@ -1,0 +1,96 @@
+//! Readers of single values. Each takes bytes, and answers the value at their front and the bytes behind it.
+
+ghost use Rattle.std.specs.Prelude.{◌≡◌, ◌≤◌, length};
+ghost use Rattle.std.specs.Int.{w16, w32, w64};
+ghost use Rattle.std.specs.List.{prefix_len};
+ghost use Rattle.tks_text.specs.Text.{is_text_byte};
+ghost use Rattle.tks_codec.specs.Spelling.{byte_at, number_at, letters_at, text};
+ghost use Rattle.tks_codec.specs.Reading.{Gives};
+
+use crate::unread::Unread;
+use std::alloc::Global;
+use tks_text::{Txt, is_text_byte};
+
+/// A byte.
+pub fn u8_of(bytes: &[u8]) -> Result<(u8, &[u8]), Unread>
+    ensures { Gives (λ x. (x.0, x.1.now)) result (byte_at bytes.now) }
+{
+    match bytes {
+        [] => Err(Unread::Left(0)),
+        [byte, rest @ ..] => Ok((*byte, rest)),
+    }
+}
+
+/// A number of two bytes.
+#[tactic(auto, unfolding(crate::specs::Spelling::number_at))]
+pub fn u16_of(bytes: &[u8]) -> Result<(u16, &[u8]), Unread>
+    ensures { Gives (λ x. (x.0, x.1.now)) result (number_at w16 bytes.now) }
+{
+    if bytes.len() < 2 {
+        return Err(Unread::Left(0));
+    }
+    let (front, rest) = bytes.split_at(2);
+    let number = u16::from_be_bytes([front[0], front[1]]);
+    Ok((number, rest))
+}
+
+/// A number of four bytes.
+#[tactic(auto, unfolding(crate::specs::Spelling::number_at))]
+pub fn u32_of(bytes: &[u8]) -> Result<(u32, &[u8]), Unread>
+    ensures { Gives (λ x. (x.0, x.1.now)) result (number_at w32 bytes.now) }
+{
+    if bytes.len() < 4 {
+        return Err(Unread::Left(0));
+    }
+    let (front, rest) = bytes.split_at(4);
+    let number = u32::from_be_bytes([front[0], front[1], front[2], front[3]]);
+    Ok((number, rest))
+}
+
+/// A number of eight bytes.
+#[tactic(auto, unfolding(crate::specs::Spelling::number_at))]
+pub fn u64_of(bytes: &[u8]) -> Result<(u64, &[u8]), Unread>
+    ensures { Gives (λ x. (x.0, x.1.now)) result (number_at w64 bytes.now) }
+{
+    if bytes.len() < 8 {
+        return Err(Unread::Left(0));
+    }
+    let (front, rest) = bytes.split_at(8);
+    let number = u64::from_be_bytes([
+        front[0], front[1], front[2], front[3], front[4], front[5], front[6], front[7],
+    ]);
+    Ok((number, rest))
+}
+
+// How many bytes at the front may stand in a text.
+fn text_len(bytes: &[u8]) -> usize
+    ensures value { result ≡ prefix_len is_text_byte bytes.now }
+    ensures bound { result ≤ length bytes.now }
+{
+    bytes
+        .iter()
+        .take_while(|byte| is_text_byte(**byte))
+        .count()
+}
+
+// A text of so many bytes. What stands behind a text begins with a byte that stands in none, or ends.
+fn text_of_len(alloc: Global, len: usize, bytes: &[u8]) -> Result<(Txt, &[u8]), Unread>
+    ensures { Gives (λ x. (x.0, x.1.now)) result (letters_at len bytes.now) }
+{
+    let good = text_len(bytes);
+    if good < len {
+        return Err(Unread::Left(bytes.len() - good));
+    }
+    let (text, rest) = bytes.split_at(len);
+    Ok((Txt::from_text(alloc, text)?, rest))
+}
+
+/// A text. Room is made for it once all its bytes are there.
+#[tactic(auto, unfolding(crate::specs::Spelling::list_at))]
+pub fn text_of(alloc: Global, bytes: &[u8]) -> Result<(Txt, &[u8]), Unread>
+    ensures { Gives (λ x. (x.0, x.1.now)) result (text.read bytes.now) }
+{
+    let (len, rest) = u32_of(bytes)?;
+    let (text, rest) = text_of_len(alloc, len as usize, rest)?;
+    Ok((text, rest))
+}

@@ -1,0 +1,60 @@
+//! Writers of single values. Each adds a value's spelling to the bytes.
+
+ghost use Rattle.std.specs.Prelude.{◌≡◌, ◌<◌, ◌^◌, ◌++◌, ◌∷◌, [], length};
+ghost use Rattle.std.specs.Int.{w16, w32, w64, to_be_bytes};
+ghost use Rattle.tks_codec.specs.Writing.{PutsSo};
+
+use std::alloc::AllocError;
+use tks_text::Txt;
+
+// Adds bytes.
+#[tactic(auto, using(crate::proofs::Puts::still, crate::proofs::Puts::all_there))]
+fn put(out: &mut Vec<u8>, bytes: &[u8]) -> Result<(), AllocError>
+    ensures { PutsSo result out.old.items out.new.items bytes.now }
+{
+    out.extend_from_slice(bytes)?;
+    Ok(())
+}
+
+/// Adds a byte.
+pub fn put_u8(out: &mut Vec<u8>, byte: u8) -> Result<(), AllocError>
+    ensures { PutsSo result out.old.items out.new.items (byte ∷ []) }
+{
+    put(out, &[byte])?;
+    Ok(())
+}
+
+/// Adds a number of two bytes.
+pub fn put_u16(out: &mut Vec<u8>, number: u16) -> Result<(), AllocError>
+    ensures { PutsSo result out.old.items out.new.items (to_be_bytes w16 number) }
+{
+    put(out, &number.to_be_bytes())?;
+    Ok(())
+}
+
+/// Adds a number of four bytes.
+pub fn put_u32(out: &mut Vec<u8>, number: u32) -> Result<(), AllocError>
+    ensures { PutsSo result out.old.items out.new.items (to_be_bytes w32 number) }
+{
+    put(out, &number.to_be_bytes())?;
+    Ok(())
+}
+
+/// Adds a number of eight bytes.
+pub fn put_u64(out: &mut Vec<u8>, number: u64) -> Result<(), AllocError>
+    ensures { PutsSo result out.old.items out.new.items (to_be_bytes w64 number) }
+{
+    put(out, &number.to_be_bytes())?;
+    Ok(())
+}
+
+/// Adds a text of fewer than 2^32 bytes.
+#[tactic(auto, using(crate::proofs::Puts::still, crate::proofs::Puts::put_behind))]
+pub fn put_text(out: &mut Vec<u8>, text: &Txt) -> Result<(), AllocError>
+    requires { length text.now < 2 ^ 32 }
+    ensures { PutsSo result out.old.items out.new.items (to_be_bytes w32 (length text.now) ++ text.now) }
+{
+    put_u32(out, text.len() as u32)?;
+    put(out, text.as_bytes())?;
+    Ok(())
+}
