@@ -3,8 +3,11 @@ mod Faces
 mod Frames
 mod Fronts
 mod Gates
+mod Heads
 mod Lists
+mod Openings
 mod Phases
 mod Stages
 mod Starts
+mod Still
 mod Vacancies

@@ -1,5 +1,7 @@
+pub mod Fronts
 pub mod Journal
 pub mod Moments
+pub mod Opening
 pub mod Sides
 pub mod Resting
 pub mod Staging

@@ -2,13 +2,17 @@
 #![tactic(auto)]
 
 mod blank;
+mod error;
 mod fault;
 mod frame;
+mod front;
 mod gate;
 mod journal;
 mod pieces;
+mod reading;
 mod side;
 
 pub use blank::Blank;
+pub use error::OpenError;
 pub use fault::SideFault;
 pub use journal::Journal;

@@ -13,7 +13,7 @@ use tks_codec::Header;
 use tks_disk::{DeviceFault, Disk, Side};
 
 /// The format in which sides are written.
-const FORMAT: u8 = 1;
+pub const FORMAT: u8 = 1;
 
 /// The side beside this one.
 pub fn other(side: Side) -> Side
