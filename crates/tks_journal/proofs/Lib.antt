@@ -1,3 +1,4 @@
+mod Choices
 mod Closes
 mod Faces
 mod Frames

@@ -135,7 +135,7 @@ closed_both : (i : Images) → holds i ≡ Ok None → (face i.a ≡ closed) × 
 unfolding held
 closed_both i e = both_closed (face i.a) (face i.b) e
 
-nothing_held : (a b : List ℕ) → face a ≡ closed → face b ≡ closed → held a b ≡ Ok None
+pub nothing_held : (a b : List ℕ) → face a ≡ closed → face b ≡ closed → held a b ≡ Ok None
 unfolding held
 nothing_held a b e f = ap (λ x. decided x (face b)) e ∙ ap (decided closed) f
 

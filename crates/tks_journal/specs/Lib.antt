@@ -1,5 +1,6 @@
 pub mod Fronts
 pub mod Journal
+pub mod Loading
 pub mod Moments
 pub mod Opening
 pub mod Sides

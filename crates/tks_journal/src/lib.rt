@@ -8,6 +8,7 @@ mod frame;
 mod front;
 mod gate;
 mod journal;
+mod opening;
 mod pieces;
 mod reading;
 mod side;
