@@ -1,12 +1,13 @@
+mod Appends
 mod Choices
 mod Closes
 mod Faces
-mod Frames
 mod Fronts
 mod Gates
 mod Heads
 mod Lists
 mod Openings
+mod Passing
 mod Phases
 mod Stages
 mod Starts

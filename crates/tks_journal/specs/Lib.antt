@@ -1,3 +1,4 @@
+pub mod Found
 pub mod Fronts
 pub mod Journal
 pub mod Loading

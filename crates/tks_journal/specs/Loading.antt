@@ -1,10 +1,10 @@
 -- How far a disk was read, and what contracts see of that.
-use Rattle.std.specs.Prelude.{◌≡◌, ◌≢◌, ◌<◌, ◌≤◌, ℕ, Bool, true, List, [], ◌∷◌, ◌++◌, length, take, drop, slice_index, Option, Some, None, Result, Ok, Err}
+use Rattle.std.specs.Prelude.{◌≡◌, ◌≢◌, ◌<◌, ◌≤◌, ◌+◌, ℕ, Bool, true, List, [], ◌∷◌, ◌++◌, length, take, drop, slice_index, Option, Some, None, Result, Ok, Err}
 use Rattle.tks_codec.specs.declared.header.Header.{Header}
 use Rattle.tks_disk.specs.DiskModel.{View, Images, on, beside}
 use Rattle.tks_disk.specs.declared.disk.Side.{Side}
 use Rattle.tks_journal.specs.Moments.{IsSettled}
-use Rattle.tks_journal.specs.Sides.{frames, Kept, content, holds, live_of, with_frames, pair}
+use Rattle.tks_journal.specs.Sides.{size_at, frames, Kept, content, holds, live_of, with_frames, pair}
 use Rattle.tks_journal.specs.declared.fault.SideFault.{SideFault}
 use Rattle.tks_journal.specs.declared.fault.SideFault.TheVariants.{Damaged}
 
@@ -63,3 +63,9 @@ pub record FramesAt (view : View) (live : Side) (generation at len : ℕ) : Type
 pub record ShutAt (live : Side) (at : ℕ) (reads : Images) : Type 0 where
   pub there : at < length (on live reads)
   pub shut : slice_index (on live reads) at ≢ 1
+
+-- a whole frame with this body stands at this place
+pub record FrameIs (bytes : List ℕ) (at : ℕ) (body : List ℕ) : Type 0 where
+  pub opens : slice_index bytes at ≡ 1
+  pub size : size_at (drop (at + 1) bytes) ≡ length body
+  pub body_is : body ≡ take (length body) (drop (at + 5) bytes)

@@ -32,11 +32,27 @@ impl<D: Disk> Blank<D> {
     ghost use Rattle.tks_journal.specs.Resting.{AllHold, HoldsNothing, OneOf, begun_as};
     ghost use Rattle.tks_journal.specs.Sides.{holds};
 
+    /// A disk that holds nothing.
+    pub(crate) fn over(disk: D) -> Blank<D>
+        requires { D.honest disk → HoldsNothing (D.view disk) }
+        ensures { result ≡ disk }
+    {
+        Blank { disk }
+    }
+
     /// The disk holds nothing, and neither does what a crash may leave.
     pub fn is_blank(&self)
         ensures { D.honest self.now → HoldsNothing (D.view self.now) }
     {
         let _ = &self.disk;
+    }
+
+    /// Gives the disk back, and makes no call of it.
+    pub fn into_disk(self) -> D
+        ensures { result ≡ self }
+    {
+        let Blank { disk } = self;
+        disk
     }
 
     /// Begins the first side with this header of generation 1, spelled as `head`, and this world. It takes no memory. Where the

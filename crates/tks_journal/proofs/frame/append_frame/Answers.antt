@@ -4,7 +4,7 @@ use Rattle.tks_journal.specs.Resting.{OneOf}
 use Rattle.tks_journal.specs.Sides.{holds, with_frames}
 use Rattle.tks_journal.specs.Staging.{Begins, AtGate}
 use Rattle.tks_journal.proofs.Phases.{then, weaker}
-use Rattle.tks_journal.proofs.Frames.{behind_holds, gate_holds, staged_long, opened_holds, opened_rests}
+use Rattle.tks_journal.proofs.Appends.{behind_holds, gate_holds, staged_long, opened_holds, opened_rests}
 use Rattle.tks_journal.proofs.frame.append_frame.Goals as goal
 
 pub open_gate-requires : goal.open_gate-requires
