@@ -21,4 +21,5 @@ pub use error::OpenError;
 pub use frames::Frames;
 pub use fault::SideFault;
 pub use journal::Journal;
+pub use side::spell;
 pub use stored::{OpenFault, Opened, Stored, open};

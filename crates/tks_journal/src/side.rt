@@ -1,5 +1,7 @@
 //! A side that is begun: its header and world, behind a gate that is opened last.
-ghost use Rattle.std.specs.Prelude.{◌≡◌, ◌↔◌, ◌<◌, ◌^◌, ◌+◌, ◌++◌, ◌∷◌, [], ℕ, true, List, OnOk, length, take, Ok};
+ghost use Rattle.std.specs.Prelude.{◌≡◌, ◌↔◌, ◌<◌, ◌^◌, ◌+◌, ◌++◌, ◌∷◌, [], ℕ, true, List, OnOk, IfOk, length, take, Ok};
+ghost use Rattle.tks_codec.specs.Header as headers;
+ghost use Rattle.tks_codec.specs.Header.{AreNames};
 ghost use Rattle.tks_disk.specs.DiskModel.{View, Images, on, beside, Counts};
 ghost use Rattle.tks_journal.specs.Journal.{SpelledAs};
 ghost use Rattle.tks_journal.specs.Moments.{LeavesOnly, IsSettled};
@@ -9,7 +11,8 @@ ghost use Rattle.tks_journal.specs.Sides.{holds, is_given, other_of};
 
 use crate::gate::{close_gate, open_gate};
 use crate::pieces::write_pieces;
-use tks_codec::Header;
+use std::alloc::{AllocError, Global};
+use tks_codec::{Header, write_header};
 use tks_disk::{DeviceFault, Disk, Side};
 
 /// The format in which sides are written.
@@ -23,6 +26,19 @@ pub fn other(side: Side) -> Side
         Side::A => Side::B,
         Side::B => Side::A,
     }
+}
+
+/// The spelling of a header, as a side is begun with it. The names have to rise by their bytes, and there are fewer than 2^32
+/// of them, each of fewer than 2^32 bytes.
+pub fn spell(alloc: Global, header: &Header) -> Result<Vec<u8>, AllocError>
+    requires names { AreNames header.now.names }
+    requires legal { headers.header.Legal header.now }
+    ensures reads { IfOk result (λ head. SpelledAs head.items header.now) }
+    ensures spelled { IfOk result (λ head. head.items ≡ headers.header.write header.now) }
+{
+    let mut head = Vec::new(alloc);
+    write_header(header, &mut head)?;
+    Ok(head)
 }
 
 /// Writes the format, the header, the world and a closed gate behind the gate at the front, which stays closed, and syncs the

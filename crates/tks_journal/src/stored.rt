@@ -59,6 +59,20 @@ impl<D: Disk> Stored<D> {
         &self.header
     }
 
+    /// Gives the disk back, and makes no call of it.
+    pub fn into_disk(self) -> D
+        ensures { result ≡ self.disk }
+    {
+        let Stored {
+            disk,
+            live: _,
+            header: _,
+            at: _,
+            len: _,
+        } = self;
+        disk
+    }
+
     /// Reads the world, and hands it out with the header and the frames, which are still to be read. It takes memory for a
     /// world that is there. On a fault it gives the disk back.
     pub fn world(self, alloc: Global) -> Result<(Header, Vec<u8>, Frames<D>), OpenFault<D>>

@@ -1,4 +1,4 @@
-use Rattle.std.proofs.Common.{◌≡◌, ◌≤◌, ◌+◌, ℕ, length, sym, ◌∙◌, ap, subst, arith}
+use Rattle.std.proofs.Common.{◌≡◌, ◌≤◌, ◌+◌, ℕ, true, false, length, sym, ◌∙◌, ap, subst, arith}
 use Rattle.tks_disk.specs.DiskModel.{Images, on}
 use Rattle.tks_journal.specs.Loading.{FramesAt, FrameIs, behind}
 use Rattle.tks_journal.specs.Sides.{frames, with_front}
@@ -21,7 +21,7 @@ invariant_of-self g c h =
     let fits : at + 5 + length body ≤ len = rw c.in-Ok-Some.field-0-is at c.in-Ok-Some.ensures.size in
     let next = frames_on v live c.self.inside.generation at len f body fits is in
     let here = subst (λ (k : ℕ). FramesAt v live c.self.inside.generation k len) (omega (arith, c.len.ensures)) next in
-    (frames_still v m live c.self.inside.generation (at + (5 + c.len.result)) len here (still_settled v m f.settled rests) rests.same, λ e. absurd (cc e))
+    (frames_still v m live c.self.inside.generation (at + (5 + c.len.result)) len here (still_settled v m f.settled rests) rests.same, λ (e : false ≡ true). absurd (cc e))
 
 pub returns-in-Ok-Some-clause-frame : goal.returns-in-Ok-Some-clause-frame
 returns-in-Ok-Some-clause-frame g c =
