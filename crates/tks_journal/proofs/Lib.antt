@@ -12,4 +12,5 @@ mod Phases
 mod Stages
 mod Starts
 mod Still
+mod Told
 mod Vacancies

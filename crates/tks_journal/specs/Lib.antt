@@ -1,3 +1,4 @@
+pub mod AreFrames
 pub mod Found
 pub mod Fronts
 pub mod Journal
