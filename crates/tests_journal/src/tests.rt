@@ -19,7 +19,10 @@ fn holds(alloc: Global, disk: MemoryDisk, wanted: &[u8], other: &[u8]) -> Option
     let b = bytes_of(alloc, &mut disk, Side::B)?;
     let plain = plain_text(alloc, &a, &b)?;
     let opened = opened_text(alloc, disk)?;
-    Some((plain.as_slice() == wanted || plain.as_slice() == other) && opened.as_slice() == plain.as_slice())
+    Some(
+        (plain.as_slice() == wanted || plain.as_slice() == other)
+            && opened.as_slice() == plain.as_slice(),
+    )
 }
 
 // Stopped after so many calls and crashed so, the disk holds what was acknowledged, or one thing more. How many were
@@ -79,13 +82,25 @@ fn first_side(alloc: Global, calls: u64) -> Option<Vec<u8>> {
 #[test]
 fn a_side_that_is_cut_is_damaged(rt: HostRuntime) {
     let alloc = rt.alloc();
-    let whole = b"\x01\x01\0\0\0\0\0\0\0\x07\0\x14\0\x03\0\0\0\0\0\0\0\0\0\0\0\x02ab\x01\0\0\0\x03xyz\x01\0\0\0\0\0";
-    assert_eq!(rt; sides_hold(alloc, whole, b"", b"\x07ab\xffxyz\xff"), Some(true));
+    let whole =
+        b"\x01\x01\0\0\0\0\0\0\0\x07\0\x14\0\x03\0\0\0\0\0\0\0\0\0\0\0\x02ab\x01\0\0\0\x03xyz\x01\0\0\0\0\0";
+    assert_eq!(rt;
+        sides_hold(alloc, whole, b"", b"\x07ab\xffxyz\xff"),
+        Some(true)
+    );
     for cut in 0..whole.len() {
         let wanted: &[u8] = if cut < 2 { b"nothing" } else { b"damaged" };
         let front = whole.get(..cut).unwrap_or(b"");
-        assert_eq!(rt; sides_hold(alloc, front, b"", wanted), Some(true), "cut to {cut}");
-        assert_eq!(rt; sides_hold(alloc, b"\x01", front, wanted), Some(true), "B cut to {cut}");
+        assert_eq!(rt;
+            sides_hold(alloc, front, b"", wanted),
+            Some(true),
+            "cut to {cut}"
+        );
+        assert_eq!(rt;
+            sides_hold(alloc, b"\x01", front, wanted),
+            Some(true),
+            "B cut to {cut}"
+        );
     }
 }
 
@@ -96,12 +111,19 @@ fn sides_at_fault_are_told_apart(rt: HostRuntime) {
     let six = b"\x01\x01\0\0\0\0\0\0\0\x06\0\x14\0\x03\0\0\0\0\0\0\0\0\0\0\0\x01b\0";
     let none = b"\x01\x01\0\0\0\0\0\0\0\0\0\x14\0\x03\0\0\0\0\0\0\0\0\0\0\0\x01b\0";
     let cut = b"\x01\x01\0\0\0\0\0\0\0\x05\0\x14\0\x03\0\0\0\0\0\0\0\0\0\0\0\x09a\0";
-    let long = b"\x01\x01\0\0\0\0\0\0\0\x05\0\x14\0\x03\0\0\0\0\0\0\0\0\0\0\0\x01a\x01\xff\xff\xff\xff\0";
+    let long =
+        b"\x01\x01\0\0\0\0\0\0\0\x05\0\x14\0\x03\0\0\0\0\0\0\0\0\0\0\0\x01a\x01\xff\xff\xff\xff\0";
     assert_eq!(rt; sides_hold(alloc, b"", b"", b"nothing"), Some(true));
     assert_eq!(rt; sides_hold(alloc, b"\x01", b"\x01", b"nothing"), Some(true));
     assert_eq!(rt; sides_hold(alloc, b"\x01\x09", b"", b"unknown"), Some(true));
-    assert_eq!(rt; sides_hold(alloc, b"\x01\x01", b"\x01\x02", b"unknown"), Some(true));
-    assert_eq!(rt; sides_hold(alloc, b"\x01\x01\0\0\0", b"", b"damaged"), Some(true));
+    assert_eq!(rt;
+        sides_hold(alloc, b"\x01\x01", b"\x01\x02", b"unknown"),
+        Some(true)
+    );
+    assert_eq!(rt;
+        sides_hold(alloc, b"\x01\x01\0\0\0", b"", b"damaged"),
+        Some(true)
+    );
     assert_eq!(rt; sides_hold(alloc, five, six, b"\x06b"), Some(true));
     assert_eq!(rt; sides_hold(alloc, six, five, b"\x06b"), Some(true));
     assert_eq!(rt; sides_hold(alloc, five, five, b"damaged"), Some(true));
@@ -116,7 +138,8 @@ fn sides_at_fault_are_told_apart(rt: HostRuntime) {
 #[test]
 fn a_side_is_written_to_the_byte(rt: HostRuntime) {
     let side = first_side(rt.alloc(), 10_000);
-    let wanted = b"\x01\x01\0\0\0\0\0\0\0\x03\0\x14\0\x03\0\0\0\0\0\0\0\0\0\0\0\0\x01\0\0\0\x05seven\0";
+    let wanted =
+        b"\x01\x01\0\0\0\0\0\0\0\x03\0\x14\0\x03\0\0\0\0\0\0\0\0\0\0\0\0\x01\0\0\0\x05seven\0";
     let begins = side.is_some_and(|bytes| bytes.as_slice().starts_with(wanted));
     assert!(rt; begins);
 }

@@ -111,7 +111,11 @@ pub fn bytes_of<D: Disk>(alloc: Global, disk: &mut D, side: Side) -> Option<Vec<
 }
 
 // Adds each frame's body.
-fn add_frames<D: Disk + Drop>(alloc: Global, text: &mut Vec<u8>, frames: Frames<D>) -> Option<bool> {
+fn add_frames<D: Disk + Drop>(
+    alloc: Global,
+    text: &mut Vec<u8>,
+    frames: Frames<D>,
+) -> Option<bool> {
     let mut frames = frames;
     for _ in 0..99 {
         match frames.next(alloc) {

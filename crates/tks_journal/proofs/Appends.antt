@@ -63,8 +63,8 @@ module _ (v : View) (live : Side) (gate : ℕ) (rest : AtRest v live gate) (body
       let is : x ≡ front ++ (get_or x gate 0 ∷ drop (gate + 1) x) = at_place gate x (omega (arith, long)) ∙ ap (λ l. l ++ (get_or x gate 0 ∷ drop (gate + 1) x)) same in
       let same_gate : get_or x gate 0 ≡ get_or x0 gate 0 = sym (get_or-take (gate + 1) x gate 0 (omega arith)) ∙ ap (λ l. get_or l gate 0) stem ∙ get_or-take (gate + 1) x0 gate 0 (omega arith) in
       inl (shut_holds i (get_or x gate 0) (drop (gate + 1) x)
-          (pair_of live i ∙ ap (λ l. pair live l (beside live i)) is ∙ ap (λ l. pair live (front ++ (get_or x gate 0 ∷ drop (gate + 1) x)) l) b.other_side)
-          (λ e. rest.shut (sym same_gate ∙ e)))
+      (pair_of live i ∙ ap (λ l. pair live l (beside live i)) is ∙ ap (λ l. pair live (front ++ (get_or x gate 0 ∷ drop (gate + 1) x)) l) b.other_side)
+      (λ e. rest.shut (sym same_gate ∙ e)))
 
   abbrev size : List ℕ
   size = to_be_bytes w32 (length body)
@@ -145,11 +145,13 @@ module _ (v : View) (live : Side) (gate : ℕ) (rest : AtRest v live gate) (body
             settled = opened.settled;
             within = omega (arith, ap length is, length-append pre (0 ∷ junk), pre_long);
             shut = λ e. absurd (omega (arith, last, e));
-            carries = record { carries = λ more g tail all shut.
-                ap (λ l. holds (pair live (l ++ (framed more ++ g ∷ tail)) (beside live f.reads))) taken
-                ∙ ap (λ l. holds (pair live (pre ++ (framed more ++ g ∷ tail)) l)) (opened.at_gate.other_side ∙ staged.other_side)
-                ∙ ap (λ l. holds (pair live l other)) (nested more g tail)
-                ∙ rest.carries.carries (body ∷ more) g tail (short, all) shut
-                ∙ sym (more_frames (body ∷ []) more old)
-                ∙ ap (with_frames more) (sym opened_holds) };
+            carries = record {
+              carries = λ more g tail all shut.
+                  ap (λ l. holds (pair live (l ++ (framed more ++ g ∷ tail)) (beside live f.reads))) taken
+                  ∙ ap (λ l. holds (pair live (pre ++ (framed more ++ g ∷ tail)) l)) (opened.at_gate.other_side ∙ staged.other_side)
+                  ∙ ap (λ l. holds (pair live l other)) (nested more g tail)
+                  ∙ rest.carries.carries (body ∷ more) g tail (short, all) shut
+                  ∙ sym (more_frames (body ∷ []) more old)
+                  ∙ ap (with_frames more) (sym opened_holds);
+            };
           }

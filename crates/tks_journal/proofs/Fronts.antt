@@ -33,7 +33,7 @@ pub one_more : {E : Type 0} (side : Side) (stem other : List ℕ) (start mid new
 one_more side stem other start mid new at bytes r le so_far w = record {
   reads = stays side stem other at (length bytes) le mid.reads new.reads so_far.reads w.torn;
   leaves = goes_on start mid new (Begins side stem other) so_far.leaves w.time
-    (λ i left. let from = w.crash i left in stays side stem other at (length bytes) le from.0 i (so_far.leaves.now from.0 from.1) from.2);
+      (λ i left. let from = w.crash i left in stays side stem other at (length bytes) le from.0 i (so_far.leaves.now from.0 from.1) from.2);
 }
 
 pub piece_written : (at done n : ℕ) (old mid new bytes : List ℕ) → done + n ≤ length bytes → at ≤ length old

@@ -138,8 +138,10 @@ module _ (v : View) (live : Side) (g at len : ℕ) (f : FramesAt v live g at len
         settled = f.settled;
         within = shut.there;
         shut = shut.shut;
-        carries = record { carries = λ more gate tail all closed.
-            f.passes (framed more ++ gate ∷ tail) ∙ ap (joined s) (frames_framed more gate tail all closed) ∙ ap (with_frames more) (sym held_so_far) };
+        carries = record {
+          carries = λ more gate tail all closed.
+              f.passes (framed more ++ gate ∷ tail) ∙ ap (joined s) (frames_framed more gate tail all closed) ∙ ap (with_frames more) (sym held_so_far);
+        };
       };
       is_live = ap live_of held_so_far ∙ f.is_live;
     }

@@ -120,10 +120,12 @@ module _ (v : View) (side : Side) (header : Header) (head world : List ℕ) (spe
               settled = opened.settled;
               within = omega (arith, ap length is, length-append front (0 ∷ junk), front_is);
               shut = λ e. absurd (omega (arith, last, e));
-              carries = record { carries = λ more g tail all closed.
-                  ap (λ l. holds (pair side (l ++ (framed more ++ g ∷ tail)) (beside side f.reads))) taken
-                  ∙ ap (λ l. holds (pair side (front ++ (framed more ++ g ∷ tail)) l)) (opened.at_gate.other_side ∙ staged.other_side ∙ shut.other_side)
-                  ∙ ap (λ l. holds (pair side l other)) (append_assoc (1 ∷ 1 ∷ head) world (framed more ++ g ∷ tail))
-                  ∙ open_holds more g tail all closed
-                  ∙ ap (with_frames more) (sym opened_holds) };
+              carries = record {
+                carries = λ more g tail all closed.
+                    ap (λ l. holds (pair side (l ++ (framed more ++ g ∷ tail)) (beside side f.reads))) taken
+                    ∙ ap (λ l. holds (pair side (front ++ (framed more ++ g ∷ tail)) l)) (opened.at_gate.other_side ∙ staged.other_side ∙ shut.other_side)
+                    ∙ ap (λ l. holds (pair side l other)) (append_assoc (1 ∷ 1 ∷ head) world (framed more ++ g ∷ tail))
+                    ∙ open_holds more g tail all closed
+                    ∙ ap (with_frames more) (sym opened_holds);
+              };
             }

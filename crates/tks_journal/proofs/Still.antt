@@ -16,8 +16,8 @@ rests_then old mid new first second = record {
   time = record {
     later = omega (arith, first.time.later, second.time.later);
     nothing_else = λ t i le left. ⊎_elim
-      (λ had. ⊎_elim (λ h. inl h) (λ now. inr (second.still i now)) (first.time.nothing_else t i le had))
-      (λ now. inr now) (second.time.nothing_else t i (omega (arith, le, first.time.later)) left);
+        (λ had. ⊎_elim (λ h. inl h) (λ now. inr (second.still i now)) (first.time.nothing_else t i le had))
+        (λ now. inr now) (second.time.nothing_else t i (omega (arith, le, first.time.later)) left);
     keeps = λ t i le left. second.time.keeps t i (omega (arith, le, first.time.later)) (first.time.keeps t i le left);
   };
 }

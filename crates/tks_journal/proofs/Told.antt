@@ -30,10 +30,10 @@ module _ (bytes : List ℕ) where
     four = omega (arith, length-take 4 bytes);
     spells = omega (arith, ap length is, length-take n (drop 4 bytes), length-drop 4 bytes, le);
     parts = ap (λ (l : List ℕ). 1 ∷ l)
-      (sym (take-append-drop 4 bytes)
-      ∙ ap (λ (l : List ℕ). take 4 bytes ++ l) (sym (take-append-drop n (drop 4 bytes)))
-      ∙ ap (λ (l : List ℕ). take 4 bytes ++ (front ++ l)) (drop-drop n 4 bytes)
-      ∙ ap (λ (l : List ℕ). take 4 bytes ++ (l ++ drop (4 + n) bytes)) (sym is));
+        (sym (take-append-drop 4 bytes)
+        ∙ ap (λ (l : List ℕ). take 4 bytes ++ l) (sym (take-append-drop n (drop 4 bytes)))
+        ∙ ap (λ (l : List ℕ). take 4 bytes ++ (front ++ l)) (drop-drop n 4 bytes)
+        ∙ ap (λ (l : List ℕ). take 4 bytes ++ (l ++ drop (4 + n) bytes)) (sym is));
     behind = behind;
   }
 
@@ -50,7 +50,7 @@ read_so [] (gate ∷ bytes) e = elim (cases_eq gate 1) [
     no_end true (Some more) e = cc e
 read_so (body ∷ bodies) (gate ∷ bytes) e = elim (cases_eq gate 1) [
   | inl is ↦ subst (λ g. AreFrames (body ∷ bodies) (g ∷ bytes)) (sym is)
-    (by_test (read_so bodies (drop (4 + size_at bytes) bytes)) (nat_le (4 + size_at bytes) (length bytes)) refl (frames_from (4 + size_at bytes) bytes) refl (ap (λ g. frames (g ∷ bytes)) (sym is) ∙ e))
+      (by_test (read_so bodies (drop (4 + size_at bytes) bytes)) (nat_le (4 + size_at bytes) (length bytes)) refl (frames_from (4 + size_at bytes) bytes) refl (ap (λ g. frames (g ∷ bytes)) (sym is) ∙ e))
   | inr shut ↦ absurd (differ (sym (shut_frames gate bytes shut) ∙ e))
 ]
   where

@@ -105,9 +105,9 @@ other_vacant side i g next e lt =
     let x = on side i in
     record {
       ignored = λ shut c.
-        ap (λ y. holds (pair (other_of side) shut y)) (beside_other side i) ∙ ap holds (other_pair side shut x)
-        ∙ live_holds side x shut f.header f.rest f.is (ap (gives_way f.header.generation) (closed_face shut c))
-        ∙ sym f.content_is;
+          ap (λ y. holds (pair (other_of side) shut y)) (beside_other side i) ∙ ap holds (other_pair side shut x)
+          ∙ live_holds side x shut f.header f.rest f.is (ap (gives_way f.header.generation) (closed_face shut c))
+          ∙ sym f.content_is;
       yields = ap (λ y. gives_way next (face y)) (beside_other side i) ∙ ap (gives_way next) f.is ∙ lt_test f.header.generation next (omega (arith, f.generation, lt));
     }
 

@@ -132,8 +132,12 @@ impl<D: Disk> Journal<D> {
         ensures any_moment { D.honest self.old.disk
             → LeavesOnly (D.view self.old.disk) (D.view self.new.disk) (OneOf (holds (D.view self.old.disk).reads) (begun_as (other_of self.old.live) header.now world.now)) }
 
-        ensures ok { OnOk result (self.new ≡ record self.old { disk = self.new.disk; live = other_of self.old.live;
-            generation = header.now.generation; gate = 2 + length head.now + length world.now }) }
+        ensures ok { OnOk result (self.new ≡ record self.old {
+          disk = self.new.disk;
+          live = other_of self.old.live;
+          generation = header.now.generation;
+          gate = 2 + length head.now + length world.now;
+        }) }
         ensures err { OnErr result (self.new ≡ record self.old { disk = self.new.disk; failed = true }) }
         ensures honesty { D.honest self.old.disk ↔ D.honest self.new.disk }
         ensures counts { Counts result (D.failures self.old.disk) (D.failures self.new.disk) }

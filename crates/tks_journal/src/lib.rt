@@ -19,8 +19,8 @@ mod stored;
 
 pub use blank::Blank;
 pub use error::OpenError;
-pub use frames::Frames;
 pub use fault::SideFault;
+pub use frames::Frames;
 pub use journal::Journal;
 pub use laws::{frames_stand, written_is_held};
 pub use side::spell;

@@ -26,10 +26,7 @@ fn settle<D: Disk>(disk: &mut D) -> Result<(), DeviceFault>
 }
 
 /// Syncs both sides, and says which is live, if any, with its header.
-pub fn survey<D: Disk>(
-    alloc: Global,
-    disk: &mut D,
-) -> Result<Option<(Side, Head)>, OpenError>
+pub fn survey<D: Disk>(alloc: Global, disk: &mut D) -> Result<Option<(Side, Head)>, OpenError>
     ensures blank { result ≡ Ok None → D.honest disk.old → HoldsNothing (D.view disk.new) }
     ensures stored { IfOk result (λ o. IfSome o (λ found. D.honest disk.old
         → StoredAt (D.view disk.new) found.0 found.1.header found.1.at found.1.len)) }

@@ -79,8 +79,14 @@ impl<D: Disk> Stored<D> {
         // The disk holds this header, this world, and the frames that are left.
         ensures read { IfOk result (λ x. D.honest self.disk → holds (D.view self.disk).reads
             ≡ kept x.2.live x.0 x.1.items (frames (behind x.2.live x.2.at (D.view x.2.disk).reads))) }
-        ensures frames { IfOk result (λ x. (x.0 ≡ self.header) × (x.2 ≡ record { disk = x.2.disk; live = self.live; generation = self.header.generation;
-            at = self.at + self.header.world_length; len = self.len; ended = false })) }
+        ensures frames { IfOk result (λ x. (x.0 ≡ self.header) × (x.2 ≡ record {
+          disk = x.2.disk;
+          live = self.live;
+          generation = self.header.generation;
+          at = self.at + self.header.world_length;
+          len = self.len;
+          ended = false;
+        })) }
         ensures fault { IfErr result (λ x. (f : SideFault) → x.error ≡ OpenError.Sides f → D.honest self.disk → holds (D.view self.disk).reads ≡ Err f) }
         ensures unwritten { D.honest self.disk → MatchResult result (λ x. Unwritten (D.view self.disk) (D.view x.2.disk)) (λ x. Unwritten (D.view self.disk) (D.view x.disk)) }
         ensures honesty { MatchResult result (λ x. D.honest self.disk ↔ D.honest x.2.disk) (λ x. D.honest self.disk ↔ D.honest x.disk) }

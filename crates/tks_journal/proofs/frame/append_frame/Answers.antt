@@ -13,7 +13,7 @@ open_gate-requires g c =
     let m = g.D.Disk.view c.stage_frame.new.disk in
     record {
       within = λ h1. let h = c.stage_frame.ensures.honesty.1 h1 in
-        staged_long v c.args.live c.args.gate (c.requires.at_rest h) c.args.body.now c.requires.short m (c.in_ok-stage_frame.ensures.staged h);
+          staged_long v c.args.live c.args.gate (c.requires.at_rest h) c.args.body.now c.requires.short m (c.in_ok-stage_frame.ensures.staged h);
       settled = λ h1. (c.in_ok-stage_frame.ensures.staged (c.stage_frame.ensures.honesty.1 h1)).settled;
     }
 
@@ -32,7 +32,7 @@ returns-in_err-open_gate-clause-any_moment g c h =
     let h1 = c.stage_frame.ensures.honesty.0 h in
     let staged = c.in_ok-stage_frame.ensures.staged h in
     let first = weaker v m (Begins c.args.live (take (c.args.gate + 1) (on c.args.live v.reads)) (beside c.args.live v.reads)) (OneOf (holds v.reads) (with_frames (c.args.body.now ∷ []) (holds v.reads)))
-      (behind_holds v c.args.live c.args.gate rest c.args.body.now c.requires.short) (c.stage_frame.ensures.any_moment h) in
+    (behind_holds v c.args.live c.args.gate rest c.args.body.now c.requires.short) (c.stage_frame.ensures.any_moment h) in
     then v m f (OneOf (holds v.reads) (with_frames (c.args.body.now ∷ []) (holds v.reads))) first
     (weaker m f (AtGate c.args.live c.args.gate m.reads) (OneOf (holds v.reads) (with_frames (c.args.body.now ∷ []) (holds v.reads))) (gate_holds v c.args.live c.args.gate rest c.args.body.now c.requires.short m staged) (c.open_gate.ensures.any_moment h1))
 
@@ -45,7 +45,7 @@ returns-clause-any_moment g c h =
     let h1 = c.stage_frame.ensures.honesty.0 h in
     let staged = c.in_ok-stage_frame.ensures.staged h in
     let first = weaker v m (Begins c.args.live (take (c.args.gate + 1) (on c.args.live v.reads)) (beside c.args.live v.reads)) (OneOf (holds v.reads) (with_frames (c.args.body.now ∷ []) (holds v.reads)))
-      (behind_holds v c.args.live c.args.gate rest c.args.body.now c.requires.short) (c.stage_frame.ensures.any_moment h) in
+    (behind_holds v c.args.live c.args.gate rest c.args.body.now c.requires.short) (c.stage_frame.ensures.any_moment h) in
     then v m f (OneOf (holds v.reads) (with_frames (c.args.body.now ∷ []) (holds v.reads))) first
     (weaker m f (AtGate c.args.live c.args.gate m.reads) (OneOf (holds v.reads) (with_frames (c.args.body.now ∷ []) (holds v.reads))) (gate_holds v c.args.live c.args.gate rest c.args.body.now c.requires.short m staged) (c.open_gate.ensures.any_moment h1))
 

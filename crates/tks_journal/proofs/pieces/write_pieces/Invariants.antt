@@ -13,7 +13,7 @@ invariant-loop-done g l =
       count : g.D.Disk.failures l.disk ≡ g.D.Disk.failures l.fn.disk;
       front : (stem other : List ℕ) → g.D.Disk.honest l.fn.disk → length stem ≤ l.at → AllBegin l.side stem other (view l.fn.disk) → KeepsFront l.side stem other (view l.fn.disk) (view l.disk);
       written : g.D.Disk.honest l.fn.disk → l.at ≤ length (on l.side (view l.fn.disk).reads) →
-        take (l.at + l.done) (on l.side (view l.disk).reads) ≡ take l.at (on l.side (view l.fn.disk).reads) ++ take l.done l.bytes;
+          take (l.at + l.done) (on l.side (view l.disk).reads) ≡ take l.at (on l.side (view l.fn.disk).reads) ++ take l.done l.bytes;
     }
 
 abbrev pub decreases-loop-done : goal.decreases-loop-done

@@ -32,12 +32,12 @@ returns-in-Ok-Some-clause-frame g c =
     let body = c.in-Ok-Some.body.items in
     subst (λ s. g.D.Disk.honest s.disk → frames (behind s.live s.at (g.D.Disk.view s.disk).reads) ≡ with_front body (frames (behind live (at + (5 + c.len.result)) m.reads))) c.self.view_is
     (λ h0.
-        let v = g.D.Disk.view c.self.inside.disk in
-        let f = (c.self.invariant h0).0 in
-        let rests = c.frame_from.ensures.rests h0 in
-        let is : FrameIs (on live v.reads) at body = (rw c.in-Ok-Some.field-0-is at c.in-Ok-Some.ensures.frame) h0 in
-        let fits : at + 5 + length body ≤ len = rw c.in-Ok-Some.field-0-is at c.in-Ok-Some.ensures.size in
-        let there : at + 5 + length body ≡ at + (5 + c.len.result) = omega (arith, c.len.ensures) in
-        frame_met v live c.self.inside.generation at len f body fits is
-        ∙ ap (λ (k : ℕ). with_front body (frames (behind live k v.reads))) there
-        ∙ ap (λ (i : Images). with_front body (frames (behind live (at + (5 + c.len.result)) i))) (sym rests.same))
+    let v = g.D.Disk.view c.self.inside.disk in
+    let f = (c.self.invariant h0).0 in
+    let rests = c.frame_from.ensures.rests h0 in
+    let is : FrameIs (on live v.reads) at body = (rw c.in-Ok-Some.field-0-is at c.in-Ok-Some.ensures.frame) h0 in
+    let fits : at + 5 + length body ≤ len = rw c.in-Ok-Some.field-0-is at c.in-Ok-Some.ensures.size in
+    let there : at + 5 + length body ≡ at + (5 + c.len.result) = omega (arith, c.len.ensures) in
+    frame_met v live c.self.inside.generation at len f body fits is
+    ∙ ap (λ (k : ℕ). with_front body (frames (behind live k v.reads))) there
+    ∙ ap (λ (i : Images). with_front body (frames (behind live (at + (5 + c.len.result)) i))) (sym rests.same))
