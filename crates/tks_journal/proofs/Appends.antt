@@ -1,13 +1,12 @@
 -- A frame behind a gate: what the sides hold while it is written, and once the gate is open.
-use Rattle.std.proofs.Common.{◌≡◌, ◌≢◌, ◌<◌, ◌≤◌, ◌⊎◌, inl, inr, ℕ, ◌+◌, ◌^◌, List, [], ◌∷◌, ◌++◌, length, get_or, take, drop, refl, sym, ◌∙◌, ap, subst, arith, append_assoc, length-append, take-append-drop, Option, Some, None, Result, Ok, Err}
+use Rattle.std.proofs.Common.{◌≡◌, ◌≢◌, ◌<◌, ◌≤◌, inl, inr, ℕ, ◌+◌, ◌^◌, List, [], ◌∷◌, ◌++◌, length, get_or, take, drop, refl, sym, ◌∙◌, ap, arith, append_assoc, length-append, take-append-drop, Option, Some, None, Result, Ok, Err}
 use Rattle.std.specs.Int.{w32, to_be_bytes}
 use Rattle.std.proofs.lemmas.Bool.{cases_eq}
 use Rattle.std.proofs.Math.Seq.{get_or-append_seam}
-use Rattle.std.proofs.lemmas.List.{take_at, drop_at, append-nil, get_or-take, length-take, length-drop}
+use Rattle.std.proofs.lemmas.List.{take_at, drop_at, append-nil, get_or-take}
 use Rattle.tks_disk.specs.DiskModel.{View, Images, on, beside}
 use Rattle.tks_disk.specs.declared.disk.Side.{Side}
-use Rattle.tks_journal.specs.Moments.{IsSettled}
-use Rattle.tks_journal.specs.Sides.{holds, with_frames, live_of, pair, framed, AllShort, Kept}
+use Rattle.tks_journal.specs.Sides.{holds, with_frames, live_of, pair, framed, Kept}
 use Rattle.tks_journal.specs.declared.fault.SideFault.{SideFault}
 use Rattle.tks_journal.specs.Staging.{Begins, Staged, AtGate, Opened}
 use Rattle.tks_journal.specs.Resting.{AtRest, OneOf}

@@ -1,17 +1,17 @@
 -- Which side is live, by what was read of both.
-use Rattle.std.proofs.Common.{◌≡◌, ◌<◌, ◌≤◌, ℕ, ◌==◌, nat_lt, Bool, true, false, cond, List, ◌∷◌, ◌++◌, length, take, drop, Option, Some, None, IfSome, Result, Ok, Err, refl, sym, ◌∙◌, ap, subst, arith, take-append-drop}
+use Rattle.std.proofs.Common.{◌≡◌, ℕ, ◌==◌, nat_lt, Bool, true, false, cond, List, ◌++◌, length, take, drop, Option, Some, None, IfSome, Result, Ok, Err, refl, sym, ◌∙◌, ap, subst, arith, take-append-drop}
 use Rattle.std.proofs.lemmas.Bool.Decides.{nat_tests}
 use Rattle.tks_codec.specs.declared.header.Header.{Header}
 use Rattle.tks_disk.specs.DiskModel.{View, Images, on, beside}
 use Rattle.tks_disk.specs.declared.disk.Side.{Side}
 use Rattle.tks_disk.specs.declared.disk.Side.TheVariants.{A, B}
-use Rattle.tks_journal.specs.Fronts.{HeadOf, FrontIs, newest, chosen}
-use Rattle.tks_journal.specs.Loading.{StoredAt, with_behind}
+use Rattle.tks_journal.specs.Fronts.{HeadOf, FrontIs, chosen}
+use Rattle.tks_journal.specs.Loading.{StoredAt}
 use Rattle.tks_journal.specs.Moments.{IsSettled}
 use Rattle.tks_journal.specs.Resting.{HoldsNothing, gives_way}
-use Rattle.tks_journal.specs.Sides.{Face, closed, unknown, broken, whole, face, Kept, content, newer, decided, held, holds}
+use Rattle.tks_journal.specs.Sides.{Face, closed, unknown, broken, whole, face, Kept, content, decided, held, holds}
 use Rattle.tks_journal.specs.declared.fault.SideFault.{SideFault}
-use Rattle.tks_journal.specs.declared.fault.SideFault.TheVariants.{UnknownFormat, Damaged}
+use Rattle.tks_journal.specs.declared.fault.SideFault.TheVariants.{Damaged}
 use Rattle.tks_journal.specs.declared.front.Front.{Front}
 use Rattle.tks_journal.specs.declared.front.Front.TheVariants.{Closed, Unknown, Broken, Whole}
 use Rattle.tks_journal.specs.declared.front.Head.{Head}

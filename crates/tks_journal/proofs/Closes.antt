@@ -1,9 +1,9 @@
 -- A gate that is closed: what a crash leaves is as it was, or the side is closed.
-use Rattle.std.proofs.Common.{◌≡◌, ◌<◌, ◌≤◌, ◌⊎◌, inl, inr, ℕ, ◌+◌, true, List, [], ◌∷◌, length, drop, get_or, refl, sym, ◌∙◌, ap, subst, arith, Result}
+use Rattle.std.proofs.Common.{◌≡◌, ◌⊎◌, inl, inr, ℕ, true, List, [], ◌∷◌, drop, get_or, refl, sym, ◌∙◌, subst, arith, Result}
 use Rattle.std.proofs.lemmas.Bool.{cases_eq}
 use Rattle.std.proofs.lemmas.Bool.Decides.{nat_tests}
 use Rattle.std.proofs.lemmas.List.{drop_all}
-use Rattle.tks_disk.specs.DiskModel.{View, Images, Rests, Torn, TornOn, Writes, Syncs, on, beside}
+use Rattle.tks_disk.specs.DiskModel.{View, Images, Rests, Torn, TornOn, Writes, Syncs, on}
 use Rattle.tks_disk.specs.declared.disk.Side.{Side}
 use Rattle.tks_journal.specs.Moments.{LeavesOnly, IsSettled}
 use Rattle.tks_journal.specs.Sides.{is_closed}

@@ -1,5 +1,5 @@
 -- What faces and frames read as.
-use Rattle.std.proofs.Common.{◌≡◌, ◌≢◌, ◌<◌, ◌≤◌, ℕ, zero, suc, ◌+◌, ◌==◌, nat_le, nat_lt, Bool, true, false, cond, List, [], ◌∷◌, ◌++◌, length, take, drop, get_or, Some, None, Ok, Err, refl, sym, ◌∙◌, ap, arith, length-append, append_assoc}
+use Rattle.std.proofs.Common.{◌≡◌, ◌≢◌, ◌<◌, ◌≤◌, ℕ, zero, suc, ◌+◌, ◌==◌, nat_le, nat_lt, true, false, cond, List, [], ◌∷◌, ◌++◌, length, take, drop, get_or, Some, None, Ok, Err, refl, sym, ◌∙◌, ap, arith, length-append, append_assoc}
 use Rattle.std.specs.Int.{w32, from_be_bytes, to_be_bytes}
 use Rattle.std.proofs.lemmas.Nat.{from_be_bytes-to_be_bytes_4}
 use Rattle.std.proofs.lemmas.Bool.Decides.{nat_tests}
@@ -8,7 +8,7 @@ use Rattle.tks_codec.specs.Header.{header_at}
 use Rattle.tks_codec.specs.declared.header.Header.{Header}
 use Rattle.tks_disk.specs.declared.disk.Side.{Side}
 use Rattle.tks_disk.specs.declared.disk.Side.TheVariants.{A, B}
-use Rattle.tks_journal.specs.Sides.{is_closed, format_of, Face, closed, unknown, broken, whole, is_given, headed, face, with_front, size_at, frames_from, frames, kept, content, newer, decided, held, holds, with_frames, pair, framed, AllShort}
+use Rattle.tks_journal.specs.Sides.{is_closed, format_of, Face, closed, unknown, broken, whole, is_given, headed, face, with_front, size_at, frames_from, frames, kept, content, decided, held, holds, with_frames, pair, framed, AllShort}
 use Rattle.tks_journal.specs.declared.fault.SideFault.TheVariants.{Damaged}
 use Rattle.tks_journal.specs.Resting.{gives_way, begun_as}
 use Rattle.tks_journal.proofs.Closes.{shut_test}

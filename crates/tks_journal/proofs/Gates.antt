@@ -1,9 +1,9 @@
 -- A gate that is opened: what a crash leaves is as it was, but for the gate's byte.
-use Rattle.std.proofs.Common.{◌≡◌, ◌<◌, ℕ, ◌+◌, List, [], ◌∷◌, length, get_or, refl, sym, ◌∙◌, ap, subst, arith, add-zero, Result, Ok}
+use Rattle.std.proofs.Common.{◌≡◌, ◌<◌, ℕ, List, [], ◌∷◌, length, get_or, refl, sym, ◌∙◌, ap, subst, arith, add-zero, Result, Ok}
 use Rattle.tks_disk.specs.DiskModel.{View, Images, TornOn, Writes, Syncs, on, beside}
 use Rattle.tks_disk.specs.declared.disk.Side.{Side}
 use Rattle.tks_disk.specs.declared.disk.Side.TheVariants.{A, B}
-use Rattle.tks_journal.specs.Moments.{LeavesOnly, IsSettled}
+use Rattle.tks_journal.specs.Moments.{IsSettled}
 use Rattle.tks_journal.specs.Sides.{pair}
 use Rattle.tks_journal.specs.Staging.{AtGate, Opened}
 use Rattle.tks_journal.proofs.Lists.{torn_front, torn_back}

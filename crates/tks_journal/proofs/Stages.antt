@@ -1,9 +1,9 @@
 -- Bytes that are written behind a front that stays, and synced.
-use Rattle.std.proofs.Common.{◌≡◌, ◌≤◌, ℕ, ◌+◌, ◌-◌, List, ◌++◌, length, take, refl, sym, ◌∙◌, ap, subst, arith, Result, Ok}
+use Rattle.std.proofs.Common.{◌≡◌, ◌≤◌, ℕ, ◌+◌, List, ◌++◌, length, take, refl, sym, ◌∙◌, ap, subst, arith, Result, Ok}
 use Rattle.std.proofs.lemmas.List.{length-take, append_assoc}
-use Rattle.tks_disk.specs.DiskModel.{View, Images, Syncs, on, beside}
+use Rattle.tks_disk.specs.DiskModel.{View, Syncs, on, beside}
 use Rattle.tks_disk.specs.declared.disk.Side.{Side}
-use Rattle.tks_journal.specs.Moments.{LeavesOnly, IsSettled}
+use Rattle.tks_journal.specs.Moments.{IsSettled}
 use Rattle.tks_journal.specs.Staging.{Begins, AllBegin, KeepsFront, Staged}
 use Rattle.tks_journal.proofs.Gates.{settles}
 use Rattle.tks_journal.proofs.Phases.{goes_on, then}

@@ -1,5 +1,5 @@
 -- A side that is begun: what the sides hold while it is written, and once its gate is open.
-use Rattle.std.proofs.Common.{◌≡◌, ◌≢◌, ◌<◌, ◌≤◌, ◌⊎◌, inl, inr, ⊎_elim, ℕ, suc, ◌+◌, true, List, [], ◌∷◌, ◌++◌, length, get_or, take, drop, refl, sym, ◌∙◌, ap, arith, append_assoc, length-append, take-append-drop, Option, Result, Ok}
+use Rattle.std.proofs.Common.{◌≡◌, ◌≢◌, ◌<◌, inl, inr, ⊎_elim, ℕ, ◌+◌, true, List, [], ◌∷◌, ◌++◌, length, get_or, take, drop, sym, ◌∙◌, ap, arith, append_assoc, length-append, take-append-drop, Option, Result, Ok}
 use Rattle.std.proofs.lemmas.Bool.{cases_eq}
 use Rattle.std.proofs.Math.Seq.{get_or-append_seam}
 use Rattle.std.proofs.lemmas.List.{take_at, drop_at}
@@ -7,10 +7,10 @@ use Rattle.tks_codec.specs.Header.{header_at}
 use Rattle.tks_codec.specs.declared.header.Header.{Header}
 use Rattle.tks_disk.specs.DiskModel.{View, Images, on, beside}
 use Rattle.tks_disk.specs.declared.disk.Side.{Side}
-use Rattle.tks_journal.specs.Sides.{is_closed, Kept, holds, with_frames, is_given, face, pair, framed, AllShort}
+use Rattle.tks_journal.specs.Sides.{is_closed, Kept, holds, with_frames, is_given, pair, framed, AllShort}
 use Rattle.tks_journal.specs.declared.fault.SideFault.{SideFault}
 use Rattle.tks_journal.specs.Staging.{Begins, Staged, AtGate, Opened, Closing, Shut}
-use Rattle.tks_journal.specs.Resting.{AtRest, OneOf, Vacant, gives_way, begun_as}
+use Rattle.tks_journal.specs.Resting.{AtRest, OneOf, Vacant, begun_as}
 use Rattle.tks_journal.proofs.Gates.{pair_of, on_pair, exact}
 use Rattle.tks_journal.proofs.Lists.{at_place}
 use Rattle.tks_journal.proofs.Stages.{front_long}

@@ -1,6 +1,6 @@
 -- Calls that change nothing, one after the other.
-use Rattle.std.proofs.Common.{◌≤◌, ◌⊎◌, inl, inr, ⊎_elim, ℕ, refl, ◌∙◌, arith}
-use Rattle.tks_disk.specs.DiskModel.{View, Images, Elapses, Rests}
+use Rattle.std.proofs.Common.{inl, inr, ⊎_elim, refl, ◌∙◌, arith}
+use Rattle.tks_disk.specs.DiskModel.{View, Elapses, Rests}
 
 pub no_time : (v : View) → Elapses v v
 no_time v = record { later = omega arith; nothing_else = λ t i le left. inl left; keeps = λ t i le left. left }

@@ -1,10 +1,9 @@
 -- The frames that are read are those that stand there.
-use Rattle.std.proofs.Common.{◌≡◌, ◌≢◌, ◌≤◌, ℕ, ◌+◌, ◌-◌, nat_le, Bool, true, false, cond, List, [], ◌∷◌, ◌++◌, length, take, drop, Option, Some, None, inl, inr, refl, sym, ◌∙◌, ap, subst, arith, take-append-drop}
-use Rattle.std.specs.Int.{w32, from_be_bytes}
+use Rattle.std.proofs.Common.{◌≡◌, ◌≤◌, ℕ, ◌+◌, nat_le, Bool, true, false, cond, List, [], ◌∷◌, ◌++◌, length, take, drop, Option, Some, None, inl, inr, refl, sym, ◌∙◌, ap, subst, arith, take-append-drop}
 use Rattle.std.proofs.lemmas.Bool.{cases_eq}
 use Rattle.std.proofs.lemmas.Bool.Decides.{nat_tests}
 use Rattle.std.proofs.lemmas.List.{length-take, length-drop, drop-drop}
-use Rattle.tks_journal.specs.AreFrames.{AreFrames, Ends, Begins}
+use Rattle.tks_journal.specs.AreFrames.{AreFrames, Begins}
 use Rattle.tks_journal.specs.Sides.{with_front, size_at, frames_from, frames}
 use Rattle.tks_journal.proofs.Faces.{one_frame, shut_frames, frames_skip}
 

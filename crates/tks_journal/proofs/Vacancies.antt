@@ -1,15 +1,14 @@
 -- Which side may be begun anew.
-use Rattle.std.proofs.Common.{◌≡◌, ◌<◌, ◌≤◌, ℕ, ◌+◌, ◌^◌, ◌==◌, nat_le, nat_lt, Bool, true, false, cond, List, length, take, drop, Option, Some, None, Result, Ok, Err, refl, sym, ◌∙◌, ap, subst, arith}
+use Rattle.std.proofs.Common.{◌≡◌, ◌<◌, ◌≤◌, ℕ, ◌^◌, ◌==◌, nat_le, nat_lt, Bool, true, false, cond, List, length, take, drop, Option, Some, None, Result, Ok, Err, refl, sym, ◌∙◌, ap, arith}
 use Rattle.std.proofs.lemmas.Bool.Decides.{nat_tests}
 use Rattle.tks_codec.specs.declared.header.Header.{Header}
-use Rattle.tks_disk.specs.DiskModel.{View, Images, on, beside}
+use Rattle.tks_disk.specs.DiskModel.{Images, on, beside}
 use Rattle.tks_disk.specs.declared.disk.Side.{Side}
 use Rattle.tks_disk.specs.declared.disk.Side.TheVariants.{A, B}
-use Rattle.tks_journal.specs.Sides.{is_closed, Face, closed, unknown, broken, whole, is_given, face, frames, Kept, kept, content, newer, decided, held, holds, live_of, pair, other_of}
+use Rattle.tks_journal.specs.Sides.{Face, closed, unknown, broken, whole, is_given, face, frames, Kept, kept, content, decided, held, holds, live_of, pair, other_of}
 use Rattle.tks_journal.specs.declared.fault.SideFault.{SideFault}
-use Rattle.tks_journal.specs.declared.fault.SideFault.TheVariants.{UnknownFormat, Damaged}
-use Rattle.tks_journal.specs.Resting.{IsLive, Vacant, gives_way}
-use Rattle.tks_journal.proofs.Gates.{pair_of}
+use Rattle.tks_journal.specs.declared.fault.SideFault.TheVariants.{Damaged}
+use Rattle.tks_journal.specs.Resting.{Vacant, gives_way}
 use Rattle.tks_journal.proofs.Faces.{closed_face, live_holds}
 
 pub given_test : (n : ℕ) → 0 < n → n ≤ 2 ^ 62 → is_given n ≡ true

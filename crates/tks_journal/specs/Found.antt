@@ -1,8 +1,8 @@
 -- What opening a disk finds.
-use Rattle.std.specs.Prelude.{◌≡◌, ℕ, Option, None, Result, Ok, drop}
-use Rattle.tks_disk.specs.DiskModel.{Images, on}
+use Rattle.std.specs.Prelude.{◌≡◌, Option, None, Result, Ok}
+use Rattle.tks_disk.specs.DiskModel.{Images}
 use Rattle.tks_journal.specs.Sides.{Kept, content}
-use Rattle.tks_journal.specs.Loading.{StoredState, behind}
+use Rattle.tks_journal.specs.Loading.{behind}
 use Rattle.tks_journal.specs.declared.fault.SideFault.{SideFault}
 use Rattle.tks_journal.specs.declared.stored.Opened.{Opened}
 use Rattle.tks_journal.specs.declared.stored.Opened.TheVariants.{Nothing, Something}

@@ -1,5 +1,5 @@
 -- What the calls that read a disk do to it, and when they fail.
-use Rattle.std.specs.Prelude.{◌≡◌, ◌<◌, ℕ, Result, Ok, Err, MatchResult}
+use Rattle.std.specs.Prelude.{◌≡◌, ◌<◌, ℕ, Result, MatchResult}
 use Rattle.tks_disk.specs.DiskModel.{View}
 use Rattle.tks_journal.specs.Moments.{LeavesOnly}
 use Rattle.tks_journal.specs.declared.error.OpenError.{OpenError}

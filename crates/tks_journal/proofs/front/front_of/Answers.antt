@@ -1,6 +1,6 @@
-use Rattle.std.proofs.Common.{◌≡◌, ◌≢◌, ◌≤◌, length, get_or, sym, ◌∙◌, ap, arith}
+use Rattle.std.proofs.Common.{◌≡◌, get_or, sym, ◌∙◌, ap, arith}
 use Rattle.tks_disk.specs.DiskModel.{Images, on}
-use Rattle.tks_journal.proofs.Openings.{short_face, shut_face, unknown_face, open_side}
+use Rattle.tks_journal.proofs.Openings.{short_face, shut_face, unknown_face}
 use Rattle.tks_journal.proofs.front.front_of.Goals as goal
 
 pub returns-then-len-lt2-clause-front : goal.returns-then-len-lt2-clause-front

@@ -1,7 +1,6 @@
-use Rattle.std.proofs.Common.{◌≡◌, ◌+◌, ◌-◌, take, drop, sym, ◌∙◌, ap, subst, arith, ℕ, List}
+use Rattle.std.proofs.Common.{◌≡◌, take, drop, sym, ◌∙◌, ap, subst, arith}
 use Rattle.tks_disk.specs.DiskModel.{Images, on}
 use Rattle.tks_journal.specs.Fronts.{FrontIs, AttemptIs}
-use Rattle.tks_journal.specs.Sides.{face, broken}
 use Rattle.tks_journal.specs.declared.front.Attempt.{Attempt}
 use Rattle.tks_journal.specs.declared.front.Attempt.TheVariants.{Read, Wrong, Short}
 use Rattle.tks_journal.specs.declared.front.Front.{Front}

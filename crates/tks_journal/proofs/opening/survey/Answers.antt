@@ -1,10 +1,6 @@
-use Rattle.std.proofs.Common.{◌≡◌, Some, None, Option, Ok, Err, sym, ◌∙◌, ap, subst}
+use Rattle.std.proofs.Common.{◌≡◌, None, Ok, Err, sym, ◌∙◌, ap, subst}
 use Rattle.tks_disk.specs.DiskModel.{Images}
-use Rattle.tks_disk.specs.declared.disk.Side.{Side}
-use Rattle.tks_journal.specs.Fronts.{FrontIs, chosen}
-use Rattle.tks_journal.specs.Moments.{IsSettled}
-use Rattle.tks_journal.specs.Sides.{holds}
-use Rattle.tks_journal.specs.declared.front.Head.{Head}
+use Rattle.tks_journal.specs.Fronts.{FrontIs}
 use Rattle.tks_journal.proofs.Choices.{chosen_fault, chosen_nothing, chosen_so}
 use Rattle.tks_journal.proofs.Closes.{still_settled}
 use Rattle.tks_journal.proofs.opening.survey.Goals as goal

@@ -1,7 +1,7 @@
 use Rattle.std.proofs.Common.{◌≡◌, false, ap, subst, sym, ◌∙◌, arith}
 use Rattle.tks_disk.specs.declared.disk.Side.{Side}
 use Rattle.tks_journal.specs.Resting.{Vacant}
-use Rattle.tks_journal.proofs.Vacancies.{other_vacant, given_test}
+use Rattle.tks_journal.proofs.Vacancies.{other_vacant}
 use Rattle.tks_journal.proofs.journal.Journal.checkpoint.Goals as goal
 
 pub start_side-requires-clause-vacant : goal.start_side-requires-clause-vacant

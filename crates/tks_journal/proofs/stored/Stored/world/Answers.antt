@@ -1,5 +1,5 @@
-use Rattle.std.proofs.Common.{◌≡◌, ◌+◌, ℕ, length, Err, sym, ◌∙◌, ap, subst, arith}
-use Rattle.tks_disk.specs.DiskModel.{Images, on}
+use Rattle.std.proofs.Common.{◌≡◌, ◌+◌, ℕ, Err, sym, ◌∙◌, ap, subst, arith}
+use Rattle.tks_disk.specs.DiskModel.{Images}
 use Rattle.tks_journal.specs.Loading.{FramesAt, behind}
 use Rattle.tks_journal.specs.Sides.{frames, holds, kept}
 use Rattle.tks_journal.proofs.Closes.{still_settled}
