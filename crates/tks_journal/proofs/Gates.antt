@@ -17,10 +17,6 @@ pub on_pair : (side : Side) (x y : List ℕ) → on side (pair side x y) ≡ x
 on_pair A x y = refl
 on_pair B x y = refl
 
-pub beside_pair : (side : Side) (x y : List ℕ) → beside side (pair side x y) ≡ y
-beside_pair A x y = refl
-beside_pair B x y = refl
-
 -- images that agree on both sides are the same
 pub exact : (side : Side) (i j : Images) → on side i ≡ on side j → beside side i ≡ beside side j → i ≡ j
 exact side i j p q = pair_of side i ∙ ap (λ l. pair side l (beside side i)) p ∙ ap (λ l. pair side (on side j) l) q ∙ sym (pair_of side j)

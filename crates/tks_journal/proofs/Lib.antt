@@ -11,6 +11,5 @@ mod Passing
 mod Phases
 mod Stages
 mod Starts
-mod Still
 mod Told
 mod Vacancies

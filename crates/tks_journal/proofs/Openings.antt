@@ -91,8 +91,3 @@ unfolding face format_of
 unknown_face [] le is ne = absurd (omega arith)
 unknown_face (g ∷ []) le is ne = absurd (omega arith)
 unknown_face (g ∷ b ∷ rest) le is ne = ap (λ o. face (o ∷ b ∷ rest)) is ∙ ap (λ t. cond t (headed (header_at rest)) unknown) (other_format b ne)
-
-pub open_side : (len : ℕ) (x : List ℕ) → len ≡ length x → 2 ≤ length x → get_or x 0 0 ≡ 1 → get_or x 1 0 ≡ 1 → IsOpenSide len x
-open_side len [] size le first second = absurd (omega arith)
-open_side len (g ∷ []) size le first second = absurd (omega arith)
-open_side len (g ∷ b ∷ rest) size le first second = record { size = size; opens = ap (λ (o : ℕ). o ∷ b ∷ []) first ∙ ap (λ (o : ℕ). 1 ∷ o ∷ []) second }

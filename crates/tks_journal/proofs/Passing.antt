@@ -18,9 +18,6 @@ use Rattle.tks_journal.proofs.Stages.{front_long}
 
 -- ---- what stands at a place
 
-pub gone_frames : (x : List ℕ) (at : ℕ) → length x ≤ at → frames (drop at x) ≡ None
-gone_frames x at le = ap frames (drop_all at x le)
-
 at_gate : (x : List ℕ) (at : ℕ) → at < length x → drop at x ≡ get_or x at 0 ∷ drop (at + 1) x
 at_gate x at lt = drop_more x at 0 lt
 
@@ -29,14 +26,6 @@ shut_here x at lt shut = ap frames (at_gate x at lt) ∙ shut_frames (get_or x a
 
 long_test : (m n : ℕ) → n < m → nat_le m n ≡ false
 long_test m n lt = grind (arith, nat_tests)
-
--- a frame that is cut
-pub cut_frames : (x : List ℕ) (at : ℕ) → at < length x → get_or x at 0 ≡ 1 → length x < at + 5 + size_at (drop (at + 1) x) → frames (drop at x) ≡ None
-cut_frames x at lt opens short =
-    let bytes = drop (at + 1) x in
-    let n = size_at bytes in
-    ap frames (at_gate x at lt ∙ ap (λ (o : ℕ). o ∷ bytes) opens)
-    ∙ ap (λ b. cond b (with_front (take n (drop 4 bytes)) (frames_from (4 + n) bytes)) None) (long_test (4 + n) (length bytes) (omega (arith, length-drop (at + 1) x, short)))
 
 module _ (x : List ℕ) (at : ℕ) (body : List ℕ) (fits : at + 5 + length body ≤ length x) (is : FrameIs x at body) where
   abbrev n : ℕ
@@ -199,11 +188,3 @@ module _ (v : View) (live : Side) (header : Header) (at len : ℕ) (f : StoredAt
       is_live = ap live_of (world_passes (0 ∷ []));
       passes = λ bytes. world_passes bytes ∙ joined_kept live header world (frames bytes) ∙ ap (λ r. joined r (frames bytes)) (sym (world_passes (0 ∷ [])));
     }
-
-pub stored_still : (v m : View) (live : Side) (header : Header) (at len : ℕ) → StoredAt v live header at len → IsSettled m → m.reads ≡ v.reads → StoredAt m live header at len
-stored_still v m live header at len f settled same = record {
-  settled = settled;
-  size = f.size ∙ ap (λ (i : Images). length (on live i)) (sym same);
-  within = f.within;
-  passes = λ bytes. ap (λ (i : Images). holds (with_behind live at bytes i)) same ∙ f.passes bytes;
-}

@@ -11,9 +11,6 @@ use Rattle.tks_journal.specs.declared.fault.SideFault.TheVariants.{Damaged}
 use Rattle.tks_journal.specs.Resting.{Vacant, gives_way}
 use Rattle.tks_journal.proofs.Faces.{closed_face, live_holds}
 
-pub given_test : (n : ℕ) → 0 < n → n ≤ 2 ^ 62 → is_given n ≡ true
-given_test n low high = grind (arith, nat_tests)
-
 lt_test : (m n : ℕ) → m < n → nat_lt m n ≡ true
 lt_test m n lt = grind (arith, nat_tests)
 

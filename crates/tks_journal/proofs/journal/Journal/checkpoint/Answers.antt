@@ -1,4 +1,4 @@
-use Rattle.std.proofs.Common.{◌≡◌, false, ap, subst, sym, ◌∙◌, arith}
+use Rattle.std.proofs.Common.{rules, ◌≡◌, false, ap, subst, sym, ◌∙◌, arith}
 use Rattle.tks_disk.specs.declared.disk.Side.{Side}
 use Rattle.tks_journal.specs.Resting.{Vacant}
 use Rattle.tks_journal.proofs.Vacancies.{other_vacant}
@@ -12,3 +12,9 @@ start_side-requires-clause-vacant g c h =
     let next = c.args.header.now.generation in
     subst (λ (s : Side). Vacant s next reads) (sym c.other-side.ensures)
     (other_vacant c.self.inside.live reads c.self.inside.generation next (c.self.invariant works h).is_live (omega (arith, same, c.requires.next)))
+
+pub invariant_of-self-2 : goal.invariant_of-self-2
+invariant_of-self-2 = search rules
+
+pub returns-clause-ok : goal.returns-clause-ok
+returns-clause-ok = search rules
