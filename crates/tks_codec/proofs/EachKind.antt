@@ -1,15 +1,15 @@
 -- What holds of each kind of spelling, of what it is made of.
-use Rattle.std.proofs.Common.{◌≡◌, ℕ, zero, suc, ◌+◌, ◌*◌, ◌^◌, ◌<◌, ◌≤◌, ◌⊎◌, inl, inr, Bool, true, false, cond, ltb, leb, eqb, List, [], ◌∷◌, ◌++◌, length, get_or, take, drop, Option, Some, None, Result, Ok, Err, refl, sym, ap, subst, ◌∙◌, append_assoc, arith}
-use Rattle.std.specs.Int.{Width, w8, w16, w32, w64, byte_len, from_be_bytes, to_be_bytes}
+use Rattle.std.proofs.Common.{◌≡◌, ℕ, zero, suc, ◌+◌, ◌*◌, ◌^◌, ◌<◌, ◌≤◌, ◌⊎◌, inl, inr, Bool, true, false, cond, ltb, leb, eqb, List, [], ◌∷◌, ◌++◌, length, take, drop, Option, Some, None, Result, Ok, Err, refl, sym, ap, subst, ◌∙◌, append_assoc, arith}
+use Rattle.std.specs.Int.{Width, w16, w32, w64, byte_len, from_be_bytes, to_be_bytes, cast_unsigned, cast_signed}
 use Rattle.std.proofs.lemmas.Bool.{cases_lt, ltb-false, lt-ltb, le-ltb, eqb-true, leb-true}
 use Rattle.std.proofs.lemmas.List.{append-nil, take_at, drop_at, take-append-drop, length-append, length-take, get_or-drop, get_or-take, get_or_past, nil_from_length}
+use Rattle.std.proofs.lemmas.Int.{of_z-to_z}
 use Rattle.std.proofs.lemmas.Nat.{be_bytes_2, be_bytes_4, be_bytes_8, from_be_bytes-to_be_bytes_2, from_be_bytes-to_be_bytes_4, from_be_bytes-to_be_bytes_8}
-use Rattle.std.specs.Prelude.{◌||◌, ◌&&◌}
+use Rattle.std.specs.Prelude.{◌||◌, ◌&&◌, ◌==◌}
 use Rattle.tks_text.proofs.Texts.{both}
 use Rattle.tks_text.specs.Text.{is_text_byte, IsText}
-use Rattle.tks_codec.specs.Spelling.{Read, ◌>>=◌, Spelling, Spells, IsBytes, Lawful, number_at, number, byte_at, byte, passed, such_that, field, through, which, whole, none, AreLegal, members, members_at, list_at, list_by, list, text_byte, text}
-use Rattle.tks_codec.proofs.Joining.{bytes_behind, not_nil, Stands, in_first, in_second, stands, bind_ok, bind_err, bind_same, bind_done, ok_is, no_fault, Parts, Joins, joined}
-
+use Rattle.tks_codec.specs.Spelling.{◌>>=◌, Spelling, Spells, IsBytes, Lawful, number_at, number, byte_at, byte, passed, such_that, field, through, signed, which, whole, none, pair, is_flag, flag_of, flag, just, count_of, option, is_behind, rising, AreLegal, members, members_at, list_at, list_by, list, text_byte, text}
+use Rattle.tks_codec.proofs.Joining.{not_nil, Stands, in_first, in_second, stands, bind_ok, bind_err, bind_same, bind_done, ok_is, no_fault, Parts, Joins, joined}
 
 abbrev failed : {A : Type 0} → ℕ → Result A ℕ
 failed n = Err n
@@ -273,24 +273,65 @@ which_told s t false v f g h = g h
 
 -- ---- fields
 
-module _ {A T : Type 0} (get : T → A) (s : Spelling A) (others : A → Spelling T) (told : (a : A) (v : T) → (others a).Legal v → get v ≡ a) where
+module _ {A T : Type 0} (get : T → A) (s : Spelling A) (others : A → Spelling T) (told : (a : A) (v : T) → s.Legal a → (others a).Legal v → get v ≡ a) where
   field_joins : Joins s others (λ a v. v) (field get s others)
   field_joins = record {
     reads = λ bytes. bind_same (s.read bytes) (λ a. (others a.0).read a.1) (λ a. (others a.0).read a.1 >>= λ b. Ok (b.0, b.1)) (λ a. sym (bind_done ((others a.0).read a.1)));
     apart = λ v h. record { first = get v; others = v; is = refl; legal = h.0; fits = h.1; parts = refl };
-    together = λ a v h k. subst (λ b. (s.Legal b × (others b).Legal v) × (s.write b ++ (others b).write v ≡ s.write a ++ (others a).write v)) (sym (told a v k)) ((h, k), refl);
+    together = λ a v h k. subst (λ b. (s.Legal b × (others b).Legal v) × (s.write b ++ (others b).write v ≡ s.write a ++ (others a).write v)) (sym (told a v h k)) ((h, k), refl);
   }
 
   pub field_lawful : Lawful s → ((a : A) → Lawful (others a)) → Lawful (field get s others)
   field_lawful l m = joined field_joins l m
 
-module _ {A T : Type 0} (get : T → A) (make : A → T) (s : Spelling A) (told : (a : A) → get (make a) ≡ a) where
+module _ {A T : Type 0} (get : T → A) (make : A → T) (s : Spelling A) (told : (a : A) → s.Legal a → get (make a) ≡ a) where
   pub through_lawful : Lawful s → Lawful (through get make s)
-  through_lawful l = same {s = field get s (λ a. whole (make a))} {t = through get make s} (field_lawful get s (λ a. whole (make a)) (λ a v h. ap get h ∙ told a) l (λ a. whole_lawful (make a)))
+  through_lawful l = same {s = field get s (λ a. whole (make a))} {t = through get make s} (field_lawful get s (λ a. whole (make a)) (λ a v k h. ap get h ∙ told a k) l (λ a. whole_lawful (make a)))
       (λ v h. sym (append-nil (s.write (get v))))
       (λ bytes. refl)
       (λ v h. h)
       (λ v h. h)
+
+pub signed64_lawful : Lawful (signed w64)
+signed64_lawful = through_lawful (cast_unsigned w64) (cast_signed w64) (number w64) (λ n lt. of_z-to_z w64 n lt) (number_lawful w64 wide64)
+
+-- ---- two values, truth values, values that may be there
+
+pub pair_lawful : {A B : Type 0} (s : Spelling A) (t : Spelling B) → Lawful s → Lawful t → Lawful (pair s t)
+pair_lawful {A} {B} s t l m =
+    field_lawful (λ p. p.0) s _ (λ a p k h. ap (λ (q : A × B). q.0) h.1) l (λ a.
+    through_lawful (λ p. p.1) (λ b. (a, b)) t (λ b k. refl) m)
+
+flag_byte_lawful : Lawful (such_that is_flag byte)
+flag_byte_lawful = test_lawful is_flag byte (λ v h. omega arith) byte_lawful
+
+pub flag_lawful : Lawful flag
+flag_lawful =
+    field_lawful flag_of (such_that is_flag byte) _
+    (λ n v k. which_told _ _ (n == 1) v (λ e h. ap flag_of h ∙ sym (eqb-true n 1 e)) (which_told _ _ (n == 0) v (λ e h. ap flag_of h ∙ sym (eqb-true n 0 e)) (λ h. absurd h)))
+    flag_byte_lawful
+    (λ n. which_lawful (n == 1) (whole_lawful true) (which_lawful (n == 0) (whole_lawful false) none_lawful))
+
+module _ {T : Type 0} (s : Spelling T) where
+  just_parts : (o : Option T) → (just s).Legal o → Parts s (λ v. whole v) (λ a b. Some b) (just s) o
+  just_parts None h = absurd h
+  just_parts (Some v) h = record { first = v; others = v; is = refl; legal = h; fits = refl; parts = sym (append-nil (s.write v)) }
+
+  just_joins : Joins s (λ v. whole v) (λ a b. Some b) (just s)
+  just_joins = record {
+    reads = λ bytes. refl;
+    apart = just_parts;
+    together = λ a b h e. (subst s.Legal (sym e) h, ap s.write e ∙ sym (append-nil (s.write a)));
+  }
+
+  count_told : (n : ℕ) (o : Option T) → (which (n == 1) (just s) (which (n == 0) (whole None) none)).Legal o → count_of o ≡ n
+  count_told n None = which_told (just s) (which (n == 0) (whole None) none) (n == 1) None (λ e h. absurd h) (which_told (whole None) none (n == 0) None (λ e h. sym (eqb-true n 0 e)) (λ h. absurd h))
+  count_told n (Some v) = which_told (just s) (which (n == 0) (whole None) none) (n == 1) (Some v) (λ e h. sym (eqb-true n 1 e)) (which_told (whole None) none (n == 0) (Some v) (λ e h. ap count_of h ∙ sym (eqb-true n 0 e)) (λ h. absurd h))
+
+  pub option_lawful : Lawful s → Lawful (option s)
+  option_lawful l =
+      field_lawful count_of (such_that is_flag byte) _ (λ n v k. count_told n v) flag_byte_lawful
+      (λ n. which_lawful (n == 1) (joined just_joins l (λ v. whole_lawful v)) (which_lawful (n == 0) (whole_lawful None) none_lawful))
 
 -- ---- lists
 
@@ -321,6 +362,7 @@ module _ {T : Type 0} (member : Option T → Spelling T) (each : (before : Optio
       empty : (vs : List T) → (length vs ≡ 0) × AreLegal member before vs → vs ≡ []
       empty [] h = refl
       empty (v ∷ vs) h = absurd (omega (arith, h.0))
+
       writes : (vs : List T) → (length vs ≡ 0) × AreLegal member before vs → members member before vs ≡ []
       writes [] h = refl
       writes (v ∷ vs) h = absurd (omega (arith, h.0))
@@ -339,6 +381,10 @@ module _ {T : Type 0} (member : Option T → Spelling T) (each : (before : Optio
 
   pub list_lawful : Lawful (list_by member)
   list_lawful = joined list_joins (number_lawful w32 wide32) (λ n. exactly_lawful n None)
+
+-- values whose names rise
+pub rising_lawful : {T : Type 0} (name : T → List ℕ) (s : Spelling T) → ((v : T) → s.Legal v → 0 < length (s.write v)) → Lawful s → Lawful (rising name s)
+rising_lawful name s filled l = list_lawful (λ before. such_that (is_behind name before) s) (λ before. test_lawful (is_behind name before) s filled l)
 
 -- ---- texts
 

@@ -1,11 +1,11 @@
 -- What a call that reads answers, by the laws of the spelling.
-use Rattle.std.proofs.Common.{◌≡◌, ℕ, zero, suc, ◌+◌, ◌-◌, ◌<◌, ◌≤◌, ◌⊎◌, inl, inr, List, [], ◌∷◌, ◌++◌, length, take, drop, Option, Result, Ok, Err, refl, sym, ap, subst, ◌∙◌, append_assoc, arith}
+use Rattle.std.proofs.Common.{◌≡◌, ℕ, zero, suc, ◌+◌, ◌-◌, ◌<◌, ◌≤◌, inl, inr, List, [], ◌∷◌, ◌++◌, length, take, drop, Result, Ok, Err, refl, sym, ap, subst, ◌∙◌, append_assoc, arith}
 use Rattle.std.specs.Prelude.{IfOk}
 use Rattle.std.proofs.lemmas.Bool.{cases_lt}
 use Rattle.std.proofs.lemmas.List.{take_at, drop_at, length-append, length-drop, take_all}
 use Rattle.tks_codec.specs.declared.fault.CodecFault.{CodecFault}
-use Rattle.tks_codec.specs.declared.fault.CodecFault.TheVariants.{Bad, NoMemory}
-use Rattle.tks_codec.specs.Spelling.{Read, Spelling, Spells, IsBytes, Lawful}
+use Rattle.tks_codec.specs.declared.fault.CodecFault.TheVariants.{Bad}
+use Rattle.tks_codec.specs.Spelling.{Read, Spelling, IsBytes, Lawful}
 use Rattle.tks_codec.specs.Reading.{FindsSo, StopsAt, Fails}
 use Rattle.tks_codec.specs.declared.unread.Unread.{Unread}
 use Rattle.tks_codec.specs.declared.unread.Unread.TheVariants as unread

@@ -1,5 +1,5 @@
 -- What holds of the spellings of headers.
-use Rattle.std.proofs.Common.{◌≡◌, ℕ, ◌+◌, ◌<◌, ◌≤◌, ◌^◌, Bool, true, List, [], ◌∷◌, ◌++◌, length, Option, Some, None, refl, ap, arith}
+use Rattle.std.proofs.Common.{◌≡◌, ℕ, ◌<◌, ◌≤◌, ◌^◌, true, List, [], ◌∷◌, length, Option, Some, None, refl, ap, arith}
 use Rattle.std.specs.Int.{w16, w32, w64, to_be_bytes}
 use Rattle.std.specs.List.{AllByRecursion}
 use Rattle.std.proofs.lemmas.List.{length-append}
@@ -8,9 +8,9 @@ use Rattle.std.specs.Prelude.{nat_le, ◌&&◌}
 use Rattle.tks_text.specs.Size.{Extent, IsGridSize}
 use Rattle.tks_text.specs.Text.{IsText}
 use Rattle.tks_codec.specs.declared.header.Header.{Header}
-use Rattle.tks_codec.specs.Spelling.{Lawful, AreLegal, number, such_that, field, whole, text}
-use Rattle.tks_codec.specs.Header.{is_width, is_height, width, height, grid, is_behind, name, names, header, Rise, AreNames}
-use Rattle.tks_codec.proofs.EachKind.{wide16, wide64, number_lawful, test_lawful, field_lawful, through_lawful, list_lawful, text_lawful}
+use Rattle.tks_codec.specs.Spelling.{Lawful, AreLegal, number, Rise, text}
+use Rattle.tks_codec.specs.Header.{is_width, is_height, width, height, grid, name, names, header, AreNames}
+use Rattle.tks_codec.proofs.EachKind.{wide16, wide64, number_lawful, test_lawful, field_lawful, through_lawful, rising_lawful, text_lawful}
 
 width_lawful : Lawful width
 width_lawful = test_lawful is_width (number w16) (λ v h. omega arith) (number_lawful w16 wide16)
@@ -20,25 +20,25 @@ height_lawful = test_lawful is_height (number w16) (λ v h. omega arith) (number
 
 grid_lawful : Lawful grid
 grid_lawful =
-    field_lawful (λ g. g.width) _ _ (λ w g h. ap (λ (g : Extent). g.width) h.1) width_lawful (λ w.
-    through_lawful (λ g. g.height) _ _ (λ h. refl) height_lawful)
+    field_lawful (λ g. g.width) _ _ (λ w g k h. ap (λ (g : Extent). g.width) h.1) width_lawful (λ w.
+    through_lawful (λ g. g.height) _ _ (λ h k. refl) height_lawful)
 
 filled_text : (t : List ℕ) → 0 < length (text.write t)
 filled_text t = let n = length-append (to_be_bytes w32 (length t)) t in omega (arith, n)
 
 names_lawful : Lawful names
-names_lawful = list_lawful name (λ before. test_lawful (is_behind before) text (λ v h. filled_text v) text_lawful)
+names_lawful = rising_lawful (λ name. name) text (λ v h. filled_text v) text_lawful
 
 pub header_lawful : Lawful header
 header_lawful =
-    field_lawful (λ h. h.generation) _ _ (λ generation v h. ap (λ (h : Header). h.generation) h.1.1.1) (number_lawful w64 wide64) (λ generation.
-    field_lawful (λ h. h.grid) _ _ (λ size v h. ap (λ (h : Header). h.grid) h.1.1) grid_lawful (λ size.
-    field_lawful (λ h. h.names) _ _ (λ names v h. ap (λ (h : Header). h.names) h.1) names_lawful (λ names.
-    through_lawful (λ h. h.world_length) _ _ (λ world_length. refl) (number_lawful w64 wide64))))
+    field_lawful (λ h. h.generation) _ _ (λ generation v k h. ap (λ (h : Header). h.generation) h.1.1.1) (number_lawful w64 wide64) (λ generation.
+    field_lawful (λ h. h.grid) _ _ (λ size v k h. ap (λ (h : Header). h.grid) h.1.1) grid_lawful (λ size.
+    field_lawful (λ h. h.names) _ _ (λ names v k h. ap (λ (h : Header). h.names) h.1) names_lawful (λ names.
+    through_lawful (λ h. h.world_length) _ _ (λ world_length k. refl) (number_lawful w64 wide64))))
 
 -- ---- which headers have a spelling
 
-all_legal : (before : Option (List ℕ)) (ns : List (List ℕ)) → AllByRecursion (λ n. length n < 2 ^ 32) ns → AllByRecursion IsText ns → Rise before ns → AreLegal name before ns
+all_legal : (before : Option (List ℕ)) (ns : List (List ℕ)) → AllByRecursion (λ n. length n < 2 ^ 32) ns → AllByRecursion IsText ns → Rise (λ name. name) before ns → AreLegal name before ns
 all_legal before [] p q r = tt
 all_legal before (n ∷ ns) p q r = (((p.0, q.0), r.0), all_legal (Some n) ns p.1 q.1 r.1)
 

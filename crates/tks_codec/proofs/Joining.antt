@@ -1,5 +1,5 @@
 -- Spellings one behind the other: what holds of each holds of both.
-use Rattle.std.proofs.Common.{◌≡◌, ℕ, zero, suc, ◌+◌, ◌<◌, ◌≤◌, ◌⊎◌, inl, inr, List, [], ◌∷◌, ◌++◌, length, get_or, drop, Result, Ok, Err, refl, sym, ap, subst, ◌∙◌, append_assoc, arith}
+use Rattle.std.proofs.Common.{◌≡◌, ℕ, suc, ◌+◌, ◌≤◌, ◌⊎◌, inl, inr, List, [], ◌∷◌, ◌++◌, length, drop, Result, Ok, Err, refl, sym, ap, subst, ◌∙◌, append_assoc, arith}
 use Rattle.std.proofs.lemmas.List.{drop_at, length-append, get_or-drop}
 use Rattle.tks_codec.specs.Spelling.{Read, ◌>>=◌, Spelling, Spells, IsBytes, Lawful}
 
@@ -36,6 +36,11 @@ stands (x ∷ xs) ys (f ∷ front) b behind e =
       | in_first more p q ↦ in_first more (ap (λ k. k ∷ xs) h ∙ ap (λ (k : List ℕ). f ∷ k) p) q
       | in_second more p q ↦ in_second more (ap (λ k. k ∷ front) (sym h) ∙ ap (λ (k : List ℕ). x ∷ k) p) q
     ]
+
+-- two pieces behind which the rest stands
+glued : (bytes first behind second rest both : List ℕ) → bytes ≡ first ++ behind → behind ≡ second ++ rest → both ≡ first ++ second → bytes ≡ both ++ rest
+glued bytes first behind second rest both p q r =
+    p ∙ ap (λ (w : List ℕ). first ++ w) q ∙ sym (append_assoc first second rest) ∙ ap (λ (w : List ℕ). w ++ rest) (sym r)
 
 -- ---- steps
 
@@ -108,9 +113,8 @@ module _ {A B T : Type 0} {s : Spelling A} {o : A → Spelling B} {make : A → 
       let q = (others a.0.0).nothing_else a.0.1 b.0.0 b.0.1 (bytes_behind bytes (s.write a.0.0) a.0.1 fits p.parts) b.1 in
       let m = j.together a.0.0 b.0.0 p.legal q.legal in
       let made : T × List ℕ = (make a.0.0 b.0.0, b.0.1) in
-      let whole : bytes ≡ t.write (make a.0.0 b.0.0) ++ b.0.1 =
-          p.parts ∙ ap (λ (w : List ℕ). s.write a.0.0 ++ w) q.parts ∙ sym (append_assoc (s.write a.0.0) ((o a.0.0).write b.0.0) b.0.1) ∙ ap (λ (w : List ℕ). w ++ b.0.1) (sym m.1) in
-      subst (λ (x : T × List ℕ). Spells t bytes x.0 x.1) (ok_is made (v, rest) b.2) (record { legal = m.0; parts = whole })
+      let whole = glued bytes (s.write a.0.0) a.0.1 ((o a.0.0).write b.0.0) b.0.1 (t.write (make a.0.0 b.0.0)) p.parts q.parts m.1 in
+      subst (λ (x : T × List ℕ). Spells t bytes x.0 x.1) {x = made} (ok_is made (v, rest) b.2) (record { legal = m.0; parts = whole })
 
   inside : (bytes : List ℕ) (left : ℕ) → IsBytes bytes → t.read bytes ≡ Err left → left ≤ length bytes
   inside bytes left fits e =

@@ -6,3 +6,4 @@ mod Texts
 pub mod Loop
 pub mod Found
 mod Puts
+mod Rising

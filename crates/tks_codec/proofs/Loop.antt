@@ -1,5 +1,6 @@
 -- Reading the members of a list one after the other, as a loop does.
-use Rattle.std.proofs.Common.{◌≡◌, ℕ, suc, ◌-◌, ◌+◌, ◌≤◌, ◌<◌, List, [], ◌∷◌, ◌++◌, length, get_or, Option, Some, None, Result, Ok, Err, refl, sym, ap, ◌∙◌, append_assoc, arith}
+use Rattle.std.proofs.Common.{◌≡◌, ℕ, suc, ◌-◌, ◌+◌, ◌≤◌, ◌<◌, List, [], ◌∷◌, ◌++◌, length, get_or, Option, Some, Ok, Err, refl, sym, ap, ◌∙◌, append_assoc, arith}
+use Rattle.std.specs.List.{AllByRecursion}
 use Rattle.std.proofs.lemmas.List.{append-nil}
 use Rattle.tks_codec.specs.declared.unread.Unread.{Unread}
 use Rattle.tks_codec.specs.declared.unread.Unread.TheVariants as unread
@@ -56,3 +57,8 @@ members_more member before [] x = append-nil ((member before).write x)
 members_more member before (y ∷ xs) x =
     ap (λ (w : List ℕ). (member before).write y ++ w) (members_more member (Some y) xs x)
     ∙ sym (append_assoc ((member before).write y) (members member (Some y) xs) ((member (last_of (Some y) xs)).write x))
+
+-- what holds of all, and of one more
+pub all_more : {T : Type 0} (P : T → Type 0) (xs : List T) (x : T) → AllByRecursion P xs → P x → AllByRecursion P (xs ++ x ∷ [])
+all_more P [] x h p = (p, tt)
+all_more P (y ∷ xs) x h p = (h.0, all_more P xs x h.1 p)

@@ -6,32 +6,37 @@ use Rattle.tks_input.specs.declared.input.Input.{Input}
 use Rattle.tks_input.specs.declared.input.Input.TheVariants.{Script, KeyPress, KeyRelease, Press, Release, Clock, Turn}
 use Rattle.tks_codec.specs.Spelling.{Read, Spelling, byte, number, text, such_that, field, through, which, whole, none}
 
--- what an input holds; nothing, where it doesn't hold such a thing
+-- the text that an input holds; where it holds none, the empty one
 abbrev pub text_of : Input → List ℕ
 text_of (Script script) = script
 text_of (KeyPress key) = key
 text_of (KeyRelease key) = key
 text_of input = []
 
+-- the button; where it has none, 0; and so on
 abbrev pub button_of : Input → ℕ
 button_of (Press button x y) = button
 button_of (Release button x y) = button
 button_of input = 0
 
+-- the cell's column
 abbrev pub x_of : Input → ℕ
 x_of (Press button x y) = x
 x_of (Release button x y) = x
 x_of input = 0
 
+-- the cell's row
 abbrev pub y_of : Input → ℕ
 y_of (Press button x y) = y
 y_of (Release button x y) = y
 y_of input = 0
 
+-- the time
 abbrev pub time_of : Input → ℕ
 time_of (Clock time) = time
 time_of input = 0
 
+-- the tag
 abbrev pub tag_of : Input → ℕ
 tag_of (Script script) = 1
 tag_of (KeyPress key) = 2
@@ -52,6 +57,7 @@ of_button make =
     field x_of (number w16) (λ x.
     through y_of (λ y. make button x y) (number w16)))
 
+-- a time
 abbrev pub of_time : (ℕ → Input) → Spelling Input
 of_time make = through time_of make (number w64)
 
@@ -66,9 +72,11 @@ behind_tag tag =
     (which (tag == 6) (of_time (λ time. Clock time))
     (which (tag == 7) (whole Turn) none))))))
 
+-- the tags that there are
 abbrev pub is_tag : ℕ → Bool
 is_tag tag = nat_le 1 tag && nat_le tag 7
 
+-- a tag, and what stands behind it
 abbrev pub input : Spelling Input
 input = field tag_of (such_that is_tag byte) behind_tag
 

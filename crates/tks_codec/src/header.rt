@@ -1,4 +1,5 @@
-ghost use Rattle.std.specs.Prelude.{◌≡◌, ℕ, ◌++◌, List, take, Ok, Err, IfOk, OnOk, OnErr};
+ghost use Rattle.std.specs.Prelude.{◌≡◌, ℕ, ◌++◌, ◌↔◌, true, List, take, Ok, Err, IfOk, OnOk, OnErr};
+ghost use Rattle.tks_text.specs.Size.{IsGridSize};
 ghost use Rattle.tks_codec.specs.declared.header.Header.{Header};
 ghost use Rattle.tks_codec.specs.Header as headers;
 ghost use Rattle.tks_codec.specs.Header.{width, height, header_at, AreNames};
@@ -6,7 +7,7 @@ ghost use Rattle.tks_codec.specs.Reading.{Gives, FindsSo, StopsAt};
 ghost use Rattle.tks_codec.specs.Writing.{PutsSo};
 
 use crate::fault::CodecFault;
-use crate::names::{names_of, put_names};
+use crate::names::{are_names, names_of, put_names};
 use crate::reading::{u16_of, u64_of};
 use crate::unread::Unread;
 use crate::writing::{put_u16, put_u64};
@@ -24,6 +25,16 @@ pub struct Header {
     pub names: Seq<Txt>,
     /// How many bytes spell the world behind the header.
     pub world_length: u64,
+}
+
+impl Header {
+    /// Whether it has a spelling: the names rise by their bytes, and there are fewer than 2^32 of them, each
+    /// of fewer than 2^32 bytes.
+    pub fn has_spelling(&self) -> bool
+        ensures { (result ≡ true) ↔ AreNames self.now.names }
+    {
+        are_names(self.names.as_slice())
+    }
 }
 
 // A grid's width.
@@ -99,7 +110,8 @@ pub fn read_header(alloc: Global, bytes: &[u8]) -> Result<(Header, usize), Codec
 // Adds the spelling; where memory is refused, perhaps a front of it.
 fn put_header(header: &Header, out: &mut Vec<u8>) -> Result<(), AllocError>
     requires { AreNames header.now.names }
-    ensures { PutsSo result out.old.items out.new.items (headers.header.write header.now) }
+    ensures puts { PutsSo result out.old.items out.new.items (headers.header.write header.now) }
+    ensures legal { OnOk result (IsGridSize header.now.grid.width header.now.grid.height → headers.header.Legal header.now) }
 {
     put_u64(out, header.generation)?;
     put_u16(out, header.grid.width())?;
@@ -109,11 +121,13 @@ fn put_header(header: &Header, out: &mut Vec<u8>) -> Result<(), AllocError>
     Ok(())
 }
 
-/// Adds the header's spelling at the end. The names have to rise by their bytes, and there are fewer than
-/// 2^32 of them, each of fewer than 2^32 bytes.
+/// Adds the header's spelling at the end, which it has to have (`Header::has_spelling`). Where memory is
+/// refused, the bytes are as they were.
 pub fn write_header(header: &Header, out: &mut Vec<u8>) -> Result<(), AllocError>
     requires { AreNames header.now.names }
     ensures ok { OnOk result (out.new.items ≡ out.old.items ++ headers.header.write header.now) }
+    // It is read back, by the law of headers, since each size of a grid is in the grid's range.
+    ensures legal { OnOk result (IsGridSize header.now.grid.width header.now.grid.height → headers.header.Legal header.now) }
     ensures err { OnErr result (out.new.items ≡ out.old.items) }
 {
     let before = out.len();

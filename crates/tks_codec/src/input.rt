@@ -1,7 +1,8 @@
 //! Inputs as bytes.
 
-ghost use Rattle.std.specs.Prelude.{◌≡◌, ℕ, ◌<◌, ◌^◌, ◌++◌, ◌∷◌, List, length, take, true, Ok, Err, IfOk, OnOk, OnErr};
+ghost use Rattle.std.specs.Prelude.{◌≡◌, ℕ, ◌<◌, ◌^◌, ◌↔◌, ◌++◌, ◌∷◌, List, length, take, true, Ok, Err, IfOk, OnOk, OnErr};
 ghost use Rattle.std.specs.Int.{w16, w64, to_be_bytes};
+ghost use Rattle.tks_text.specs.Text.{IsText};
 ghost use Rattle.tks_input.specs.declared.input.Input.{Input};
 ghost use Rattle.tks_input.specs.declared.input.Input.TheVariants.{Script, KeyPress, KeyRelease, Press, Release, Clock};
 ghost use Rattle.tks_codec.specs.Spelling.{byte, such_that};
@@ -139,7 +140,8 @@ pub fn read_input(alloc: Global, bytes: &[u8]) -> Result<(Input, usize), CodecFa
 #[tactic(auto, using(crate::proofs::Puts::put_behind))]
 fn put_tagged_text(out: &mut Vec<u8>, tag: u8, text: &Txt) -> Result<(), AllocError>
     requires { length text.now < 2 ^ 32 }
-    ensures { PutsSo result out.old.items out.new.items (tag ∷ spellings.text.write text.now) }
+    ensures puts { PutsSo result out.old.items out.new.items (tag ∷ spellings.text.write text.now) }
+    ensures text { OnOk result (IsText text.now) }
 {
     put_u8(out, tag)?;
     put_text(out, text)?;
@@ -148,7 +150,8 @@ fn put_tagged_text(out: &mut Vec<u8>, tag: u8, text: &Txt) -> Result<(), AllocEr
 
 // Adds a tag, a button and a cell.
 fn put_tagged_cell(out: &mut Vec<u8>, tag: u8, button: u8, x: u16, y: u16) -> Result<(), AllocError>
-    ensures { PutsSo result out.old.items out.new.items (tag ∷ button ∷ to_be_bytes w16 x ++ to_be_bytes w16 y) }
+    ensures puts { PutsSo result out.old.items out.new.items (tag ∷ button ∷ to_be_bytes w16 x ++ to_be_bytes w16 y) }
+    ensures range { (button < 2 ^ 8) × (x < 2 ^ 16) × (y < 2 ^ 16) }
 {
     put_u8(out, tag)?;
     put_u8(out, button)?;
@@ -159,7 +162,8 @@ fn put_tagged_cell(out: &mut Vec<u8>, tag: u8, button: u8, x: u16, y: u16) -> Re
 
 // Adds a tag and a time.
 fn put_tagged_time(out: &mut Vec<u8>, tag: u8, time: u64) -> Result<(), AllocError>
-    ensures { PutsSo result out.old.items out.new.items (tag ∷ to_be_bytes w64 time) }
+    ensures puts { PutsSo result out.old.items out.new.items (tag ∷ to_be_bytes w64 time) }
+    ensures range { time < 2 ^ 64 }
 {
     put_u8(out, tag)?;
     put_u64(out, time)?;
@@ -169,7 +173,8 @@ fn put_tagged_time(out: &mut Vec<u8>, tag: u8, time: u64) -> Result<(), AllocErr
 // Adds the spelling; where memory is refused, perhaps a front of it.
 fn put_input(input: &Input, out: &mut Vec<u8>) -> Result<(), AllocError>
     requires { length (text_of input.now) < 2 ^ 32 }
-    ensures { PutsSo result out.old.items out.new.items (inputs.input.write input.now) }
+    ensures puts { PutsSo result out.old.items out.new.items (inputs.input.write input.now) }
+    ensures legal { OnOk result (inputs.input.Legal input.now) }
 {
     match input {
         Input::Script(script) => put_tagged_text(out, 1, script),
@@ -182,10 +187,25 @@ fn put_input(input: &Input, out: &mut Vec<u8>) -> Result<(), AllocError>
     }
 }
 
-/// Adds the input's spelling at the end. A text in it has fewer than 2^32 bytes.
+/// Whether an input has a spelling: a text in it has fewer than 2^32 bytes.
+pub fn has_spelling(input: &Input) -> bool
+    ensures { (result ≡ true) ↔ (length (text_of input.now) < 2 ^ 32) }
+{
+    match input {
+        Input::Script(text) | Input::KeyPress(text) | Input::KeyRelease(text) => {
+            text.len() < 1 << 32
+        }
+        _ => true,
+    }
+}
+
+/// Adds the input's spelling at the end, which it has to have (`has_spelling`). Where memory is refused, the
+/// bytes are as they were.
 pub fn write_input(input: &Input, out: &mut Vec<u8>) -> Result<(), AllocError>
     requires { length (text_of input.now) < 2 ^ 32 }
     ensures ok { OnOk result (out.new.items ≡ out.old.items ++ inputs.input.write input.now) }
+    // It is read back, by the law of inputs.
+    ensures legal { OnOk result (inputs.input.Legal input.now) }
     ensures err { OnErr result (out.new.items ≡ out.old.items) }
 {
     let before = out.len();

@@ -1,10 +1,11 @@
 //! Laws of the spellings.
 
-ghost use Rattle.std.specs.Prelude.{◌≡◌, ℕ, ◌<◌, ◌^◌, ◌++◌, List};
+ghost use Rattle.std.specs.Prelude.{◌≡◌, ℕ, ◌<◌, ◌^◌, ◌++◌, ◌∷◌, [], List, codes};
 ghost use Rattle.std.specs.List.{AllByRecursion};
 ghost use Rattle.tks_text.specs.Size.{IsGridSize};
 ghost use Rattle.tks_text.specs.Text.{IsText};
 ghost use Rattle.tks_input.specs.declared.input.Input.{Input};
+ghost use Rattle.tks_input.specs.declared.input.Input.TheVariants.{Script, Press};
 ghost use Rattle.tks_codec.specs.declared.header.Header.{Header};
 ghost use Rattle.tks_codec.specs.Spelling.{Lawful};
 ghost use Rattle.tks_codec.specs.Header.{AreNames, header};
@@ -16,8 +17,7 @@ pub fn one_header()
     ensures spelled { (h : Header) → h.generation < 2 ^ 64 → IsGridSize h.grid.width h.grid.height → AreNames h.names → AllByRecursion IsText h.names → h.world_length < 2 ^ 64 → header.Legal h }
     ensures one { (a b : Header) (x y : List ℕ) → header.Legal a → header.Legal b → header.write a ++ x ≡ header.write b ++ y → (a ≡ b) × (x ≡ y) }
     ensures lawful { Lawful header }
-{
-}
+{}
 
 /// Each input has one spelling, no spelling of an input is a proper front of another, and what reading
 /// says of bytes is what these spellings say.
@@ -25,5 +25,10 @@ pub fn one_input()
     ensures spelled { (i : Input) → IsInput i → input.Legal i }
     ensures one { (a b : Input) (x y : List ℕ) → input.Legal a → input.Legal b → input.write a ++ x ≡ input.write b ++ y → (a ≡ b) × (x ≡ y) }
     ensures lawful { Lawful input }
-{
-}
+{}
+
+/// The script `set x 5`, and button 1 going down over the cell 3, 2, as bytes.
+pub fn two_inputs()
+    ensures script { input.write (Script (codes "set x 5")) ≡ 1 ∷ 0 ∷ 0 ∷ 0 ∷ 7 ∷ 115 ∷ 101 ∷ 116 ∷ 32 ∷ 120 ∷ 32 ∷ 53 ∷ [] }
+    ensures press { input.write (Press 1 3 2) ≡ 4 ∷ 1 ∷ 0 ∷ 3 ∷ 0 ∷ 2 ∷ [] }
+{}

@@ -12,5 +12,5 @@ mod writing;
 
 pub use fault::CodecFault;
 pub use header::{Header, read_header, write_header};
-pub use input::{read_input, write_input};
-pub use laws::{one_header, one_input};
+pub use input::{has_spelling, read_input, write_input};
+pub use laws::{one_header, one_input, two_inputs};

@@ -67,13 +67,11 @@ fn text_len(bytes: &[u8]) -> usize
     ensures value { result ≡ prefix_len is_text_byte bytes.now }
     ensures bound { result ≤ length bytes.now }
 {
-    bytes
-        .iter()
-        .take_while(|byte| is_text_byte(**byte))
-        .count()
+    bytes.iter().take_while(|byte| is_text_byte(**byte)).count()
 }
 
-// A text of so many bytes. What stands behind a text begins with a byte that stands in none, or ends.
+// A text of so many bytes. They are looked at up to the first that stands in no text, which mostly is the first
+// one behind it, of a number or a tag.
 fn text_of_len(alloc: Global, len: usize, bytes: &[u8]) -> Result<(Txt, &[u8]), Unread>
     ensures { Gives (λ x. (x.0, x.1.now)) result (letters_at len bytes.now) }
 {

@@ -1,7 +1,8 @@
 //! Writers of single values. Each adds a value's spelling to the bytes.
 
-ghost use Rattle.std.specs.Prelude.{◌≡◌, ◌<◌, ◌^◌, ◌++◌, ◌∷◌, [], length};
+ghost use Rattle.std.specs.Prelude.{◌≡◌, ◌<◌, ◌^◌, ◌++◌, ◌∷◌, [], length, OnOk};
 ghost use Rattle.std.specs.Int.{w16, w32, w64, to_be_bytes};
+ghost use Rattle.tks_text.specs.Text.{IsText};
 ghost use Rattle.tks_codec.specs.Writing.{PutsSo};
 
 use std::alloc::AllocError;
@@ -52,7 +53,8 @@ pub fn put_u64(out: &mut Vec<u8>, number: u64) -> Result<(), AllocError>
 #[tactic(auto, using(crate::proofs::Puts::still, crate::proofs::Puts::put_behind))]
 pub fn put_text(out: &mut Vec<u8>, text: &Txt) -> Result<(), AllocError>
     requires { length text.now < 2 ^ 32 }
-    ensures { PutsSo result out.old.items out.new.items (to_be_bytes w32 (length text.now) ++ text.now) }
+    ensures puts { PutsSo result out.old.items out.new.items (to_be_bytes w32 (length text.now) ++ text.now) }
+    ensures text { OnOk result (IsText text.now) }
 {
     put_u32(out, text.len() as u32)?;
     put(out, text.as_bytes())?;

@@ -1,7 +1,4 @@
-use Rattle.std.proofs.Common.{◌≡◌, None, refl}
-use Rattle.std.specs.Ordering.{is_lt, nat_cmp}
-use Rattle.std.specs.Cmp.Lexicographic.{slice_cmp}
-use Rattle.tks_codec.specs.Header.{is_behind}
+use Rattle.std.proofs.Common.{None, refl}
 use Rattle.tks_codec.proofs.Loop.{last_at}
 use Rattle.tks_codec.proofs.names.is_behind.Goals as goal
 

@@ -1,9 +1,8 @@
-use Rattle.std.proofs.Common.{◌≡◌, None, Some, subst, sym, ◌++◌, ◌∷◌, [], ap}
+use Rattle.std.proofs.Common.{None}
 use Rattle.std.proofs.lemmas.Result.{err_from_is_err_and}
-use Rattle.tks_codec.specs.Reading.{Fails}
 use Rattle.tks_codec.specs.Spelling.{last_of, members_at}
 use Rattle.tks_codec.specs.Header.{name}
-use Rattle.tks_codec.proofs.Loop.{with_front, last_is, goes_on, ends, is_done}
+use Rattle.tks_codec.proofs.Loop.{last_is, goes_on, ends, is_done}
 use Rattle.tks_codec.proofs.names.names_of_count.Goals as goal
 
 pub returns-in_err-name : goal.returns-in_err-name

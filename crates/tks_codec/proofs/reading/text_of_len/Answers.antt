@@ -1,6 +1,5 @@
-use Rattle.std.proofs.Common.{◌≡◌, ℕ, ◌-◌, ◌≤◌, ◌<◌, None, Err, length, refl, sym, ap, subst, ◌∙◌, arith}
-use Rattle.std.specs.List.{prefix_len}
-use Rattle.tks_text.specs.Text.{is_text_byte, IsText}
+use Rattle.std.proofs.Common.{ℕ, ◌-◌, None, Err, length, refl, sym, ap, subst, ◌∙◌, arith}
+use Rattle.tks_text.specs.Text.{IsText}
 use Rattle.tks_codec.proofs.Texts.{letters_fault, letters_read, letters_are_text}
 use Rattle.tks_codec.proofs.reading.text_of_len.Goals as goal
 

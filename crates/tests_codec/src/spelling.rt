@@ -1,0 +1,69 @@
+//! Reading and writing again.
+use std::alloc::Global;
+use tks_codec::{
+    CodecFault, Header, has_spelling, read_header, read_input, write_header, write_input,
+};
+use tks_input::Input;
+
+/// What reading comes to: the value's spelling, as it is written again, or where the fault is.
+#[derive(Drop)]
+pub enum Read {
+    Spelled(Vec<u8>),
+    Bad(usize),
+}
+
+/// An input's spelling behind other bytes, which stay.
+pub fn input_spelled(alloc: Global, input: &Input) -> Option<Vec<u8>> {
+    let mut out = Vec::from_slice(alloc, b"!").ok()?;
+    if !has_spelling(input) {
+        return None;
+    }
+    write_input(input, &mut out).ok()?;
+    if out.remove(0) != b'!' {
+        return None;
+    }
+    Some(out)
+}
+
+/// The input at the front, written again, where its length is that of its spelling.
+pub fn input_of(alloc: Global, bytes: &[u8]) -> Option<Read> {
+    match read_input(alloc, bytes) {
+        Ok((input, length)) => {
+            let spelled = input_spelled(alloc, &input)?;
+            if spelled.len() != length {
+                return None;
+            }
+            Some(Read::Spelled(spelled))
+        }
+        Err(CodecFault::Bad(position)) => Some(Read::Bad(position)),
+        Err(CodecFault::NoMemory) => None,
+    }
+}
+
+/// A header's spelling behind other bytes, which stay.
+pub fn header_spelled(alloc: Global, header: &Header) -> Option<Vec<u8>> {
+    let mut out = Vec::from_slice(alloc, b"!").ok()?;
+    if !header.has_spelling() {
+        return None;
+    }
+    write_header(header, &mut out).ok()?;
+    if out.remove(0) != b'!' {
+        return None;
+    }
+    Some(out)
+}
+
+/// The header at the front, written again, where its length is that of its spelling.
+pub fn header_of(alloc: Global, bytes: &[u8]) -> Option<Read> {
+    match read_header(alloc, bytes) {
+        Ok((header, length)) => {
+            let spelled = header_spelled(alloc, &header)?;
+            if spelled.len() != length {
+                return None;
+            }
+            Some(Read::Spelled(spelled))
+        }
+        Err(CodecFault::Bad(position)) => Some(Read::Bad(position)),
+        Err(CodecFault::NoMemory) => None,
+    }
+}
