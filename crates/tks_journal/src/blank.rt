@@ -71,9 +71,8 @@ impl<D: Disk> Blank<D> {
             (λ j. LeavesOnly (D.view self) (D.view j.disk) (OneOf (Ok None) (begun_as Side.A header.now world.now)))
             (λ d. LeavesOnly (D.view self) (D.view d) (OneOf (Ok None) (begun_as Side.A header.now world.now))) }
 
-        ensures ok { MatchResult result
-            (λ j. j ≡ record { disk = j.disk; live = Side.A; generation = 1; gate = 2 + length head.now + length world.now; failed = false })
-            (λ d. D.failures self < D.failures d) }
+        ensures ok { IfOk result (λ j. j ≡ record { disk = j.disk; live = Side.A; generation = 1; gate = 2 + length head.now + length world.now; failed = false }) }
+        ensures counts { MatchResult result (λ j. D.failures j.disk ≡ D.failures self) (λ d. D.failures self < D.failures d) }
         ensures honesty { MatchResult result (λ j. D.honest self ↔ D.honest j.disk) (λ d. D.honest self ↔ D.honest d) }
     {
         let Blank { mut disk } = self;
