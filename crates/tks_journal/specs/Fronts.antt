@@ -1,0 +1,63 @@
+-- What the code keeps of a side's front, beside the side's face, and which side it chooses.
+use Rattle.std.specs.Prelude.{◌≡◌, ◌≤◌, ℕ, ◌==◌, nat_lt, true, if◌then◌else◌, List, [], ◌∷◌, ◌++◌, length, take, drop, Option, Some, None, Result, Ok, Err}
+use Rattle.tks_codec.specs.Header.{header_at}
+use Rattle.tks_codec.specs.declared.header.Header.{Header}
+use Rattle.tks_disk.specs.declared.disk.Side.{Side}
+use Rattle.tks_disk.specs.declared.disk.Side.TheVariants.{A, B}
+use Rattle.tks_journal.specs.Journal.{SpelledAs}
+use Rattle.tks_journal.specs.Sides.{closed, unknown, broken, face, headed, is_given}
+use Rattle.tks_journal.specs.declared.fault.SideFault.{SideFault}
+use Rattle.tks_journal.specs.declared.fault.SideFault.TheVariants.{UnknownFormat, Damaged}
+use Rattle.tks_journal.specs.declared.front.Attempt.{Attempt}
+use Rattle.tks_journal.specs.declared.front.Attempt.TheVariants.{Read, Wrong, Short}
+use Rattle.tks_journal.specs.declared.front.Front.{Front}
+use Rattle.tks_journal.specs.declared.front.Front.TheVariants.{Closed, Unknown, Broken, Whole}
+use Rattle.tks_journal.specs.declared.front.Head.{Head}
+
+-- these bytes begin with an open gate, the known format and this header, up to this place
+pub record HeadOf (header : Header) (at : ℕ) (bytes : List ℕ) : Type 0 where
+  pub given : is_given header.generation ≡ true
+  pub within : at ≤ length bytes
+  pub front : take at bytes ≡ 1 ∷ 1 ∷ drop 2 (take at bytes)
+  pub spelled : SpelledAs (drop 2 (take at bytes)) header
+
+abbrev pub FrontIs : Front → List ℕ → Type 0
+FrontIs Closed bytes = face bytes ≡ closed
+FrontIs Unknown bytes = face bytes ≡ unknown
+FrontIs Broken bytes = face bytes ≡ broken
+FrontIs (Whole head) bytes = HeadOf head.header head.at bytes × (head.len ≡ length bytes)
+
+-- a side of so many bytes, with an open gate, and of the known format
+pub record IsOpenSide (len : ℕ) (bytes : List ℕ) : Type 0 where
+  pub size : len ≡ length bytes
+  pub opens : take 2 bytes ≡ 1 ∷ 1 ∷ []
+
+abbrev pub front_with : Header → ℕ → ℕ → Front
+front_with header at len = if is_given header.generation then Whole (record { header = header; at = at; len = len }) else Broken
+
+-- what was made of these bytes, behind a format byte
+abbrev pub AttemptIs : Attempt → List ℕ → Type 0
+AttemptIs (Read header count) bytes = (count ≤ length bytes) × SpelledAs (take count bytes) header
+AttemptIs Wrong bytes = (more : List ℕ) → headed (header_at (bytes ++ more)) ≡ broken
+AttemptIs Short bytes = headed (header_at bytes) ≡ broken
+
+-- the side that is live
+abbrev pub newest : Head → Head → Result (Option (Side × Head)) SideFault
+newest a b =
+    if a.header.generation == b.header.generation then Err Damaged
+    else (if nat_lt b.header.generation a.header.generation then Ok (Some (A, a)) else Ok (Some (B, b)))
+
+abbrev pub chosen : Front → Front → Result (Option (Side × Head)) SideFault
+chosen Unknown b = Err UnknownFormat
+chosen Closed Unknown = Err UnknownFormat
+chosen Broken Unknown = Err UnknownFormat
+chosen (Whole a) Unknown = Err UnknownFormat
+chosen Broken Closed = Err Damaged
+chosen Broken Broken = Err Damaged
+chosen Broken (Whole b) = Err Damaged
+chosen Closed Broken = Err Damaged
+chosen (Whole a) Broken = Err Damaged
+chosen Closed Closed = Ok None
+chosen (Whole a) Closed = Ok (Some (A, a))
+chosen Closed (Whole b) = Ok (Some (B, b))
+chosen (Whole a) (Whole b) = newest a b

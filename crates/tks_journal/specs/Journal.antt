@@ -1,0 +1,23 @@
+-- What contracts see of a journal.
+use Rattle.std.specs.Prelude.{◌≡◌, ℕ, ◌+◌, ◌^◌, nat_le, nat_lt, Bool, ◌&&◌, List, ◌++◌, Ok}
+use Rattle.tks_codec.specs.Header.{header_at}
+use Rattle.tks_codec.specs.declared.header.Header.{Header}
+use Rattle.tks_disk.specs.declared.disk.Side.{Side}
+
+pub record JournalState (D : Type 0) : Type 0 where
+  pub disk : D
+  -- the side that is live, and its generation
+  pub live : Side
+  pub generation : ℕ
+  -- where on it the closed gate behind the last frame stands
+  pub gate : ℕ
+  -- whether a call has failed
+  pub failed : Bool
+
+-- A frame has fewer than 2^32 bytes, and no side grows past 2^40 bytes.
+abbrev pub room_for : {D : Type 0} → JournalState D → ℕ → Bool
+room_for j count = nat_lt count (2 ^ 32) && nat_le (j.gate + 6 + count) (2 ^ 40)
+
+-- these bytes are read as this header, whatever stands behind them
+pub record SpelledAs (head : List ℕ) (header : Header) : Type 0 where
+  pub reads : (rest : List ℕ) → header_at (head ++ rest) ≡ Ok (header, rest)

@@ -1,0 +1,140 @@
+-- What the bytes of two sides stand for. The rules are this project's own.
+use Rattle.std.specs.Prelude.{◌<◌, ℕ, zero, suc, ◌+◌, ◌^◌, nat_le, nat_lt, ◌==◌, Bool, true, not, ◌&&◌, if◌then◌else◌, List, [], ◌∷◌, ◌++◌, length, take, drop, slice_index, Option, Some, None, Result, Ok, Err}
+use Rattle.std.specs.Int.{w32, from_be_bytes, to_be_bytes}
+use Rattle.tks_disk.specs.DiskModel.{Images}
+use Rattle.tks_disk.specs.declared.disk.Side.{Side}
+use Rattle.tks_disk.specs.declared.disk.Side.TheVariants.{A, B}
+use Rattle.tks_codec.specs.Header.{header_at}
+use Rattle.tks_codec.specs.Spelling.{Read}
+use Rattle.tks_codec.specs.declared.header.Header.{Header}
+use Rattle.tks_journal.specs.declared.fault.SideFault.{SideFault}
+use Rattle.tks_journal.specs.declared.fault.SideFault.TheVariants.{UnknownFormat, Damaged}
+
+-- A side is closed where it has fewer than two bytes, or its first one, the gate, isn't 1.
+abbrev pub is_closed : List ℕ → Bool
+is_closed [] = true
+is_closed (gate ∷ []) = true
+is_closed (gate ∷ format ∷ rest) = not (gate == 1)
+
+-- the byte behind the gate
+unfoldable pub format_of : List ℕ → ℕ
+format_of bytes = slice_index bytes 1
+
+-- what a side says before its world
+pub data Face : Type 0 where
+  closed : Face
+  -- open, in a format that isn't known
+  unknown : Face
+  -- open, with a header that is cut or no spelling, or of a generation that is never given out
+  broken : Face
+  -- open, with a header and the bytes behind it
+  whole : Header → List ℕ → Face
+
+-- generations are 1 to 2^62
+abbrev pub is_given : ℕ → Bool
+is_given generation = nat_lt 0 generation && nat_le generation (2 ^ 62)
+
+abbrev pub headed : Read Header → Face
+headed (Err left) = broken
+headed (Ok x) = if is_given x.0.generation then whole x.0 x.1 else broken
+
+unfoldable pub face : List ℕ → Face
+face bytes = if is_closed bytes then closed else (if format_of bytes == 1 then headed (header_at (drop 2 bytes)) else unknown)
+
+abbrev pub with_front : List ℕ → Option (List (List ℕ)) → Option (List (List ℕ))
+with_front body None = None
+with_front body (Some bodies) = Some (body ∷ bodies)
+
+-- the number that the first four bytes spell
+abbrev pub size_at : List ℕ → ℕ
+size_at bytes = from_be_bytes w32 (take 4 bytes)
+
+-- The bodies of the frames from here on, once so many bytes are passed over. Behind an open gate stand a length and so many
+-- bytes, then the next gate, and the first closed gate ends them. None where a frame or a gate is cut.
+abbrev pub frames_from : ℕ → List ℕ → Option (List (List ℕ))
+frames_from skip [] = None
+frames_from (suc skip) (byte ∷ bytes) = frames_from skip bytes
+frames_from zero (gate ∷ bytes) =
+    if gate == 1
+    then (if nat_le (4 + size_at bytes) (length bytes) then with_front (take (size_at bytes) (drop 4 bytes)) (frames_from (4 + size_at bytes) bytes) else None)
+    else Some []
+
+abbrev pub frames : List ℕ → Option (List (List ℕ))
+frames bytes = frames_from 0 bytes
+
+-- what two sides hold: the live side, its header, the bytes of its world, and the bodies of the frames behind it
+pub record Kept : Type 0 where
+  pub live : Side
+  pub header : Header
+  pub world : List ℕ
+  pub bodies : List (List ℕ)
+
+abbrev pub kept : Side → Header → List ℕ → Option (List (List ℕ)) → Result (Option Kept) SideFault
+kept live header world None = Err Damaged
+kept live header world (Some bodies) = Ok (Some (record { live = live; header = header; world = world; bodies = bodies }))
+
+-- a live side with this header, and these bytes behind it
+unfoldable pub content : Side → Header → List ℕ → Result (Option Kept) SideFault
+content live header bytes =
+    if nat_le header.world_length (length bytes)
+    then kept live header (take header.world_length bytes) (frames (drop header.world_length bytes))
+    else Err Damaged
+
+-- of two open sides the one with the greater generation is live, and only the header of the other counts
+abbrev pub newer : Header → List ℕ → Header → List ℕ → Result (Option Kept) SideFault
+newer h x k y =
+    if h.generation == k.generation then Err Damaged
+    else (if nat_lt k.generation h.generation then content A h x else content B k y)
+
+-- first an unknown format, then a broken header, of whichever side
+abbrev pub decided : Face → Face → Result (Option Kept) SideFault
+decided unknown b = Err UnknownFormat
+decided closed unknown = Err UnknownFormat
+decided broken unknown = Err UnknownFormat
+decided (whole h x) unknown = Err UnknownFormat
+decided broken closed = Err Damaged
+decided broken broken = Err Damaged
+decided broken (whole k y) = Err Damaged
+decided closed broken = Err Damaged
+decided (whole h x) broken = Err Damaged
+decided closed closed = Ok None
+decided (whole h x) closed = content A h x
+decided closed (whole k y) = content B k y
+decided (whole h x) (whole k y) = newer h x k y
+
+-- What two sides hold: nothing where both are closed, or what the live side has; or why they can't be read.
+unfoldable pub held : List ℕ → List ℕ → Result (Option Kept) SideFault
+held a b = decided (face a) (face b)
+
+abbrev pub holds : Images → Result (Option Kept) SideFault
+holds i = held i.a i.b
+
+-- the same with these frames too
+abbrev pub with_frames : List (List ℕ) → Result (Option Kept) SideFault → Result (Option Kept) SideFault
+with_frames more (Err fault) = Err fault
+with_frames more (Ok None) = Ok None
+with_frames more (Ok (Some k)) = Ok (Some (record k { bodies = k.bodies ++ more }))
+
+-- which side is live, and its generation
+abbrev pub live_of : Result (Option Kept) SideFault → Option (Side × ℕ)
+live_of (Err fault) = None
+live_of (Ok None) = None
+live_of (Ok (Some k)) = Some (k.live, k.header.generation)
+
+-- images with these bytes on this side, and those on the other
+abbrev pub pair : Side → List ℕ → List ℕ → Images
+pair A x y = record { a = x; b = y }
+pair B x y = record { a = y; b = x }
+
+abbrev pub other_of : Side → Side
+other_of A = B
+other_of B = A
+
+-- open frames of these bodies
+abbrev pub framed : List (List ℕ) → List ℕ
+framed [] = []
+framed (body ∷ bodies) = 1 ∷ to_be_bytes w32 (length body) ++ (body ++ framed bodies)
+
+abbrev pub AllShort : List (List ℕ) → Type 0
+AllShort [] = Unit {0}
+AllShort (body ∷ bodies) = (length body < 2 ^ 32) × AllShort bodies
