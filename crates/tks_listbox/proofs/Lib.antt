@@ -1,0 +1,5 @@
+mod Places
+mod Staying
+mod Round
+mod Rising
+mod Whole

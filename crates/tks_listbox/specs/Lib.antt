@@ -1,0 +1,4 @@
+pub mod Listbox
+pub mod Commands
+pub mod Shown
+pub mod Laws
