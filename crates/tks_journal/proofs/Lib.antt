@@ -8,7 +8,7 @@ mod Heads
 mod Lists
 mod Openings
 mod Passing
-mod Phases
+pub mod Phases
 mod Stages
 mod Starts
 mod Told

@@ -1,0 +1,5 @@
+mod Pending
+mod Reading
+mod Rooms
+mod Runs
+mod Crashes

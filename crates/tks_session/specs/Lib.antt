@@ -1,0 +1,6 @@
+pub mod Crash
+pub mod Inputs
+pub mod Machine
+pub mod Opening
+pub mod Refusing
+pub mod Session

@@ -1,0 +1,51 @@
+-- What contracts see of a session.
+use Rattle.std.specs.Prelude.{◌≡◌, ◌⊎◌, ◌<◌, ℕ, ◌+◌, Bool, true, not, ◌||◌, nat_le, List, [], length, Option, Some, None}
+use Rattle.std.specs.List.{AllByRecursion}
+use Rattle.tks_input.specs.declared.input.Input.{Input}
+use Rattle.tks_codec.specs.Input as codec
+use Rattle.tks_journal.specs.Journal.{JournalState, room_for}
+use Rattle.tks_session.specs.Inputs.{spelled}
+use Rattle.tks_session.specs.declared.fault.SessionFault.{SessionFault}
+use Rattle.tks_session.specs.declared.fault.SessionFault.TheVariants as fault
+
+pub record SessionState (D M W : Type 0) : Type 0 where
+  pub journal : JournalState D
+  pub machine : M
+  -- what the accepted inputs leave
+  pub world : W
+  -- the inputs that wait for a commit
+  pub waiting : List Input
+  -- how many inputs were acknowledged
+  pub acknowledged : ℕ
+
+-- the inputs that bytes are, or none
+abbrev pub or_none : Option (List Input) → List Input
+or_none None = []
+or_none (Some inputs) = inputs
+
+-- As many inputs wait as may, or a frame with this one too finds no room.
+abbrev pub is_full : {D : Type 0} → ℕ → JournalState D → List Input → Input → Bool
+is_full pending journal waiting input = nat_le pending (length waiting) || not (room_for journal (length (spelled waiting) + length (codec.input.write input)))
+
+-- these bytes are so many inputs
+pub record IsPending (body : List ℕ) (count : ℕ) : Type 0 where
+  pub inputs : List Input
+  pub legal : AllByRecursion codec.input.Legal inputs
+  pub bytes : body ≡ spelled inputs
+  pub size : count ≡ length inputs
+
+-- a frame of these bytes finds room, where inputs wait
+abbrev pub HasRoom : {D : Type 0} → JournalState D → ℕ → ℕ → Type 0
+HasRoom journal waiting size = (waiting ≡ 0) ⊎ (room_for journal size ≡ true)
+
+-- An earlier call failed, and nothing has changed; or the device failed in this one, and the inputs wait still.
+abbrev pub CommitFails : {D M W : Type 0} → SessionState D M W → SessionState D M W → ℕ → ℕ → SessionFault → Type 0
+CommitFails old new before after fault.Failed = (old.journal.failed ≡ true) × (new ≡ old)
+CommitFails old new before after fault.Disk = (before < after) × (new.journal.failed ≡ true) × (new ≡ record old { journal = new.journal })
+CommitFails old new before after fault.TooLarge = ⊥
+CommitFails old new before after fault.NoMemory = ⊥
+CommitFails old new before after fault.Damaged = ⊥
+CommitFails old new before after fault.OtherCommands = ⊥
+CommitFails old new before after fault.OtherGrid = ⊥
+CommitFails old new before after fault.SmallerLimits = ⊥
+CommitFails old new before after fault.Version = ⊥

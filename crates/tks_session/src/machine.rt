@@ -1,0 +1,79 @@
+ghost use Rattle.std.specs.Prelude.{◌≡◌, List, ℕ, IfOk, IfErr, OnErr, Some};
+ghost use Rattle.tks_codec.specs.Header.{AreNames, header};
+ghost use Rattle.tks_codec.specs.declared.header.Header.{Header};
+ghost use Rattle.tks_session.specs.Machine.{Meaning, accepts};
+ghost use Rattle.tks_session.specs.Refusing.{RefusedAs};
+
+use std::alloc::{AllocError, Global};
+use tks_codec::Header;
+use tks_input::{Input, Refused, Reply};
+use tks_text::{Size, Txt};
+
+/// What a session keeps, and what inputs do to it. Contracts see `meaning` alone, and states by their values.
+pub trait Machine {
+    /// A state: what stands between inputs.
+    type World: Drop;
+
+    /// What inputs do, and how states are kept.
+    ghost meaning: { Self → Meaning Self.World };
+
+    /// What an input does. A refused one changes nothing.
+    fn step(
+        &self,
+        alloc: Global,
+        world: &mut Self::World,
+        input: &Input,
+    ) -> Result<Reply, Refused>
+        ensures accepted { IfOk result (λ reply. (meaning self.now).step world.old input.now ≡ accepts world.new reply) }
+        ensures refused { IfErr result (λ why. RefusedAs why ((meaning self.now).step world.old input.now)) }
+        ensures unchanged { OnErr result (world.new ≡ world.old) };
+
+    /// The state before any input.
+    fn first(&self, alloc: Global) -> Result<Self::World, AllocError>
+        ensures { IfOk result (λ world. world ≡ (meaning self.now).first) };
+
+    /// The state that these bytes spell behind this header; none where they spell none.
+    fn stored(
+        &self,
+        alloc: Global,
+        header: &Header,
+        bytes: &[u8],
+    ) -> Result<Option<Self::World>, AllocError>
+        ensures { IfOk result (λ found. found ≡ (meaning self.now).stored header.now bytes.now) };
+
+    /// The bytes that spell a state, behind any header of this machine.
+    fn spell(&self, alloc: Global, world: &Self::World) -> Result<Vec<u8>, AllocError>
+        ensures { IfOk result (λ bytes. (h : Header) → h.grid ≡ (meaning self.now).grid → h.names ≡ (meaning self.now).names
+            → (meaning self.now).stored h bytes.items ≡ Some world.now) };
+
+    /// The header of a side of this generation, behind which a world of so many bytes stands. It has a spelling.
+    fn header(
+        &self,
+        alloc: Global,
+        generation: u64,
+        world_length: u64,
+    ) -> Result<Header, AllocError>
+        ensures value { IfOk result (λ h. h ≡ record { generation = generation; grid = (meaning self.now).grid; names = (meaning self.now).names; world_length = world_length }) }
+        ensures names { IfOk result (λ h. AreNames h.names) }
+        ensures legal { IfOk result (λ h. header.Legal h) };
+
+    /// Whether a state keeps within the limits.
+    fn is_within(&self, world: &Self::World) -> bool
+        ensures { result ≡ (meaning self.now).within world.now };
+
+    /// How many inputs a state accepted.
+    fn count(&self, world: &Self::World) -> u64
+        ensures { result ≡ (meaning self.now).count world.now };
+
+    /// The grid that it is made for.
+    fn grid(&self) -> Size
+        ensures { result ≡ (meaning self.now).grid };
+
+    /// The application commands' names.
+    fn names(&self) -> &[Txt]
+        ensures { result.now ≡ (meaning self.now).names };
+
+    /// How many inputs may wait for a commit.
+    fn pending(&self) -> usize
+        ensures { result ≡ (meaning self.now).pending };
+}
