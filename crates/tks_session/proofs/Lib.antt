@@ -1,5 +1,7 @@
+mod Opens
 mod Pending
 mod Reading
 mod Rooms
 mod Runs
+mod Starts
 mod Crashes

@@ -1,12 +1,14 @@
 -- What a crash leaves of a session.
-use Rattle.std.specs.Prelude.{◌≡◌, ℕ, List, ◌++◌, Result, Ok, Err}
+use Rattle.std.specs.Prelude.{◌≡◌, ◌<◌, ℕ, List, [], ◌++◌, false, Result, Ok, Err}
 use Rattle.tks_disk.specs.DiskModel.{View, Images}
 use Rattle.tks_input.specs.declared.input.Input.{Input}
 use Rattle.tks_journal.specs.Journal.{JournalState}
 use Rattle.tks_journal.specs.Moments.{LeavesOnly}
 use Rattle.tks_session.specs.Machine.{Meaning}
 use Rattle.tks_session.specs.Opening.{opens, run}
+use Rattle.tks_session.specs.Session.{SessionState}
 use Rattle.tks_session.specs.declared.fault.SessionFault.{SessionFault}
+use Rattle.tks_session.specs.declared.fault.SessionFault.TheVariants as fault
 
 module _ {W : Type 0} (m : Meaning W) where
   -- these images open to what a prefix of the inputs leaves
@@ -15,6 +17,10 @@ module _ {W : Type 0} (m : Meaning W) where
     pub others : List Input
     pub parts : inputs ≡ prefix ++ others
     pub leaves : opens m images ≡ run m start prefix
+
+  -- these images open to this
+  abbrev pub OpensSo : Result W SessionFault → Images → Type 0
+  OpensSo result images = opens m images ≡ result
 
   -- all that a crash now may leave opens to this
   abbrev pub AllOpenTo : View → Result W SessionFault → Type 0
@@ -29,3 +35,35 @@ module _ {W : Type 0} (m : Meaning W) where
   -- the inputs that wait, behind what is read, leave this world
   abbrev pub Stands : View → List Input → W → Type 0
   Stands view waiting world = run m (opens m view.reads) waiting ≡ Ok world
+
+  -- a session that has just been opened: nothing waits, and all is acknowledged
+  pub record IsFresh {D M : Type 0} (machine : M) (s : SessionState D M W) : Type 0 where
+    pub same : s.machine ≡ machine
+    pub nothing : s.waiting ≡ []
+    pub all : s.acknowledged ≡ m.count s.world
+    pub working : s.journal.failed ≡ false
+
+-- the faults that bytes have
+abbrev pub OfBytes : SessionFault → Type 0
+OfBytes fault.Disk = ⊥
+OfBytes fault.NoMemory = ⊥
+OfBytes fault.TooLarge = ⊥
+OfBytes fault.Failed = ⊥
+OfBytes fault.Damaged = Unit {0}
+OfBytes fault.OtherCommands = Unit {0}
+OfBytes fault.OtherGrid = Unit {0}
+OfBytes fault.SmallerLimits = Unit {0}
+OfBytes fault.Version = Unit {0}
+
+-- Why opening fails: what the bytes open to, where the disk is honest; or the device failed; or memory was refused; or the state
+-- before any input is more than a disk holds. The device's count of failures rises where it failed, and only there.
+abbrev pub OpenFails : {W : Type 0} → Type 0 → Result W SessionFault → ℕ → ℕ → SessionFault → Type 0
+OpenFails honest result before after fault.Disk = before < after
+OpenFails honest result before after fault.NoMemory = after ≡ before
+OpenFails honest result before after fault.TooLarge = after ≡ before
+OpenFails honest result before after fault.Failed = ⊥
+OpenFails honest result before after fault.Damaged = (after ≡ before) × (honest → result ≡ Err fault.Damaged)
+OpenFails honest result before after fault.OtherCommands = (after ≡ before) × (honest → result ≡ Err fault.OtherCommands)
+OpenFails honest result before after fault.OtherGrid = (after ≡ before) × (honest → result ≡ Err fault.OtherGrid)
+OpenFails honest result before after fault.SmallerLimits = (after ≡ before) × (honest → result ≡ Err fault.SmallerLimits)
+OpenFails honest result before after fault.Version = (after ≡ before) × (honest → result ≡ Err fault.Version)

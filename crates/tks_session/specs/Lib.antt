@@ -4,3 +4,4 @@ pub mod Machine
 pub mod Opening
 pub mod Refusing
 pub mod Session
+pub mod Starting

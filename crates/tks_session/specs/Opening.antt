@@ -10,12 +10,14 @@ use Rattle.tks_input.specs.declared.input.Input.TheVariants.{Script, KeyPress, K
 use Rattle.tks_input.specs.declared.reply.Refused.{Refused}
 use Rattle.tks_input.specs.declared.reply.Refused.TheVariants as refused
 use Rattle.tks_journal.specs.Sides.{Kept, holds}
+use Rattle.tks_journal.specs.declared.error.OpenError.{OpenError}
+use Rattle.tks_journal.specs.declared.error.OpenError.TheVariants as error
 use Rattle.tks_journal.specs.declared.fault.SideFault.{SideFault}
 use Rattle.tks_journal.specs.declared.fault.SideFault.TheVariants as side
 use Rattle.tks_session.specs.Inputs.{inputs_of}
 use Rattle.tks_session.specs.Machine.{Meaning, Stepped, accepts, refuses}
 use Rattle.tks_session.specs.declared.fault.SessionFault.{SessionFault}
-use Rattle.tks_session.specs.declared.fault.SessionFault.TheVariants.{Damaged, OtherCommands, OtherGrid, SmallerLimits, Version}
+use Rattle.tks_session.specs.declared.fault.SessionFault.TheVariants.{Damaged, Disk, NoMemory, OtherCommands, OtherGrid, SmallerLimits, Version}
 
 -- an input that the limits don't admit, though it was accepted once: a script too long
 abbrev pub fault_of_bad : Input → SessionFault
@@ -38,6 +40,13 @@ fault_of input refused.PendingFull = Damaged
 fault_of input refused.NoMemory = Damaged
 fault_of input refused.Quiet = Damaged
 fault_of input refused.Failed = Damaged
+
+-- the fault of a session, of one in reading a disk
+abbrev pub fault_in_reading : OpenError → SessionFault
+fault_in_reading error.NoMemory = NoMemory
+fault_in_reading error.Device = Disk
+fault_in_reading (error.Sides side.UnknownFormat) = Version
+fault_in_reading (error.Sides side.Damaged) = Damaged
 
 abbrev pub reached : {W : Type 0} → Input → Stepped W → Result W SessionFault
 reached input (accepts world reply) = Ok world

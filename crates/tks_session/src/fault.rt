@@ -1,3 +1,6 @@
+ghost use Rattle.std.specs.Prelude.{◌≡◌};
+
+use std::alloc::AllocError;
 use thiserror::Error;
 
 /// Why a call of a session failed.
@@ -30,4 +33,14 @@ pub enum SessionFault {
     /// A side is of a format that isn't known.
     #[error("the store is of an unknown format")]
     Version,
+}
+
+impl From<AllocError> for SessionFault {
+    ghost use Rattle.tks_session.specs.declared.fault.SessionFault.TheVariants.{NoMemory};
+
+    ghost from_gives = { λ _ e. e ≡ NoMemory };
+
+    fn from(_e: AllocError) -> SessionFault {
+        SessionFault::NoMemory
+    }
 }

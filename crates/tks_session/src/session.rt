@@ -49,6 +49,29 @@ impl<D: Disk, M: Machine> Session<D, M> {
     ghost use Rattle.tks_session.specs.Session.{CommitFails, SessionState, is_full};
     ghost use Rattle.tks_journal.specs.Moments.{LeavesOnly};
 
+    /// A session over a journal that stands for this state.
+    pub(crate) fn over(
+        alloc: Global,
+        journal: Journal<D>,
+        machine: M,
+        world: M::World,
+    ) -> Session<D, M>
+        requires working { journal.failed ≡ false }
+        requires stands { D.honest journal.disk → opens (M.meaning machine) (D.view journal.disk).reads ≡ Ok world }
+        ensures { result ≡ record { journal = journal; machine = machine; world = world; waiting = []; acknowledged = (M.meaning machine).count world } }
+    {
+        let acknowledged = machine.count(&world);
+        Session {
+            alloc,
+            journal,
+            machine,
+            world,
+            body: Vec::new(alloc),
+            waiting: 0,
+            acknowledged,
+        }
+    }
+
     /// What the accepted inputs leave.
     pub fn world(&self) -> &M::World
         ensures { result.now ≡ self.now.world }

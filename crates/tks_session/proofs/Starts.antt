@@ -1,0 +1,42 @@
+-- A first side opens to the state that it was begun with.
+use Rattle.std.proofs.Common.{◌≡◌, ℕ, ◌==◌, ◌&&◌, Bool, true, false, List, [], ◌∷◌, Some, Ok, Err, refl, sym, ◌∙◌, ap, cond, arith}
+use Rattle.std.proofs.lemmas.Bool.Decides.{nat_tests}
+use Rattle.std.specs.Cmp.Lexicographic.{pointwise}
+use Rattle.tks_text.specs.Size.{Extent}
+use Rattle.tks_text.specs.Text.{same_text}
+use Rattle.tks_codec.specs.declared.header.Header.{Header}
+use Rattle.tks_disk.specs.declared.disk.Side.TheVariants.{A}
+use Rattle.tks_journal.specs.Resting.{begun_as}
+use Rattle.tks_session.specs.Machine.{Meaning}
+use Rattle.tks_session.specs.Opening.{admitted, begun, opened, restored, same_grid, same_names}
+use Rattle.tks_session.specs.declared.fault.SessionFault.TheVariants.{OtherCommands, OtherGrid, SmallerLimits}
+
+same_number : (n : ℕ) → (n == n) ≡ true
+same_number n = grind (arith, nat_tests)
+
+same_bytes : (l : List ℕ) → same_text l l ≡ true
+same_bytes [] = refl
+same_bytes (n ∷ l) = ap (λ b. b && same_text l l) (same_number n) ∙ same_bytes l
+
+names_are : (names : List (List ℕ)) → same_names names names ≡ true
+names_are [] = refl
+names_are (name ∷ names) = ap (λ b. b && same_names names names) (same_bytes name) ∙ names_are names
+
+grid_is : (grid : Extent) → same_grid grid grid ≡ true
+grid_is grid = ap (λ b. b && (grid.height == grid.height)) (same_number grid.width) ∙ same_number grid.height
+
+module _ {W : Type 0} (m : Meaning W) (header : Header) (world : W) where
+  admits : header.grid ≡ m.grid → header.names ≡ m.names → m.within world ≡ true → admitted m header world ≡ Ok world
+  admits grid names within =
+      ap (λ b. cond b (cond (same_names header.names m.names) (cond (m.within world) (Ok world) (Err SmallerLimits)) (Err OtherCommands)) (Err OtherGrid)) (ap (λ x. same_grid x m.grid) grid ∙ grid_is m.grid)
+      ∙ ap (λ b. cond b (cond (m.within world) (Ok world) (Err SmallerLimits)) (Err OtherCommands)) (ap (λ x. same_names x m.names) names ∙ names_are m.names)
+      ∙ ap (λ b. cond b (Ok world) (Err SmallerLimits)) within
+
+  pub first_opens : (bytes : List ℕ) → header.grid ≡ m.grid → header.names ≡ m.names → m.within world ≡ true → m.stored header bytes ≡ Some world → opened m (begun_as A header bytes) ≡ Ok world
+  first_opens bytes grid names within stored = ap (λ o. restored m header o []) stored ∙ admits grid names within
+
+pub begins : {W : Type 0} (m : Meaning W) (world : W) → world ≡ m.first → m.within world ≡ true → begun m ≡ Ok world
+begins m world is within = ap (λ b. cond b (Ok m.first) (Err SmallerLimits)) (ap m.within (sym is) ∙ within) ∙ ap Ok (sym is)
+
+pub begins_not : {W : Type 0} (m : Meaning W) (world : W) → world ≡ m.first → m.within world ≡ false → begun m ≡ Err SmallerLimits
+begins_not m world is within = ap (λ b. cond b (Ok m.first) (Err SmallerLimits)) (ap m.within (sym is) ∙ within)

@@ -1,0 +1,18 @@
+-- Why a first side isn't made.
+use Rattle.std.specs.Prelude.{◌≡◌, Err}
+use Rattle.tks_session.specs.Machine.{Meaning}
+use Rattle.tks_session.specs.Opening.{begun}
+use Rattle.tks_session.specs.declared.fault.SessionFault.{SessionFault}
+use Rattle.tks_session.specs.declared.fault.SessionFault.TheVariants.{TooLarge, NoMemory, Disk, Failed, Damaged, OtherCommands, OtherGrid, SmallerLimits, Version}
+
+-- The limits don't admit the state before any input; or memory was refused; or its bytes are more than a disk holds.
+abbrev pub StartFails : {W : Type 0} → Meaning W → SessionFault → Type 0
+StartFails m SmallerLimits = begun m ≡ Err SmallerLimits
+StartFails m NoMemory = Unit {0}
+StartFails m TooLarge = Unit {0}
+StartFails m Disk = ⊥
+StartFails m Failed = ⊥
+StartFails m Damaged = ⊥
+StartFails m OtherCommands = ⊥
+StartFails m OtherGrid = ⊥
+StartFails m Version = ⊥
