@@ -46,25 +46,25 @@ module _ {W : Type 0} where
   reached_fault input (accepts world reply) = tt
   reached_fault input (refuses why) = why_fault input why
     where
-    bad_fault : (input : Input) → OfBytes (fault_of_bad input)
-    bad_fault (Script text) = tt
-    bad_fault (KeyPress key) = tt
-    bad_fault (KeyRelease key) = tt
-    bad_fault (Press button x y) = tt
-    bad_fault (Release button x y) = tt
-    bad_fault (Clock time) = tt
-    bad_fault Turn = tt
+      bad_fault : (input : Input) → OfBytes (fault_of_bad input)
+      bad_fault (Script text) = tt
+      bad_fault (KeyPress key) = tt
+      bad_fault (KeyRelease key) = tt
+      bad_fault (Press button x y) = tt
+      bad_fault (Release button x y) = tt
+      bad_fault (Clock time) = tt
+      bad_fault Turn = tt
 
-    why_fault : (input : Input) (why : Refused) → OfBytes (fault_of input why)
-    why_fault input refused.BadInput = bad_fault input
-    why_fault input refused.Budget = tt
-    why_fault input refused.Depth = tt
-    why_fault input refused.TooLarge = tt
-    why_fault input refused.ClockBack = tt
-    why_fault input refused.PendingFull = tt
-    why_fault input refused.NoMemory = tt
-    why_fault input refused.Quiet = tt
-    why_fault input refused.Failed = tt
+      why_fault : (input : Input) (why : Refused) → OfBytes (fault_of input why)
+      why_fault input refused.BadInput = bad_fault input
+      why_fault input refused.Budget = tt
+      why_fault input refused.Depth = tt
+      why_fault input refused.TooLarge = tt
+      why_fault input refused.ClockBack = tt
+      why_fault input refused.PendingFull = tt
+      why_fault input refused.NoMemory = tt
+      why_fault input refused.Quiet = tt
+      why_fault input refused.Failed = tt
 
 -- a run adds no other faults than bytes have
 module _ {W : Type 0} (m : Meaning W) where

@@ -50,9 +50,9 @@ still_read copy body count same p = ap inputs_in same ∙ are_read body count p 
 pub none_there : (body : List ℕ) (count : ℕ) → IsPending body count → count ≡ 0 → or_none (inputs_in body) ≡ []
 none_there body count p none = no_length (or_none (inputs_in body)) (how_many body count p ∙ none)
   where
-  no_length : (inputs : List Input) → length inputs ≡ 0 → inputs ≡ []
-  no_length [] e = refl
-  no_length (input ∷ inputs) e = absurd (cc e)
+    no_length : (inputs : List Input) → length inputs ≡ 0 → inputs ≡ []
+    no_length [] e = refl
+    no_length (input ∷ inputs) e = absurd (cc e)
 
 pub cleared : (body : List ℕ) → body ≡ [] → or_none (inputs_in body) ≡ []
 unfolding inputs_in

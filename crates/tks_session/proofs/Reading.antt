@@ -33,7 +33,7 @@ unfolding codec.input_at
 read_first input rest legal =
     let here : drop (length (codec.input.write input)) (codec.input.write input ++ rest) ≡ rest = drop-append_seam (codec.input.write input) rest in
     met (codec.input.write input ++ rest) input (length (codec.input.write input)) (input_filled input) (omega (arith, length-append (codec.input.write input) rest))
-        (input_lawful.reads_back input rest legal ∙ ap (λ (l : List ℕ). Ok (input, l)) (sym here))
+    (input_lawful.reads_back input rest legal ∙ ap (λ (l : List ℕ). Ok (input, l)) (sym here))
     ∙ ap (λ (l : List ℕ). with_input input (inputs_in l)) here
 
 pub read_all : (inputs : List Input) → AllByRecursion codec.input.Legal inputs → inputs_in (spelled inputs) ≡ Some inputs

@@ -16,10 +16,10 @@ pub inputs_more : (bodies : List (List ℕ)) (body : List ℕ) (inputs : List In
 inputs_more [] body inputs is = ap (λ o. and_then o (Some [])) is ∙ ap Some (append-nil inputs)
 inputs_more (first ∷ bodies) body inputs is = ap (and_then (inputs_in first)) (inputs_more bodies body inputs is) ∙ regroup (inputs_in first) (inputs_of bodies)
   where
-  regroup : (a b : Option (List Input)) → and_then a (and_then b (Some inputs)) ≡ and_then (and_then a b) (Some inputs)
-  regroup None b = refl
-  regroup (Some x) None = refl
-  regroup (Some x) (Some y) = ap Some (sym (append_assoc x y inputs))
+    regroup : (a b : Option (List Input)) → and_then a (and_then b (Some inputs)) ≡ and_then (and_then a b) (Some inputs)
+    regroup None b = refl
+    regroup (Some x) None = refl
+    regroup (Some x) (Some y) = ap Some (sym (append_assoc x y inputs))
 
 module _ {W : Type 0} (m : Meaning W) where
   -- a run over two lists is one run behind the other

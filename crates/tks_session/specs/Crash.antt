@@ -18,6 +18,13 @@ module _ {W : Type 0} (m : Meaning W) where
     pub parts : inputs ≡ prefix ++ others
     pub leaves : opens m images ≡ run m start prefix
 
+  -- the first of these inputs, each accepted, leave this world
+  pub record IsRunOfPrefix (start : Result W SessionFault) (inputs : List Input) (world : W) : Type 0 where
+    pub prefix : List Input
+    pub others : List Input
+    pub parts : inputs ≡ prefix ++ others
+    pub leaves : run m start prefix ≡ Ok world
+
   -- these images open to this
   abbrev pub OpensSo : Result W SessionFault → Images → Type 0
   OpensSo result images = opens m images ≡ result

@@ -3,6 +3,7 @@
 
 mod fault;
 mod first;
+mod laws;
 mod machine;
 mod open;
 mod replay;
@@ -10,6 +11,7 @@ mod restore;
 mod session;
 
 pub use fault::SessionFault;
+pub use laws::{a_crash_leaves_a_prefix, runs_join};
 pub use machine::Machine;
 pub use open::OpenFault;
 pub use session::Session;

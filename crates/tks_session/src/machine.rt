@@ -18,12 +18,7 @@ pub trait Machine {
     ghost meaning: { Self → Meaning Self.World };
 
     /// What an input does. A refused one changes nothing.
-    fn step(
-        &self,
-        alloc: Global,
-        world: &mut Self::World,
-        input: &Input,
-    ) -> Result<Reply, Refused>
+    fn step(&self, alloc: Global, world: &mut Self::World, input: &Input) -> Result<Reply, Refused>
         ensures accepted { IfOk result (λ reply. (meaning self.now).step world.old input.now ≡ accepts world.new reply) }
         ensures refused { IfErr result (λ why. RefusedAs why ((meaning self.now).step world.old input.now)) }
         ensures unchanged { OnErr result (world.new ≡ world.old) };

@@ -48,7 +48,7 @@ fn replay_next<D: Disk, M: Machine>(
 ) -> Result<(Result<M::World, SessionFault>, bool), OpenError>
     ensures more { IfOk result (λ x. x.1 ≡ false → (left.old.at < left.new.at) × (left.new.at ≤ left.old.len)
         × (D.honest left.old.disk → with_bodies (M.meaning machine.now) x.0 (frames (behind left.new.live left.new.at (D.view left.new.disk).reads))
-            ≡ with_bodies (M.meaning machine.now) so_far (frames (behind left.old.live left.old.at (D.view left.old.disk).reads)))) }
+        ≡ with_bodies (M.meaning machine.now) so_far (frames (behind left.old.live left.old.at (D.view left.old.disk).reads)))) }
     ensures done { IfOk result (λ x. x.1 ≡ true → IfOk x.0 (λ _. left.new.ended ≡ true)
         × (D.honest left.old.disk → x.0 ≡ with_bodies (M.meaning machine.now) so_far (frames (behind left.old.live left.old.at (D.view left.old.disk).reads)))) }
     ensures bytes { IfErr so_far OfBytes → IfOk result (λ x. IfErr x.0 OfBytes) }

@@ -1,6 +1,5 @@
 //! A session between its calls.
 ghost use Rattle.std.specs.Prelude.{◌≡◌, ◌↔◌, ◌<◌, ◌++◌, ◌∷◌, [], ℕ, true, false, OnOk, OnErr, IfOk, IfErr, Ok, Err, length};
-
 ghost use Rattle.tks_journal.specs.Journal.{room_for};
 ghost use Rattle.tks_session.specs.Machine.{accepts};
 ghost use Rattle.tks_session.specs.Refusing.{RoomRefused};
@@ -43,7 +42,7 @@ impl<D: Disk, M: Machine> Model for Session<D, M> {
 }
 
 impl<D: Disk, M: Machine> Session<D, M> {
-    ghost use Rattle.tks_session.specs.Crash.{OpensToPrefix, AllOpenTo};
+    ghost use Rattle.tks_session.specs.Crash.{AllOpenTo, OpensToPrefix, Stands};
     ghost use Rattle.tks_session.specs.Opening.{opens};
     ghost use Rattle.tks_session.specs.Refusing.{PostRefused};
     ghost use Rattle.tks_session.specs.Session.{CommitFails, SessionState, is_full};
@@ -70,6 +69,17 @@ impl<D: Disk, M: Machine> Session<D, M> {
             waiting: 0,
             acknowledged,
         }
+    }
+
+    /// While no call has failed, the inputs that wait leave the world, behind what the disk opens to; and all that a crash may
+    /// leave opens so.
+    pub fn stands(&self)
+        ensures world { self.now.journal.failed ≡ false → D.honest self.now.journal.disk
+            → Stands (M.meaning self.now.machine) (D.view self.now.journal.disk) self.now.waiting self.now.world }
+        ensures images { self.now.journal.failed ≡ false → D.honest self.now.journal.disk
+            → AllOpenTo (M.meaning self.now.machine) (D.view self.now.journal.disk) (opens (M.meaning self.now.machine) (D.view self.now.journal.disk).reads) }
+    {
+        self.journal.stands();
     }
 
     /// What the accepted inputs leave.

@@ -15,7 +15,7 @@ returns-then-self-eq0-clause-ok g c =
     let n = c.count-self-inside.result in
     let working : s.journal.failed ≡ false = sym c.has_failed.ensures ∙ c.if-has_failed.false in
     subst (λ t. (t.journal.failed ≡ false) × (n ≡ (g.M.Machine.meaning t.machine).count t.world)
-        × (record { journal = s.journal; machine = s.machine; world = s.world; waiting = or_none (inputs_in s.body.items); acknowledged = n } ≡ record t { journal = s.journal; waiting = []; acknowledged = n })) c.self.view_is
+    × (record { journal = s.journal; machine = s.machine; world = s.world; waiting = or_none (inputs_in s.body.items); acknowledged = n } ≡ record t { journal = s.journal; waiting = []; acknowledged = n })) c.self.view_is
     (working, c.count-self-inside.ensures, ap (λ (w : List Input). record { journal = s.journal; machine = s.machine; world = s.world; waiting = w; acknowledged = n }) (none_there s.body.items s.waiting c.self.invariant.0 c.if-self-eq0.true))
 
 pub returns-then-self-eq0-clause-acknowledged : goal.returns-then-self-eq0-clause-acknowledged
@@ -26,7 +26,7 @@ returns-then-self-eq0-clause-acknowledged g c =
     let working : s.journal.failed ≡ false = sym c.has_failed.ensures ∙ c.if-has_failed.false in
     subst (λ t. g.D.Disk.honest t.journal.disk → AllOpenTo (g.M.Machine.meaning t.machine) v (Ok s.world)) c.self.view_is
     (λ h. idle_opens m v (c.stands.ensures working h).0 s.world
-        (subst (λ w. Stands m v w s.world) (none_there s.body.items s.waiting c.self.invariant.0 c.if-self-eq0.true) (c.self.invariant.2 working h)))
+    (subst (λ w. Stands m v w s.world) (none_there s.body.items s.waiting c.self.invariant.0 c.if-self-eq0.true) (c.self.invariant.2 working h)))
 
 pub invariant_of-self-in-Ok : goal.invariant_of-self-in-Ok
 invariant_of-self-in-Ok g c =
@@ -35,12 +35,14 @@ invariant_of-self-in-Ok g c =
     let new = g.D.Disk.view c.append.new.self.disk in
     let m = g.M.Machine.meaning s.machine in
     let body = s.body.items in
-    let working : s.journal.failed ≡ false = sym c.has_failed.ensures ∙ c.if-has_failed.false in
-    (subst (λ l. IsPending l 0) (sym c.clear.ensures.items) none_wait, inl refl,
-    λ works h1. let h = c.append.ensures.honesty.1 h1 in
-        subst (λ w. run m (opens m new.reads) w ≡ Ok s.world) (sym (cleared c.clear.new.self.items c.clear.ensures.items))
-        (written_stands m v new _ c.deref.result.now (or_none (inputs_in body)) s.world (c.stands.ensures working h).1 (still_read c.deref.result.now body s.waiting c.deref.ensures.value c.self.invariant.0)
-            (c.self.invariant.2 working h) (c.in-Ok.ensures.added h)))
+    let working : s.journal.failed ≡ false = sym c.has_failed.ensures ∙ c.if-has_failed.false in (
+      subst (λ l. IsPending l 0) (sym c.clear.ensures.items) none_wait,
+      inl refl,
+      λ works h1. let h = c.append.ensures.honesty.1 h1 in
+          subst (λ w. run m (opens m new.reads) w ≡ Ok s.world) (sym (cleared c.clear.new.self.items c.clear.ensures.items))
+          (written_stands m v new _ c.deref.result.now (or_none (inputs_in body)) s.world (c.stands.ensures working h).1 (still_read c.deref.result.now body s.waiting c.deref.ensures.value c.self.invariant.0)
+          (c.self.invariant.2 working h) (c.in-Ok.ensures.added h)),
+    )
 
 pub returns-in-Ok-clause-ok : goal.returns-in-Ok-clause-ok
 returns-in-Ok-clause-ok g c =
@@ -48,7 +50,7 @@ returns-in-Ok-clause-ok g c =
     let n = c.count-self-inside-in-Ok.result in
     let working : s.journal.failed ≡ false = sym c.has_failed.ensures ∙ c.if-has_failed.false in
     subst (λ t. (t.journal.failed ≡ false) × (n ≡ (g.M.Machine.meaning t.machine).count t.world)
-        × (record { journal = c.append.new.self; machine = s.machine; world = s.world; waiting = or_none (inputs_in c.clear.new.self.items); acknowledged = n } ≡ record t { journal = c.append.new.self; waiting = []; acknowledged = n })) c.self.view_is
+    × (record { journal = c.append.new.self; machine = s.machine; world = s.world; waiting = or_none (inputs_in c.clear.new.self.items); acknowledged = n } ≡ record t { journal = c.append.new.self; waiting = []; acknowledged = n })) c.self.view_is
     (working, c.count-self-inside-in-Ok.ensures, ap (λ (w : List Input). record { journal = c.append.new.self; machine = s.machine; world = s.world; waiting = w; acknowledged = n }) (cleared c.clear.new.self.items c.clear.ensures.items))
 
 pub returns-in-Ok-clause-idle : goal.returns-in-Ok-clause-idle
@@ -66,7 +68,7 @@ returns-in-Ok-clause-acknowledged g c =
     let working : s.journal.failed ≡ false = sym c.has_failed.ensures ∙ c.if-has_failed.false in
     subst (λ t. g.D.Disk.honest t.journal.disk → AllOpenTo (g.M.Machine.meaning t.machine) new (Ok s.world)) c.self.view_is
     (λ h. written_opens m v new _ c.deref.result.now (or_none (inputs_in body)) s.world (c.stands.ensures working h).1 (still_read c.deref.result.now body s.waiting c.deref.ensures.value c.self.invariant.0)
-        (c.self.invariant.2 working h) (c.in-Ok.ensures.added h))
+    (c.self.invariant.2 working h) (c.in-Ok.ensures.added h))
 
 pub returns-in-Ok-clause-any_moment : goal.returns-in-Ok-clause-any_moment
 returns-in-Ok-clause-any_moment g c =
@@ -77,7 +79,7 @@ returns-in-Ok-clause-any_moment g c =
     let body = s.body.items in
     subst (λ t. t.journal.failed ≡ false → g.D.Disk.honest t.journal.disk → LeavesOnly (g.D.Disk.view t.journal.disk) new (OpensToPrefix (g.M.Machine.meaning t.machine) (opens (g.M.Machine.meaning t.machine) (g.D.Disk.view t.journal.disk).reads) t.waiting)) c.self.view_is
     (λ works h. any_moment m v.reads _ c.deref.result.now (or_none (inputs_in body)) (c.stands.ensures works h).1 (still_read c.deref.result.now body s.waiting c.deref.ensures.value c.self.invariant.0)
-        v new (c.append.ensures.any_moment h))
+    v new (c.append.ensures.any_moment h))
 
 pub returns-in-Err-clause-idle : goal.returns-in-Err-clause-idle
 returns-in-Err-clause-idle g c =
@@ -93,4 +95,4 @@ returns-in-Err-clause-any_moment g c =
     let body = s.body.items in
     subst (λ t. t.journal.failed ≡ false → g.D.Disk.honest t.journal.disk → LeavesOnly (g.D.Disk.view t.journal.disk) new (OpensToPrefix (g.M.Machine.meaning t.machine) (opens (g.M.Machine.meaning t.machine) (g.D.Disk.view t.journal.disk).reads) t.waiting)) c.self.view_is
     (λ works h. any_moment m v.reads _ c.deref.result.now (or_none (inputs_in body)) (c.stands.ensures works h).1 (still_read c.deref.result.now body s.waiting c.deref.ensures.value c.self.invariant.0)
-        v new (c.append.ensures.any_moment h))
+    v new (c.append.ensures.any_moment h))

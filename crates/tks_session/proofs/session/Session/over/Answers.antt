@@ -8,9 +8,11 @@ use Rattle.tks_session.proofs.session.Session.over.Goals as goal
 
 pub invariant_of-result : goal.invariant_of-result
 invariant_of-result g c =
-    let m = g.M.Machine.meaning c.args.machine in
-    (subst (λ l. IsPending l 0) (sym c.new.ensures.items) none_wait, inl refl,
-    λ works h. subst (λ w. run m (opens m (g.D.Disk.view c.args.journal.disk).reads) w ≡ Ok c.args.world) (sym (cleared c.new.result.items c.new.ensures.items)) (c.requires.stands h))
+    let m = g.M.Machine.meaning c.args.machine in (
+      subst (λ l. IsPending l 0) (sym c.new.ensures.items) none_wait,
+      inl refl,
+      λ works h. subst (λ w. run m (opens m (g.D.Disk.view c.args.journal.disk).reads) w ≡ Ok c.args.world) (sym (cleared c.new.result.items c.new.ensures.items)) (c.requires.stands h),
+    )
 
 pub returns : goal.returns
 returns g c =

@@ -17,11 +17,12 @@ invariant_of-self-in-Ok g c =
     let written = c.in_ok-write_input.ensures.ok in
     let legal = c.in_ok-write_input.ensures.legal in
     let p = c.self.invariant.0 in
-    let size : c.len.result ≡ length c.write_input.new.out.items = search rules in
-    (subst (λ l. IsPending l (s.waiting + 1)) (sym written) (one_more s.body.items s.waiting c.args.input.now p legal),
-    inr (ap (room_for s.journal) (sym size) ∙ c.in-Ok.ensures.accepted.0),
-    λ works h. stands_on m (opens m (g.D.Disk.view s.journal.disk).reads) (or_none (inputs_in s.body.items)) (or_none (inputs_in c.write_input.new.out.items)) c.args.input.now s.world c.step_in_room-stepped.new.world c.in-Ok.reply
-        (ap (λ (l : List ℕ). or_none (inputs_in l)) written ∙ waiting_more s.body.items s.waiting c.args.input.now p legal) (c.self.invariant.2 works h) c.in-Ok.ensures.accepted.1)
+    let size : c.len.result ≡ length c.write_input.new.out.items = search rules in (
+      subst (λ l. IsPending l (s.waiting + 1)) (sym written) (one_more s.body.items s.waiting c.args.input.now p legal),
+      inr (ap (room_for s.journal) (sym size) ∙ c.in-Ok.ensures.accepted.0),
+      λ works h. stands_on m (opens m (g.D.Disk.view s.journal.disk).reads) (or_none (inputs_in s.body.items)) (or_none (inputs_in c.write_input.new.out.items)) c.args.input.now s.world c.step_in_room-stepped.new.world c.in-Ok.reply
+          (ap (λ (l : List ℕ). or_none (inputs_in l)) written ∙ waiting_more s.body.items s.waiting c.args.input.now p legal) (c.self.invariant.2 works h) c.in-Ok.ensures.accepted.1,
+    )
 
 pub returns-then-pending-self-clause-refused : goal.returns-then-pending-self-clause-refused
 returns-then-pending-self-clause-refused g c =
@@ -44,9 +45,11 @@ returns-in-Ok-clause-ok g c =
     let size : c.len.result ≡ length c.write_input.new.out.items = search rules in
     let more = ap (λ (l : List ℕ). or_none (inputs_in l)) written ∙ waiting_more s.body.items s.waiting c.args.input.now p c.in_ok-write_input.ensures.legal in
     subst (λ t. (t.journal.failed ≡ false) × (is_full (g.M.Machine.meaning t.machine).pending t.journal t.waiting c.args.input.now ≡ false)
-        × (record { journal = s.journal; machine = s.machine; world = next; waiting = or_none (inputs_in c.write_input.new.out.items); acknowledged = s.acknowledged } ≡ record t { world = next; waiting = t.waiting ++ c.args.input.now ∷ [] })) c.self.view_is
-    (working, full_by_room m.pending s.journal s.body.items s.waiting p c.args.input.now few c.write_input.new.out.items c.len.result true written size c.in-Ok.ensures.accepted.0,
-    ap (λ (w : List Input). record { journal = s.journal; machine = s.machine; world = next; waiting = w; acknowledged = s.acknowledged }) more)
+    × (record { journal = s.journal; machine = s.machine; world = next; waiting = or_none (inputs_in c.write_input.new.out.items); acknowledged = s.acknowledged } ≡ record t { world = next; waiting = t.waiting ++ c.args.input.now ∷ [] })) c.self.view_is (
+      working,
+      full_by_room m.pending s.journal s.body.items s.waiting p c.args.input.now few c.write_input.new.out.items c.len.result true written size c.in-Ok.ensures.accepted.0,
+      ap (λ (w : List Input). record { journal = s.journal; machine = s.machine; world = next; waiting = w; acknowledged = s.acknowledged }) more,
+    )
 
 pub returns-in-Err-clause-refused : goal.returns-in-Err-clause-refused
 returns-in-Err-clause-refused g c =

@@ -1,0 +1,33 @@
+-- A machine whose state is a text, to which scripts are added, as long as it stays within a limit.
+use Rattle.std.specs.Prelude.{ℕ, ◌+◌, nat_le, Bool, List, [], ◌++◌, length, if◌then◌else◌, Option, Some, None}
+use Rattle.tks_text.specs.Text.{is_text}
+use Rattle.tks_codec.specs.declared.header.Header.{Header}
+use Rattle.tks_input.specs.declared.input.Input.{Input}
+use Rattle.tks_input.specs.declared.input.Input.TheVariants.{Script, KeyPress, KeyRelease, Press, Release, Clock, Turn}
+use Rattle.tks_input.specs.declared.reply.Refused.TheVariants.{BadInput, Quiet, TooLarge}
+use Rattle.tks_session.specs.Machine.{Meaning, Stepped, accepts, refuses}
+
+-- a script is added where the text stays within the limit
+abbrev pub logged : ℕ → List ℕ → Input → Stepped (List ℕ)
+logged limit text (Script more) = if nat_le (length text + length more) limit then accepts (text ++ more) (record { number = length text + length more; code = 0; text = [] }) else refuses TooLarge
+logged limit text Turn = refuses Quiet
+logged limit text (KeyPress key) = refuses BadInput
+logged limit text (KeyRelease key) = refuses BadInput
+logged limit text (Press button x y) = refuses BadInput
+logged limit text (Release button x y) = refuses BadInput
+logged limit text (Clock time) = refuses BadInput
+
+abbrev pub stored_text : Header → List ℕ → Option (List ℕ)
+stored_text header bytes = if is_text bytes then Some bytes else None
+
+abbrev pub logging : ℕ → ℕ → Meaning (List ℕ)
+logging limit pending = record {
+  step = logged limit;
+  first = [];
+  stored = stored_text;
+  within = λ text. nat_le (length text) limit;
+  count = λ text. length text;
+  grid = record { width = 20; height = 3 };
+  names = [];
+  pending = pending;
+}

@@ -1,0 +1,9 @@
+//! Tests of sessions: a machine whose state is a text, stops at each call of the disk, crashes of each kind, and sides that
+//! aren't a session's.
+#![tactic(auto)]
+
+mod log;
+#[cfg(test)]
+mod tests;
+
+pub use log::Log;

@@ -1,0 +1,100 @@
+ghost use Rattle.std.specs.Prelude.{◌≡◌};
+ghost use Rattle.tests_session.specs.Logging.{logging};
+
+use std::alloc::{AllocError, Global};
+use tks_codec::Header;
+use tks_input::{Input, Refused, Reply};
+use tks_session::Machine;
+use tks_text::{Seq, Size, Txt};
+
+/// A machine whose state is a text of at most `limit` bytes, to which scripts are added.
+#[derive(Clone, Copy, Drop)]
+pub struct Log {
+    pub limit: usize,
+    pub pending: usize,
+}
+
+impl Machine for Log {
+    type World = Txt;
+
+    ghost meaning = { λ l. logging l.limit l.pending };
+
+    fn step(&self, alloc: Global, world: &mut Txt, input: &Input) -> Result<Reply, Refused> {
+        match input {
+            Input::Script(more) => {
+                if more.len() > self.limit || world.len() > self.limit - more.len() {
+                    return Err(Refused::TooLarge);
+                }
+                world.append(more)?;
+                Ok(Reply {
+                    number: world.len() as u64,
+                    code: 0,
+                    text: Txt::new(alloc),
+                })
+            }
+            Input::Turn => Err(Refused::Quiet),
+            _ => Err(Refused::BadInput),
+        }
+    }
+
+    fn first(&self, alloc: Global) -> Result<Txt, AllocError> {
+        Ok(Txt::new(alloc))
+    }
+
+    fn stored(
+        &self,
+        alloc: Global,
+        _header: &Header,
+        bytes: &[u8],
+    ) -> Result<Option<Txt>, AllocError> {
+        if !tks_text::is_text(bytes) {
+            return Ok(None);
+        }
+        let text = Txt::from_text(alloc, bytes)?;
+        Ok(Some(text))
+    }
+
+    fn spell(&self, alloc: Global, world: &Txt) -> Result<Vec<u8>, AllocError> {
+        world.as_bytes().to_vec(alloc)
+    }
+
+    fn header(
+        &self,
+        alloc: Global,
+        generation: u64,
+        world_length: u64,
+    ) -> Result<Header, AllocError> {
+        let Some(grid) = Size::new(20, 3) else {
+            unreachable!()
+        };
+        Ok(Header {
+            generation,
+            grid,
+            names: Seq::new(alloc),
+            world_length,
+        })
+    }
+
+    fn is_within(&self, world: &Txt) -> bool {
+        world.len() <= self.limit
+    }
+
+    fn count(&self, world: &Txt) -> u64 {
+        world.len() as u64
+    }
+
+    fn grid(&self) -> Size {
+        let Some(grid) = Size::new(20, 3) else {
+            unreachable!()
+        };
+        grid
+    }
+
+    fn names(&self) -> &[Txt] {
+        &[]
+    }
+
+    fn pending(&self) -> usize {
+        self.pending
+    }
+}

@@ -1,0 +1,259 @@
+use super::*;
+use std::alloc::Global;
+use tks_disk::{Disk, Fuse, Left, MemoryDisk, Side};
+use tks_input::{Input, Refused};
+use tks_session::{Session, SessionFault};
+use tks_text::Txt;
+
+fn script(alloc: Global, bytes: &[u8]) -> Option<Input> {
+    Some(Input::Script(Txt::from_bytes(alloc, bytes).ok()?))
+}
+
+// Posts letters, and commits at each dot, until a call fails. How many were acknowledged last.
+fn lives<D: Disk>(alloc: Global, session: &mut Session<D, Log>, acts: &[u8]) -> Option<u64> {
+    let mut told = session.acknowledged();
+    for act in acts {
+        if *act == b'.' {
+            match session.commit() {
+                Ok(count) => told = count,
+                Err(_) => return Some(told),
+            }
+        } else {
+            let input = script(alloc, &[*act])?;
+            session.post(&input).ok()?;
+        }
+    }
+    Some(told)
+}
+
+const LOG: Log = Log {
+    limit: 6,
+    pending: 2,
+};
+
+// A session's life on this disk: how many letters were acknowledged, and the disk.
+fn lived<D: Disk + Drop>(alloc: Global, disk: D, acts: &[u8]) -> (Option<u64>, D) {
+    match Session::open(alloc, disk, LOG) {
+        Ok(mut session) => {
+            let told = lives(alloc, &mut session, acts);
+            (told, session.close().0)
+        }
+        Err(refused) => (Some(0), refused.disk),
+    }
+}
+
+fn left(kind: usize) -> Left {
+    match kind {
+        0 => Left::Old,
+        1 => Left::New,
+        2 => Left::Fill(0),
+        3 => Left::Fill(1),
+        _ => Left::Fill(255),
+    }
+}
+
+// Whether the disk opens to a prefix of the letters that has at least so many.
+fn opens_to_prefix(alloc: Global, disk: MemoryDisk, letters: &[u8], told: u64) -> Option<bool> {
+    match Session::open(alloc, disk, LOG) {
+        Ok(session) => {
+            let world = session.world().as_bytes();
+            Some(
+                letters.starts_with(world)
+                    && world.len() as u64 >= told
+                    && session.acknowledged() == world.len() as u64
+                    && session.posted() == world.len() as u64,
+            )
+        }
+        Err(_) => Some(false),
+    }
+}
+
+// Stopped after so many calls of the disk and crashed in each way: how many letters were acknowledged, where each opens to a
+// prefix with these.
+fn stopped(alloc: Global, calls: u64) -> Option<u64> {
+    let (told, fuse) = lived(alloc, Fuse::new(MemoryDisk::new(alloc), calls), b"a.bc.de.");
+    let told = told?;
+    let disk = fuse.into_inner();
+    for a in 0..5 {
+        for b in 0..5 {
+            let crashed = disk.crash(alloc, left(a), left(b)).ok()?;
+            if opens_to_prefix(alloc, crashed, b"abcde", told) != Some(true) {
+                return None;
+            }
+        }
+    }
+    Some(told)
+}
+
+#[test]
+fn each_stop_leaves_a_prefix_with_all_that_was_acknowledged(rt: HostRuntime) {
+    let alloc = rt.alloc();
+    let mut last = 0;
+    for calls in 0..60 {
+        let told = stopped(alloc, calls);
+        assert!(rt; told.is_some(), "after {calls} calls");
+        last = told.unwrap_or(0);
+    }
+    assert_eq!(rt; last, 5);
+}
+
+// A disk of these bytes.
+fn disk_of(alloc: Global, a: &[u8], b: &[u8]) -> Option<MemoryDisk> {
+    let mut disk = MemoryDisk::new(alloc);
+    disk.write_at(Side::A, 0, a).ok()?;
+    disk.write_at(Side::B, 0, b).ok()?;
+    Some(disk)
+}
+
+// What sides of these bytes open to: the text, or the fault.
+fn opened(alloc: Global, a: &[u8], b: &[u8]) -> Option<Result<Vec<u8>, SessionFault>> {
+    match Session::open(alloc, disk_of(alloc, a, b)?, LOG) {
+        Ok(session) => Some(Ok(session.world().as_bytes().to_vec(alloc).ok()?)),
+        Err(refused) => Some(Err(refused.fault)),
+    }
+}
+
+fn opens(alloc: Global, a: &[u8], b: &[u8], text: &[u8]) -> bool {
+    match opened(alloc, a, b) {
+        Some(Ok(found)) => found.as_slice() == text,
+        _ => false,
+    }
+}
+
+fn fails(alloc: Global, a: &[u8], b: &[u8], fault: SessionFault) -> bool {
+    match opened(alloc, a, b) {
+        Some(Err(found)) => found == fault,
+        _ => false,
+    }
+}
+
+// Generation 1, 20 by 3, no names, a world of one byte `a`.
+const SIDE: &[u8] = b"\x01\x01\0\0\0\0\0\0\0\x01\0\x14\0\x03\0\0\0\0\0\0\0\0\0\0\0\x01a\0";
+
+#[test]
+fn sides_open_as_their_bytes_say(rt: HostRuntime) {
+    let alloc = rt.alloc();
+    assert!(rt; opens(alloc, b"", b"", b""), "nothing");
+    assert!(rt; opens(alloc, b"\x01", b"", b""), "a gate alone");
+    assert!(rt; opens(alloc, SIDE, b"", b"a"), "a world");
+    assert!(rt; opens(alloc, b"", SIDE, b"a"), "on the other side");
+    assert!(rt;
+        fails(alloc, SIDE, SIDE, SessionFault::Damaged),
+        "one generation twice"
+    );
+    assert!(rt;
+        fails(alloc, b"\x01\x09", b"", SessionFault::Version),
+        "another format"
+    );
+    assert!(rt;
+        fails(alloc, b"\x01\x01\0\0\0", b"", SessionFault::Damaged),
+        "a cut header"
+    );
+}
+
+// The side with other bytes from this place on.
+fn side_with(alloc: Global, at: usize, bytes: &[u8]) -> Option<Vec<u8>> {
+    let (front, _) = SIDE.split_at_checked(at)?;
+    let mut side = front.to_vec(alloc).ok()?;
+    side.extend_from_slice(bytes).ok()?;
+    Some(side)
+}
+
+fn side_fails(alloc: Global, at: usize, bytes: &[u8], fault: SessionFault) -> bool {
+    match side_with(alloc, at, bytes) {
+        Some(side) => fails(alloc, &side, b"", fault),
+        None => false,
+    }
+}
+
+fn side_opens(alloc: Global, at: usize, bytes: &[u8], text: &[u8]) -> bool {
+    match side_with(alloc, at, bytes) {
+        Some(side) => opens(alloc, &side, b"", text),
+        None => false,
+    }
+}
+
+#[test]
+fn faults_come_in_their_order(rt: HostRuntime) {
+    let alloc = rt.alloc();
+    let grid = b"\x15\0\x03\0\0\0\0\0\0\0\0\0\0\0\x01a\0";
+    assert!(rt;
+        side_fails(alloc, 11, grid, SessionFault::OtherGrid),
+        "a wider grid"
+    );
+    let cut = b"\x15\0\x03\0\0\0\0\0\0\0\0\0\0\0\x01a\x01\0\0\0\x09";
+    assert!(rt;
+        side_fails(alloc, 11, cut, SessionFault::Damaged),
+        "a cut frame before the grid"
+    );
+    let names = b"\x01\0\0\0\x01x\0\0\0\0\0\0\0\x01a\0";
+    assert!(rt;
+        side_fails(alloc, 17, names, SessionFault::OtherCommands),
+        "a command more"
+    );
+    let long = b"\x07abcdefg\0";
+    assert!(rt;
+        side_fails(alloc, 25, long, SessionFault::SmallerLimits),
+        "a world over the limit"
+    );
+    assert!(rt;
+        side_fails(alloc, 26, b"\xff\0", SessionFault::Damaged),
+        "a world that is no text"
+    );
+    let frame = b"\x01\0\0\0\x0c\x01\0\0\0\x01b\x01\0\0\0\x01c\0";
+    assert!(rt;
+        side_opens(alloc, 27, frame, b"abc"),
+        "two inputs in a frame"
+    );
+    let over = b"\x01\0\0\0\x0b\x01\0\0\0\x06bcdefg\0";
+    assert!(rt;
+        side_fails(alloc, 27, over, SessionFault::SmallerLimits),
+        "an input over the limit"
+    );
+    let turn = b"\x01\0\0\0\x01\x07\0";
+    assert!(rt;
+        side_fails(alloc, 27, turn, SessionFault::Damaged),
+        "an input that was never accepted"
+    );
+    let both = b"\x01\0\0\0\x0b\x01\0\0\0\x06bcdefg\x01\0\0\0\x01\x09\0";
+    assert!(rt;
+        side_fails(alloc, 27, both, SessionFault::Damaged),
+        "a later frame that is no list of inputs"
+    );
+}
+
+// What a session says of one input more.
+fn posts(
+    alloc: Global,
+    session: &mut Session<MemoryDisk, Log>,
+    bytes: &[u8],
+) -> Option<Result<u64, Refused>> {
+    let input = script(alloc, bytes)?;
+    match session.post(&input) {
+        Ok(reply) => Some(Ok(reply.number)),
+        Err(refused) => Some(Err(refused)),
+    }
+}
+
+fn refusals(alloc: Global) -> Option<bool> {
+    let Ok(mut session) = Session::open(alloc, MemoryDisk::new(alloc), LOG) else {
+        return None;
+    };
+    let session = &mut session;
+    session.stands();
+    let quiet = session.post(&Input::Turn).err() == Some(Refused::Quiet);
+    let large = posts(alloc, session, b"abcdefg")? == Err(Refused::TooLarge);
+    let posted = posts(alloc, session, b"ab")? == Ok(2) && posts(alloc, session, b"c")? == Ok(3);
+    let full = posts(alloc, session, b"d")? == Err(Refused::PendingFull);
+    let before = session.acknowledged() == 0 && session.posted() == 3;
+    let committed = session.commit() == Ok(3) && session.commit() == Ok(3);
+    let after = session.acknowledged() == 3 && session.world().as_bytes() == b"abc".as_slice();
+    let again = posts(alloc, session, b"d")? == Ok(4);
+    Some(quiet && large && posted && full && before && committed && after && again)
+}
+
+#[test]
+fn refused_inputs_change_nothing(rt: HostRuntime) {
+    let alloc = rt.alloc();
+    assert!(rt; refusals(alloc) == Some(true));
+}

@@ -1,0 +1,28 @@
+//! Laws of runs and of crashes.
+ghost use Rattle.std.specs.Prelude.{◌≡◌, ◌++◌, List, Result, Ok};
+ghost use Rattle.tks_disk.specs.DiskModel.{Images};
+ghost use Rattle.tks_input.specs.declared.input.Input.{Input};
+ghost use Rattle.tks_session.specs.Crash.{IsRunOfPrefix, OpensToPrefix};
+ghost use Rattle.tks_session.specs.Opening.{opens, run};
+ghost use Rattle.tks_session.specs.declared.fault.SessionFault.{SessionFault};
+
+use crate::machine::Machine;
+
+/// Inputs run one after the other: a run over two lists is a run over the second from where the first one ends.
+#[tactic(auto, using(crate::proofs::Runs::run_on))]
+pub fn runs_join<M: Machine>(machine: &M)
+    ensures { (start : Result M.World SessionFault) (first second : List Input)
+        → run (M.meaning machine.now) start (first ++ second) ≡ run (M.meaning machine.now) (run (M.meaning machine.now) start first) second }
+{
+    let _ = machine;
+}
+
+/// What opening answers after a crash: where the images that it left open to what a prefix of the inputs leaves, a world that is
+/// opened is what some first inputs leave, each of them whole.
+pub fn a_crash_leaves_a_prefix<M: Machine>(machine: &M)
+    ensures { (start : Result M.World SessionFault) (inputs : List Input) (images : Images) (world : M.World)
+        → OpensToPrefix (M.meaning machine.now) start inputs images → opens (M.meaning machine.now) images ≡ Ok world
+        → IsRunOfPrefix (M.meaning machine.now) start inputs world }
+{
+    let _ = machine;
+}
