@@ -2,8 +2,7 @@
 //! aren't a session's.
 #![tactic(auto)]
 
+#[cfg(test)]
 mod log;
 #[cfg(test)]
 mod tests;
-
-pub use log::Log;

@@ -55,7 +55,8 @@ impl Machine for Log {
     }
 
     fn spell(&self, alloc: Global, world: &Txt) -> Result<Vec<u8>, AllocError> {
-        world.as_bytes().to_vec(alloc)
+        let bytes = world.as_bytes().to_vec(alloc)?;
+        Ok(bytes)
     }
 
     fn header(

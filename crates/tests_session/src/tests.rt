@@ -1,4 +1,4 @@
-use super::*;
+use crate::log::Log;
 use std::alloc::Global;
 use tks_disk::{Disk, Fuse, Left, MemoryDisk, Side};
 use tks_input::{Input, Refused};

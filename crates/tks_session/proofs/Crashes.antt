@@ -1,5 +1,5 @@
 -- What a crash leaves of a commit.
-use Rattle.std.proofs.Common.{◌≡◌, inl, ⊎_elim, ℕ, List, [], ◌∷◌, ◌++◌, Some, Ok, refl, sym, ◌∙◌, ap, arith, append-nil}
+use Rattle.std.proofs.Common.{◌≡◌, inl, ⊎_elim, ℕ, List, [], ◌∷◌, Some, Ok, refl, sym, ◌∙◌, ap, arith, append-nil}
 use Rattle.tks_disk.specs.DiskModel.{View, Images}
 use Rattle.tks_disk.specs.declared.disk.Side.{Side}
 use Rattle.tks_input.specs.declared.input.Input.{Input}

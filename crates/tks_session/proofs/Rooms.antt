@@ -1,5 +1,5 @@
 -- When a session is full, and what a refused input says of it.
-use Rattle.std.proofs.Common.{◌≡◌, ◌<◌, ◌≤◌, ◌^◌, ℕ, ◌+◌, ◌∷◌, [], ◌++◌, Bool, true, false, not, ◌||◌, ◌&&◌, List, length, nat_le, nat_lt, Result, Ok, refl, sym, ◌∙◌, ap, arith}
+use Rattle.std.proofs.Common.{◌≡◌, ◌<◌, ◌≤◌, ◌^◌, ℕ, ◌+◌, ◌∷◌, [], ◌++◌, Bool, true, false, not, ◌||◌, ◌&&◌, List, length, nat_le, nat_lt, Result, Ok, refl, ◌∙◌, ap, arith}
 use Rattle.std.proofs.lemmas.Bool.Decides.{nat_tests}
 use Rattle.std.proofs.lemmas.List.{length-append}
 use Rattle.tks_codec.specs.Input as codec

@@ -1,5 +1,5 @@
 -- Runs over lists of inputs, and over the inputs of frames.
-use Rattle.std.proofs.Common.{◌≡◌, ℕ, List, [], ◌∷◌, ◌++◌, Option, Some, None, Result, Ok, Err, refl, sym, ◌∙◌, ap, subst, append_assoc, append-nil}
+use Rattle.std.proofs.Common.{◌≡◌, ℕ, List, [], ◌∷◌, ◌++◌, Option, Some, None, Result, Ok, Err, refl, sym, ◌∙◌, ap, append_assoc, append-nil}
 use Rattle.tks_disk.specs.declared.disk.Side.{Side}
 use Rattle.tks_input.specs.declared.input.Input.{Input}
 use Rattle.tks_codec.specs.declared.header.Header.{Header}

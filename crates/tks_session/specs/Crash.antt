@@ -2,8 +2,6 @@
 use Rattle.std.specs.Prelude.{◌≡◌, ◌<◌, ℕ, List, [], ◌++◌, false, Result, Ok, Err}
 use Rattle.tks_disk.specs.DiskModel.{View, Images}
 use Rattle.tks_input.specs.declared.input.Input.{Input}
-use Rattle.tks_journal.specs.Journal.{JournalState}
-use Rattle.tks_journal.specs.Moments.{LeavesOnly}
 use Rattle.tks_session.specs.Machine.{Meaning}
 use Rattle.tks_session.specs.Opening.{opens, run}
 use Rattle.tks_session.specs.Session.{SessionState}

@@ -1,5 +1,5 @@
 -- Lists of inputs as bytes: one spelling behind the other.
-use Rattle.std.specs.Prelude.{ℕ, zero, suc, ◌-◌, List, [], ◌∷◌, ◌++◌, length, Option, Some, None, Result, Ok, Err}
+use Rattle.std.specs.Prelude.{ℕ, zero, suc, ◌-◌, List, [], ◌∷◌, ◌++◌, length, Option, Some, None, Ok, Err}
 use Rattle.std.specs.List.{flat_map}
 use Rattle.tks_codec.specs.Input as codec
 use Rattle.tks_codec.specs.Spelling.{Read}

@@ -1,4 +1,4 @@
-use Rattle.std.proofs.Common.{rules, ◌≡◌, List, ℕ, sym, ◌∙◌, ap}
+use Rattle.std.proofs.Common.{◌≡◌, List, ℕ, sym, ◌∙◌, ap}
 use Rattle.tks_journal.specs.Loading.{behind}
 use Rattle.tks_journal.specs.Sides.{frames, kept}
 use Rattle.tks_session.specs.Opening.{opened}

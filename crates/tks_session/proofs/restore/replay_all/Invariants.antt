@@ -1,4 +1,4 @@
-use Rattle.std.proofs.Common.{◌≡◌, ◌-◌, ◌≤◌}
+use Rattle.std.proofs.Common.{◌≡◌, ◌-◌}
 use Rattle.std.specs.Prelude.{◌↔◌, IfErr}
 use Rattle.tks_journal.specs.Loading.{behind}
 use Rattle.tks_journal.specs.Opening.{Unwritten}

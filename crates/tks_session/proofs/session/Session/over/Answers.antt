@@ -1,8 +1,7 @@
 use Rattle.std.proofs.Common.{◌≡◌, [], List, Ok, inl, refl, sym, ◌∙◌, ap, subst}
 use Rattle.tks_input.specs.declared.input.Input.{Input}
-use Rattle.tks_session.specs.Inputs.{inputs_in}
 use Rattle.tks_session.specs.Opening.{opens, run}
-use Rattle.tks_session.specs.Session.{IsPending, or_none}
+use Rattle.tks_session.specs.Session.{IsPending}
 use Rattle.tks_session.proofs.Pending.{cleared, none_wait}
 use Rattle.tks_session.proofs.session.Session.over.Goals as goal
 

@@ -7,7 +7,7 @@ use Rattle.tks_session.specs.Opening.{opens}
 use Rattle.tks_session.specs.Refusing.{PostRefused}
 use Rattle.tks_session.specs.Session.{IsPending, is_full, or_none}
 use Rattle.tks_session.proofs.Pending.{one_more, waiting_more}
-use Rattle.tks_session.proofs.Rooms.{full_by_count, full_by_length, full_by_room, post_refused, stands_on}
+use Rattle.tks_session.proofs.Rooms.{full_by_count, full_by_room, post_refused, stands_on}
 use Rattle.tks_session.proofs.session.Session.post.Goals as goal
 
 pub invariant_of-self-in-Ok : goal.invariant_of-self-in-Ok
