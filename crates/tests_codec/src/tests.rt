@@ -1,4 +1,4 @@
-use super::*;
+use crate::spelling::{Read, header_of, header_spelled, input_of, input_spelled};
 use std::alloc::Global;
 use tks_codec::Header;
 use tks_input::Input;

@@ -1,4 +1,5 @@
-use super::*;
+use crate::plain::plain_text;
+use crate::trial::{bytes_of, opened_text, run, state};
 use std::alloc::Global;
 use tks_disk::{Disk, Fuse, Left, MemoryDisk, Side};
 
