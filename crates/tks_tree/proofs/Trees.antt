@@ -24,6 +24,10 @@ rise_end : (low : ℕ) (ws : List Window) (v : Window) → Rise low ws v.number 
 rise_end low [] v r = (r, omega arith)
 rise_end low (w ∷ ws) v r = (r.0, rise_end (w.number + 1) ws v r.1)
 
+rise_to : (low : ℕ) (ws : List Window) (high n : ℕ) → high ≤ n → Rise low ws high → Rise low ws n
+rise_to low [] high n le r = omega (arith, le, r)
+rise_to low (w ∷ ws) high n le r = (r.0, rise_to (w.number + 1) ws high n le r.1)
+
 pub rise_filter : (keep : Window → Bool) (low : ℕ) (ws : List Window) (high : ℕ) → Rise low ws high → Rise low (filter keep ws) high
 rise_filter keep low [] high r = r
 rise_filter keep low (w ∷ ws) high r = by (keep w) (rise_filter keep (w.number + 1) ws high r.1)
@@ -226,3 +230,9 @@ well_with t path class w h new found below =
             (stands w.first.0 path h (sym (ap (λ ws. has_path ws path) w.first.1) ∙ new) (sym (ap (λ ws. parent_found ws (parent_of path)) w.first.1) ∙ found));
       });
     }
+
+-- ---- numbers skipped
+
+pub well_skipped : (t : Windows) (n : ℕ) → WellFormed t → t.next ≤ n → n ≤ max_number → WellFormed (record t { next = n })
+well_skipped t n w above bounded =
+    record { first = w.first; numbered = rise_to 0 t.windows t.next n above w.numbered; bounded = bounded; founded = w.founded }

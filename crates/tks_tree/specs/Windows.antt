@@ -1,6 +1,6 @@
 -- The windows, in the order in which they were made (frame(n), destroy(n), focus(n); numbers, and which
 -- errors there are, are this project's own).
-use Rattle.std.specs.Prelude.{ℕ, suc, ◌+◌, ◌^◌, Bool, not, is_some, ◌==◌, nat_lt, if◌then◌else◌, List, [], ◌∷◌, ◌++◌, map, take, drop, position, ◌≡◌, true, false, ◌⊎◌, Option, Some, None, Result, Ok, Err}
+use Rattle.std.specs.Prelude.{ℕ, suc, ◌+◌, ◌^◌, Bool, not, is_some, ◌==◌, ◌&&◌, nat_lt, nat_le, if◌then◌else◌, List, [], ◌∷◌, ◌++◌, map, take, drop, position, ◌≡◌, true, false, ◌⊎◌, Option, Some, None, Result, Ok, Err}
 use Rattle.std.specs.List.{find, filter}
 use Rattle.std.specs.Option.{option_map}
 use Rattle.tks_text.specs.Text.{same_text}
@@ -88,6 +88,16 @@ free_path windows path =
 -- a new window's number, and the windows with it
 abbrev pub created : Windows → List ℕ → Class → Result (ℕ × Windows) Refusal
 created t path class = after (free_path t.windows path) (λ _. numbered t path class)
+
+-- Skipping numbers.
+
+-- whether a number may be the next one: none from it on was given out, and it is within the bound
+abbrev pub may_skip : Windows → ℕ → Bool
+may_skip t number = nat_le t.next number && nat_le number max_number
+
+-- the windows, where the next one takes this number if it may
+abbrev pub skipped : Windows → ℕ → Windows
+skipped t number = if may_skip t number then record t { next = number } else t
 
 -- Destroying one.
 

@@ -1,7 +1,7 @@
 ghost use Rattle.std.specs.Prelude.{◌≡◌, ◌↔◌, ◌==◌, ◌++◌, ℕ, Bool, Some, ◌<◌, not, position, length, reverse, slice_get, IfOk, IfSome, OnOk, OnErr, option_map};
 ghost use Rattle.tks_tree.specs.Path.{parent_of, is_child, is_within};
 ghost use Rattle.tks_text.specs.Fault.{Gives};
-ghost use Rattle.tks_tree.specs.Windows.{first_windows, of_path, has_path, of_number, parent_found, free_path, created, destroyed, resolved, number_at, parent, children, preorder, others_behind, Chooses};
+ghost use Rattle.tks_tree.specs.Windows.{first_windows, of_path, has_path, of_number, parent_found, free_path, created, may_skip, skipped, destroyed, resolved, number_at, parent, children, preorder, others_behind, Chooses};
 ghost use Rattle.tks_tree.specs.Families.{families, childless, with_child};
 ghost use Rattle.tks_tree.specs.WellFormed.{WellFormed};
 ghost use Rattle.tks_tree.specs.View.{window_seen, window_kept, windows_kept, without_at};
@@ -163,6 +163,19 @@ impl Tree {
         self.windows.insert(path.try_clone()?, Entry { id, class })?;
         self.next += 1;
         Ok(id)
+    }
+
+    /// Makes a number the next one to be given out, and says whether it may be: it isn't below the present next
+    /// one, nor above 2^62. Else nothing is done. So a tree is made again with the numbers that its windows had.
+    pub fn skip_to(&mut self, number: u64) -> bool
+        ensures answer { result ≡ may_skip self.old number }
+        ensures value { self.new ≡ skipped self.old number }
+    {
+        if number < self.next || number > MAX_NUMBER {
+            return false;
+        }
+        self.next = number;
+        true
     }
 
     /// Takes a window out, and all that stand in it, however deep. `.` stays: that is an error. Where no

@@ -1,0 +1,5 @@
+//! Tests of what a world's parts are made again by, from the values that were kept of them.
+#![tactic(auto)]
+
+#[cfg(test)]
+mod numbers;
