@@ -1,4 +1,5 @@
-use super::*;
+use crate::dice::Dice;
+use crate::plain_queue::{PlainQueue, has_letter, letter_event, queue_call_agrees};
 use std::alloc::Global;
 use tks_queue::{Place, Queue};
 

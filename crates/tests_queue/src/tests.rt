@@ -1,4 +1,6 @@
-use super::*;
+use crate::dice::Dice;
+use crate::plain::Plain;
+use crate::trial::call_agrees;
 use std::alloc::Global;
 use tks_text::{ErrorNumber, Failure, Txt};
 use tks_timer::{Timers, Waiting};
