@@ -5,10 +5,10 @@ use Rattle.tks_text.specs.Limits.{format1}
 use Rattle.tks_state.specs.World.{World}
 use Rattle.tks_world.specs.Step.{Accepts, Refuses, step}
 use Rattle.tks_world.specs.Meets.{RefusedSo}
-use Rattle.tks_world.specs.declared.input.Input.{Input}
-use Rattle.tks_world.specs.declared.input.Reply.{Reply}
-use Rattle.tks_world.specs.declared.input.Refused.{Refused}
-use Rattle.tks_world.specs.declared.input.Refused.TheVariants.{BadInput, Budget, Depth, TooLarge, NoMemory}
+use Rattle.tks_input.specs.declared.input.Input.{Input}
+use Rattle.tks_input.specs.declared.reply.Reply.{Reply}
+use Rattle.tks_input.specs.declared.reply.Refused.{Refused}
+use Rattle.tks_input.specs.declared.reply.Refused.TheVariants.{BadInput, ClockBack, PendingFull, Budget, Depth, TooLarge, NoMemory, Quiet, Failed}
 use Rattle.tks_desk.specs.Writing.{WritesSo, AppendsFront}
 use Rattle.tks_desk.specs.Requests.{requests_of, ReadsRequest}
 use Rattle.tks_desk.specs.Answers.{Granted, Withheld, Talk, said, answered, talk, bad_line, bye, reply_line, refusal_line, quits, answers_of, SoFar, Answers, CutOff, WrittenUpTo, resumed, screen_lines, memory_line, AnswersRequest, TurnsSo}
@@ -73,6 +73,10 @@ input_refused result input old new before after BadInput is same writes = refuse
 input_refused result input old new before after Budget is same writes = refused_so result input old new before after Budget is same writes
 input_refused result input old new before after Depth is same writes = refused_so result input old new before after Depth is same writes
 input_refused result input old new before after TooLarge is same writes = refused_so result input old new before after TooLarge is same writes
+input_refused result input old new before after ClockBack is same writes = refused_so result input old new before after ClockBack is same writes
+input_refused result input old new before after Quiet is same writes = refused_so result input old new before after Quiet is same writes
+input_refused result input old new before after PendingFull is same writes = absurd is
+input_refused result input old new before after Failed is same writes = absurd is
 input_refused result input old new before after NoMemory is same writes = record {
   memory = Withheld ∷ [];
   answer = refusal_line NoMemory;

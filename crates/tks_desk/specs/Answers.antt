@@ -5,9 +5,9 @@ use Rattle.tks_text.specs.Limits.{format1}
 use Rattle.tks_state.specs.World.{World}
 use Rattle.tks_screen.specs.Screen.{shown}
 use Rattle.tks_world.specs.Step.{Stepped, Accepts, Refuses, step}
-use Rattle.tks_world.specs.declared.input.Reply.{Reply}
-use Rattle.tks_world.specs.declared.input.Refused.{Refused}
-use Rattle.tks_world.specs.declared.input.Refused.TheVariants.{BadInput, Budget, Depth, TooLarge, NoMemory}
+use Rattle.tks_input.specs.declared.reply.Reply.{Reply}
+use Rattle.tks_input.specs.declared.reply.Refused.{Refused}
+use Rattle.tks_input.specs.declared.reply.Refused.TheVariants.{BadInput, ClockBack, PendingFull, Budget, Depth, TooLarge, NoMemory, Quiet, Failed}
 use Rattle.tks_desk.specs.Writing.{joined, escaped, WritesSo, AppendsFront}
 use Rattle.tks_desk.specs.Requests.{requests_of}
 use Rattle.tks_desk.specs.declared.request.Request.{Request}
@@ -20,11 +20,15 @@ use Rattle.tks_desk.specs.declared.ending.RunFault.TheVariants as fault
 -- ---- one answer
 
 abbrev pub refusal_name : Refused → List ℕ
-refusal_name BadInput = codes "bad"
-refusal_name Budget = codes "budget"
-refusal_name Depth = codes "depth"
-refusal_name TooLarge = codes "large"
-refusal_name NoMemory = codes "memory"
+refusal_name BadInput = codes "refused bad"
+refusal_name ClockBack = codes "refused clock"
+refusal_name PendingFull = codes "refused pending"
+refusal_name Budget = codes "refused budget"
+refusal_name Depth = codes "refused depth"
+refusal_name TooLarge = codes "refused large"
+refusal_name NoMemory = codes "refused memory"
+refusal_name Quiet = codes "quiet"
+refusal_name Failed = codes "refused failed"
 
 abbrev pub verdict : ℕ → List ℕ
 verdict code = if code == 0 then codes "ok " else codes "error "
@@ -38,7 +42,7 @@ abbrev pub reply_line : Reply → List ℕ
 reply_line reply = joined (verdict reply.code ∷ decimal reply.number ∷ after_space reply.text ∷ codes "\n" ∷ [])
 
 abbrev pub refusal_line : Refused → List ℕ
-refusal_line why = joined (codes "refused " ∷ refusal_name why ∷ codes "\n" ∷ [])
+refusal_line why = joined (refusal_name why ∷ codes "\n" ∷ [])
 
 -- a row of the screen between bars
 abbrev pub row_line : List ℕ → List ℕ

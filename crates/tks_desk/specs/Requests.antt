@@ -4,7 +4,7 @@ use Rattle.std.specs.Char.{is_digit}
 use Rattle.std.specs.List.{prefix_len}
 use Rattle.std.specs.Str.Parse.{digits_value}
 use Rattle.tks_text.specs.Text.{is_text, same_text}
-use Rattle.tks_world.specs.declared.input.Input.TheVariants.{Script}
+use Rattle.tks_input.specs.declared.input.Input.TheVariants.{Script}
 use Rattle.tks_desk.specs.Lines.{first_line, after_line, past_newline}
 use Rattle.tks_desk.specs.Reading.{max_line}
 use Rattle.tks_desk.specs.declared.request.Request.{Request}

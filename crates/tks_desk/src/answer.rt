@@ -6,9 +6,9 @@ use crate::ending::RunFault;
 use crate::output::{put, put_escaped, put_last};
 use itoa::Buffer;
 use std::io::Write;
+use tks_input::{Refused, Reply};
 use tks_screen::Grid;
 use tks_text::Seq;
-use tks_world::{Refused, Reply};
 
 #[tactic(auto, using(crate::proofs::Writes::joined_writes))]
 /// Writes the line of a reply: `ok` or `error`, the number, and the text where it isn't empty.
@@ -40,21 +40,24 @@ fn put_after_space<W: Write>(writer: &mut W, text: &[u8]) -> Result<(), RunFault
 pub fn put_refusal<W: Write>(writer: &mut W, why: Refused) -> Result<(), RunFault>
     ensures { WritesSo result (W.contents writer.old) (W.contents writer.new) (refusal_line why) }
 {
-    put(writer, b"refused ")?;
     put(writer, name_of(why).as_bytes())?;
     put_last(writer, b"\n")
 }
 
-// The word for a refusal.
+// What a refusal is called.
 fn name_of(why: Refused) -> &'static str
     ensures { result.now ≡ refusal_name why }
 {
     match why {
-        Refused::BadInput => "bad",
-        Refused::Budget => "budget",
-        Refused::Depth => "depth",
-        Refused::TooLarge => "large",
-        Refused::NoMemory => "memory",
+        Refused::BadInput => "refused bad",
+        Refused::ClockBack => "refused clock",
+        Refused::PendingFull => "refused pending",
+        Refused::Budget => "refused budget",
+        Refused::Depth => "refused depth",
+        Refused::TooLarge => "refused large",
+        Refused::NoMemory => "refused memory",
+        Refused::Quiet => "quiet",
+        Refused::Failed => "refused failed",
     }
 }
 

@@ -5,8 +5,10 @@ ghost use Rattle.tks_text.specs.Limits.{format1};
 
 use std::alloc::Global;
 use std::marker::Model;
+use tks_input::{Input, Refused, Reply};
+use tks_state::World;
 use tks_text::Limits;
-use tks_world::{Input, Refused, Reply, World, step};
+use tks_world::step;
 
 /// A session that keeps nothing beyond its life. Its limits are those of format 1.
 #[derive(Drop)]

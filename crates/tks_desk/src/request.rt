@@ -8,8 +8,8 @@ use crate::input::{Line, next_line};
 use crate::loading::{Intake, pass_newline, read_bytes};
 use std::alloc::{AllocError, Global};
 use std::io::BufRead;
+use tks_input::Input;
 use tks_text::{Txt, digits_len, is_text, value_of};
-use tks_world::Input;
 
 /// What is asked for.
 #[derive(Drop)]

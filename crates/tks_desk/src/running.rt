@@ -12,8 +12,9 @@ use crate::plain::Plain;
 use crate::request::{Request, next_request};
 use std::alloc::{AllocError, Global};
 use std::io::{BufRead, Write};
+use tks_input::Input;
 use tks_screen::{Grid, dump};
-use tks_world::{Input, World};
+use tks_state::World;
 
 /// The most bytes that a run reads.
 const MAX_READ: u64 = 1 << 40;

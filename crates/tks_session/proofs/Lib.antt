@@ -2,6 +2,7 @@ mod Opens
 mod Pending
 mod Reading
 mod Rooms
-mod Runs
+pub mod Runs
 mod Starts
 mod Crashes
+pub mod Lives

@@ -1,5 +1,6 @@
 pub mod Crash
 pub mod Inputs
+pub mod Lives
 pub mod Machine
 pub mod Opening
 pub mod Refusing

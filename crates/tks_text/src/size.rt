@@ -43,7 +43,8 @@ impl Size {
 
     /// How many cells a row has.
     pub fn width(self) -> u16
-        ensures { result ≡ self.width }
+        ensures value { result ≡ self.width }
+        ensures range { IsGridSize self.width self.height }
     {
         self.width
     }

@@ -3,8 +3,8 @@ use Rattle.std.specs.Prelude.{◌≡◌}
 use Rattle.tks_text.specs.declared.limits.Limits.{Limits}
 use Rattle.tks_state.specs.World.{World}
 use Rattle.tks_world.specs.Step.{step, Accepts}
-use Rattle.tks_world.specs.declared.input.Input.{Input}
-use Rattle.tks_world.specs.declared.input.Reply.{Reply}
+use Rattle.tks_input.specs.declared.input.Input.{Input}
+use Rattle.tks_input.specs.declared.reply.Reply.{Reply}
 
 -- what is accepted within limits is accepted within wider ones, with the same world and reply
 abbrev pub AcceptsStay : Limits → Limits → Type 0

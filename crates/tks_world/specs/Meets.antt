@@ -8,8 +8,8 @@ use Rattle.tks_tcl.specs.declared.stop.Stop.{Stop}
 use Rattle.tks_tcl.specs.declared.stop.Stop.TheVariants as stop
 use Rattle.tks_eval.specs.declared.ended.Ended.{Ended}
 use Rattle.tks_world.specs.Step.{Stepped, Refuses}
-use Rattle.tks_world.specs.declared.input.Refused.{Refused}
-use Rattle.tks_world.specs.declared.input.Refused.TheVariants as refused
+use Rattle.tks_input.specs.declared.reply.Refused.{Refused}
+use Rattle.tks_input.specs.declared.reply.Refused.TheVariants as refused
 
 -- the end by an error, with so many steps left; want of memory may come anywhere
 abbrev pub FailsSo : Limits → ScriptFault → ℕ → Result Ended Stop → Type 0
@@ -18,10 +18,17 @@ FailsSo limits fault fuel (Err stop.TooLarge) = fits limits (fault_text fault) �
 FailsSo limits fault fuel (Err stop.NoMemory) = Unit {0}
 FailsSo limits fault fuel (Err why) = ⊥
 
--- a refusal is the definition's; want of memory may come anywhere
+-- A refusal is the definition's; want of memory may come anywhere. A step knows neither commits nor devices.
 abbrev pub RefusedSo : Refused → Stepped → Type 0
 RefusedSo refused.NoMemory stepped = Unit {0}
-RefusedSo why stepped = stepped ≡ Refuses why
+RefusedSo refused.PendingFull stepped = ⊥
+RefusedSo refused.Failed stepped = ⊥
+RefusedSo refused.BadInput stepped = stepped ≡ Refuses refused.BadInput
+RefusedSo refused.ClockBack stepped = stepped ≡ Refuses refused.ClockBack
+RefusedSo refused.Budget stepped = stepped ≡ Refuses refused.Budget
+RefusedSo refused.Depth stepped = stepped ≡ Refuses refused.Depth
+RefusedSo refused.TooLarge stepped = stepped ≡ Refuses refused.TooLarge
+RefusedSo refused.Quiet stepped = stepped ≡ Refuses refused.Quiet
 
 -- the refusal that a stop comes to
 abbrev pub refused_by : Stop → Refused

@@ -2,11 +2,11 @@
 #![tactic(auto)]
 
 mod host;
-mod input;
 mod laws;
+mod refusal;
 mod steps;
 
-pub use input::{Input, Refused, Reply};
 pub use laws::wider_limits_keep_steps;
 pub use steps::step;
+pub use tks_input::{Input, Refused, Reply};
 pub use tks_state::World;

@@ -1,25 +1,27 @@
 ghost use Rattle.std.specs.Prelude.{◌≡◌, IfOk, IfErr, OnErr};
 ghost use Rattle.tks_text.specs.declared.fault.ErrorNumber.TheVariants.{OutsideLoop};
 ghost use Rattle.tks_tcl.specs.Cause.{bare};
+ghost use Rattle.tks_input.specs.declared.input.Input.TheVariants.{Script};
 ghost use Rattle.tks_eval.specs.Meets.{EndsSo};
 ghost use Rattle.tks_world.specs.Step.{script_ends, step, Accepts};
 ghost use Rattle.tks_world.specs.Meets.{FailsSo, RefusedSo};
 
 use crate::host::{Setting, WorldHost};
-use crate::input::{Input, Refused, Reply};
+use crate::refusal::refused_by;
 use std::alloc::Global;
 use tks_eval::{Ended, eval};
+use tks_input::{Input, Refused, Reply};
 use tks_parse::{Script, parse};
 use tks_state::World;
 use tks_tcl::{Stop, fits};
-use tks_text::{ErrorNumber, Limits, ScriptFault};
+use tks_text::{ErrorNumber, Limits, ScriptFault, Txt};
 use tks_vars::Vars;
 
 /// The greatest count of inputs.
 const MAX_COUNT: u64 = 1 << 62;
 
 /// What an input does to the world: it is accepted as a whole, with a reply, or refused, and then the
-/// world is as it was. The script runs in a copy until it is accepted.
+/// world is as it was. A world takes scripts so far: a turn finds nothing to do, and other inputs are bad.
 pub fn step(
     alloc: Global,
     world: &mut World,
@@ -30,7 +32,24 @@ pub fn step(
     ensures refused { IfErr result (λ why. RefusedSo why (step world.old input.now limits.now)) }
     ensures unchanged { OnErr result (world.new ≡ world.old) }
 {
-    let Input::Script(text) = input;
+    match input {
+        Input::Script(text) => step_script(alloc, world, text, limits),
+        Input::Turn => Err(Refused::Quiet),
+        _ => Err(Refused::BadInput),
+    }
+}
+
+// What a script does to the world, run in a copy of it.
+fn step_script(
+    alloc: Global,
+    world: &mut World,
+    text: &Txt,
+    limits: &Limits,
+) -> Result<Reply, Refused>
+    ensures accepted { IfOk result (λ reply. step world.old (Script text.now) limits.now ≡ Accepts world.new reply) }
+    ensures refused { IfErr result (λ why. RefusedSo why (step world.old (Script text.now) limits.now)) }
+    ensures unchanged { OnErr result (world.new ≡ world.old) }
+{
     if text.len() > limits.text as usize {
         return Err(Refused::BadInput);
     }
@@ -44,7 +63,7 @@ pub fn step(
             limits: *limits,
         },
     };
-    let ended = run_script(alloc, &mut host, &mut variables, script, limits)?;
+    let ended = run_script(alloc, &mut host, &mut variables, script, limits).map_err(refused_by)?;
     let mut next = host.setting.world;
     if next.accepted() == MAX_COUNT {
         return Err(Refused::TooLarge);

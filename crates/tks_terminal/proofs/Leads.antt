@@ -1,0 +1,41 @@
+-- Runs, in the words of steps.
+use Rattle.std.proofs.Common.{◌≡◌, List, [], ◌∷◌, ◌++◌, Result, Ok, Err, refl, sym, ◌∙◌, ap}
+use Rattle.tks_text.specs.Size.{Extent}
+use Rattle.tks_text.specs.declared.limits.Limits.{Limits}
+use Rattle.tks_disk.specs.DiskModel.{Images}
+use Rattle.tks_input.specs.declared.input.Input.{Input}
+use Rattle.tks_input.specs.declared.reply.Reply.{Reply}
+use Rattle.tks_input.specs.declared.reply.Refused.{Refused}
+use Rattle.tks_session.specs.Crash.{OpensToPrefix}
+use Rattle.tks_session.specs.Opening.{opens, run, reached, fault_of}
+use Rattle.tks_session.specs.declared.fault.SessionFault.{SessionFault}
+use Rattle.tks_session.proofs.Runs.{run_fault}
+use Rattle.tks_state.specs.World.{World}
+use Rattle.tks_world.specs.Step.{Stepped, Accepts, Refuses, step}
+use Rattle.tks_terminal.specs.Crash.{Leads, LeadsByFirst}
+use Rattle.tks_terminal.specs.Terminals.{as_machine, terminal}
+
+module _ (limits : Limits) (grid : Extent) where
+  -- what a run ends with leads there
+  pub runs_lead : (inputs : List Input) (old new : World) → run (terminal limits grid) (Ok old) inputs ≡ Ok new → Leads limits old inputs new
+  runs_lead [] old new is = by_same is
+    where
+      by_same : Ok old ≡ Ok new → old ≡ new
+      by_same e = cc
+  runs_lead (input ∷ inputs) old new is = by (step old input limits) refl is
+    where
+      by : (stepped : Stepped) → step old input limits ≡ stepped → run (terminal limits grid) (reached input (as_machine stepped)) inputs ≡ Ok new → Leads limits old (input ∷ inputs) new
+      by (Accepts mid reply) first rest = (mid, reply, first, runs_lead inputs mid new rest)
+      by (Refuses why) first rest = absurd (no_world (sym (run_fault (terminal limits grid) (fault_of input why) inputs) ∙ rest))
+        where
+          no_world : Err (fault_of input why) ≡ Ok new → ⊥
+          no_world e = absurd cc
+
+  pub by_first : (start : World) (inputs : List Input) (images : Images) (world : World)
+      → OpensToPrefix (terminal limits grid) (Ok start) inputs images → opens (terminal limits grid) images ≡ Ok world → LeadsByFirst limits start inputs world
+  by_first start inputs images world some is = record {
+    prefix = some.prefix;
+    others = some.others;
+    parts = some.parts;
+    leads = runs_lead some.prefix start world (sym some.leaves ∙ is);
+  }
