@@ -24,6 +24,7 @@ abbrev pub logging : ℕ → ℕ → Meaning (List ℕ)
 logging limit pending = record {
   step = logged limit;
   first = [];
+  first_bytes = [];
   stored = stored_text;
   within = λ text. nat_le (length text) limit;
   count = λ text. length text;

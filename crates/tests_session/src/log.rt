@@ -54,13 +54,8 @@ impl Machine for Log {
         Ok(Some(text))
     }
 
-    fn spell(&self, alloc: Global, world: &Txt) -> Result<Vec<u8>, AllocError> {
-        // Each text is one; so says the machine's own test of stored bytes, which its meaning is told by.
-        if !tks_text::is_text(world.as_bytes()) {
-            return Err(AllocError);
-        }
-        let bytes = world.as_bytes().to_vec(alloc)?;
-        Ok(bytes)
+    fn first_bytes(&self, alloc: Global) -> Result<Vec<u8>, AllocError> {
+        Ok(Vec::new(alloc))
     }
 
     fn header(

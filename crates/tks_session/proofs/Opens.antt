@@ -80,16 +80,16 @@ module _ {W : Type 0} (m : Meaning W) where
   bytes_fault start None of = tt
   bytes_fault start (Some inputs) of = run_fault start inputs of
 
-pub own_fault : {W : Type 0} (honest : Type 0) (result : Result W SessionFault) (before after : ℕ) (why : SessionFault) → OfBytes why → after ≡ before → (honest → result ≡ Err why) → OpenFails honest result before after why
-own_fault honest result before after fault.Disk of same own = absurd of
-own_fault honest result before after fault.NoMemory of same own = absurd of
-own_fault honest result before after fault.TooLarge of same own = absurd of
-own_fault honest result before after fault.Failed of same own = absurd of
-own_fault honest result before after fault.Damaged of same own = (same, own)
-own_fault honest result before after fault.OtherCommands of same own = (same, own)
-own_fault honest result before after fault.OtherGrid of same own = (same, own)
-own_fault honest result before after fault.SmallerLimits of same own = (same, own)
-own_fault honest result before after fault.Version of same own = (same, own)
+pub own_fault : {W : Type 0} (m : Meaning W) (honest : Type 0) (result : Result W SessionFault) (before after : ℕ) (why : SessionFault) → OfBytes why → after ≡ before → (honest → result ≡ Err why) → OpenFails m honest result before after why
+own_fault m honest result before after fault.Disk of same own = absurd of
+own_fault m honest result before after fault.NoMemory of same own = absurd of
+own_fault m honest result before after fault.TooLarge of same own = absurd of
+own_fault m honest result before after fault.Failed of same own = absurd of
+own_fault m honest result before after fault.Damaged of same own = (same, own)
+own_fault m honest result before after fault.OtherCommands of same own = (same, own)
+own_fault m honest result before after fault.OtherGrid of same own = (same, own)
+own_fault m honest result before after fault.SmallerLimits of same own = (same, own)
+own_fault m honest result before after fault.Version of same own = (same, own)
 
 -- what a crash leaves while a disk is opened
 module _ {W : Type 0} (m : Meaning W) (v mid new : View) (first : Unwritten v mid) where

@@ -1,10 +1,11 @@
 -- What a crash leaves of a session.
-use Rattle.std.specs.Prelude.{◌≡◌, ◌<◌, ℕ, List, [], ◌++◌, false, Result, Ok, Err}
+use Rattle.std.specs.Prelude.{◌≡◌, ◌<◌, ℕ, List, [], ◌++◌, true, false, Result, Ok, Err}
 use Rattle.tks_disk.specs.DiskModel.{View, Images}
 use Rattle.tks_input.specs.declared.input.Input.{Input}
 use Rattle.tks_session.specs.Machine.{Meaning}
 use Rattle.tks_session.specs.Opening.{opens, run}
 use Rattle.tks_session.specs.Session.{SessionState}
+use Rattle.tks_session.specs.Starting.{is_too_large}
 use Rattle.tks_session.specs.declared.fault.SessionFault.{SessionFault}
 use Rattle.tks_session.specs.declared.fault.SessionFault.TheVariants as fault
 
@@ -60,15 +61,15 @@ OfBytes fault.OtherGrid = Unit {0}
 OfBytes fault.SmallerLimits = Unit {0}
 OfBytes fault.Version = Unit {0}
 
--- Why opening fails: what the bytes open to, where the disk is honest; or the device failed; or memory was refused; or the state
--- before any input is more than a disk holds. The device's count of failures rises where it failed, and only there.
-abbrev pub OpenFails : {W : Type 0} → Type 0 → Result W SessionFault → ℕ → ℕ → SessionFault → Type 0
-OpenFails honest result before after fault.Disk = before < after
-OpenFails honest result before after fault.NoMemory = after ≡ before
-OpenFails honest result before after fault.TooLarge = after ≡ before
-OpenFails honest result before after fault.Failed = ⊥
-OpenFails honest result before after fault.Damaged = (after ≡ before) × (honest → result ≡ Err fault.Damaged)
-OpenFails honest result before after fault.OtherCommands = (after ≡ before) × (honest → result ≡ Err fault.OtherCommands)
-OpenFails honest result before after fault.OtherGrid = (after ≡ before) × (honest → result ≡ Err fault.OtherGrid)
-OpenFails honest result before after fault.SmallerLimits = (after ≡ before) × (honest → result ≡ Err fault.SmallerLimits)
-OpenFails honest result before after fault.Version = (after ≡ before) × (honest → result ≡ Err fault.Version)
+-- Why opening fails: what the bytes open to, where the disk is honest; or the device failed; or memory was refused; or a first
+-- side would be too large. The device's count of failures rises where it failed, and only there.
+abbrev pub OpenFails : {W : Type 0} → Meaning W → Type 0 → Result W SessionFault → ℕ → ℕ → SessionFault → Type 0
+OpenFails m honest result before after fault.Disk = before < after
+OpenFails m honest result before after fault.NoMemory = after ≡ before
+OpenFails m honest result before after fault.TooLarge = (after ≡ before) × (is_too_large m ≡ true)
+OpenFails m honest result before after fault.Failed = ⊥
+OpenFails m honest result before after fault.Damaged = (after ≡ before) × (honest → result ≡ Err fault.Damaged)
+OpenFails m honest result before after fault.OtherCommands = (after ≡ before) × (honest → result ≡ Err fault.OtherCommands)
+OpenFails m honest result before after fault.OtherGrid = (after ≡ before) × (honest → result ≡ Err fault.OtherGrid)
+OpenFails m honest result before after fault.SmallerLimits = (after ≡ before) × (honest → result ≡ Err fault.SmallerLimits)
+OpenFails m honest result before after fault.Version = (after ≡ before) × (honest → result ≡ Err fault.Version)

@@ -16,6 +16,8 @@ pub record Meaning (W : Type 0) : Type 0 where
   pub step : W → Input → Stepped W
   -- the state before any input
   pub first : W
+  -- the bytes that spell it
+  pub first_bytes : List ℕ
   -- the state that these bytes spell behind this header, if they spell one
   pub stored : Header → List ℕ → Option W
   -- does it keep within the limits?

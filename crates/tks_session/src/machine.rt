@@ -36,10 +36,11 @@ pub trait Machine {
     ) -> Result<Option<Self::World>, AllocError>
         ensures { IfOk result (λ found. found ≡ (meaning self.now).stored header.now bytes.now) };
 
-    /// The bytes that spell a state, behind any header of this machine.
-    fn spell(&self, alloc: Global, world: &Self::World) -> Result<Vec<u8>, AllocError>
-        ensures { IfOk result (λ bytes. (h : Header) → h.grid ≡ (meaning self.now).grid → h.names ≡ (meaning self.now).names
-            → (meaning self.now).stored h bytes.items ≡ Some world.now) };
+    /// The bytes that spell the state before any input, behind any header of this machine.
+    fn first_bytes(&self, alloc: Global) -> Result<Vec<u8>, AllocError>
+        ensures value { IfOk result (λ bytes. bytes.items ≡ (meaning self.now).first_bytes) }
+        ensures stored { IfOk result (λ bytes. (h : Header) → h.grid ≡ (meaning self.now).grid → h.names ≡ (meaning self.now).names
+            → (meaning self.now).stored h bytes.items ≡ Some (meaning self.now).first) };
 
     /// The header of a side of this generation, behind which a world of so many bytes stands. It has a spelling.
     fn header(

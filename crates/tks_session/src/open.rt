@@ -49,7 +49,7 @@ fn begin<D: Disk, M: Machine>(
         (λ s. LeavesOnly (D.view blank) (D.view s.journal.disk) (OpensSo (M.meaning machine) (begun (M.meaning machine))))
         (λ x. LeavesOnly (D.view blank) (D.view x.disk) (OpensSo (M.meaning machine) (begun (M.meaning machine)))) }
     ensures unwritten { IfErr result (λ x. x.fault ≢ DeviceFailed → x.disk ≡ blank) }
-    ensures fault { IfErr result (λ x. OpenFails (D.honest blank) (begun (M.meaning machine)) (D.failures blank) (D.failures x.disk) x.fault) }
+    ensures fault { IfErr result (λ x. OpenFails (M.meaning machine) (D.honest blank) (begun (M.meaning machine)) (D.failures blank) (D.failures x.disk) x.fault) }
     ensures machine { IfErr result (λ x. x.machine ≡ machine) }
     ensures honesty { MatchResult result (λ s. D.honest blank ↔ D.honest s.journal.disk) (λ x. D.honest blank ↔ D.honest x.disk) }
 {
@@ -82,7 +82,7 @@ fn restore<D: Disk, M: Machine>(
     ensures unwritten { D.honest stored.disk → MatchResult result
         (λ s. Unwritten (D.view stored.disk) (D.view s.journal.disk))
         (λ x. Unwritten (D.view stored.disk) (D.view x.disk)) }
-    ensures fault { IfErr result (λ x. OpenFails (D.honest stored.disk) (opens (M.meaning machine) (D.view stored.disk).reads) (D.failures stored.disk) (D.failures x.disk) x.fault) }
+    ensures fault { IfErr result (λ x. OpenFails (M.meaning machine) (D.honest stored.disk) (opens (M.meaning machine) (D.view stored.disk).reads) (D.failures stored.disk) (D.failures x.disk) x.fault) }
     ensures machine { IfErr result (λ x. x.machine ≡ machine) }
     ensures honesty { MatchResult result (λ s. D.honest stored.disk ↔ D.honest s.journal.disk) (λ x. D.honest stored.disk ↔ D.honest x.disk) }
 {
@@ -128,8 +128,9 @@ impl<D: Disk, M: Machine> Session<D, M> {
             (λ s. LeavesOnly (D.view disk) (D.view s.journal.disk) (OpensAsOneOf (M.meaning machine) (D.view disk).may_leave))
             (λ x. LeavesOnly (D.view disk) (D.view x.disk) (OpensAsOneOf (M.meaning machine) (D.view disk).may_leave)) }
 
-        // A fault is the bytes' own, or the device failed, or memory was refused. Nothing was written but where the device failed.
-        ensures fault { IfErr result (λ x. OpenFails (D.honest disk) (opens (M.meaning machine) (D.view disk).reads) (D.failures disk) (D.failures x.disk) x.fault) }
+        // A fault is the bytes' own, or the device failed, or memory was refused, or a first side would be too large. Nothing was
+        // written but where the device failed.
+        ensures fault { IfErr result (λ x. OpenFails (M.meaning machine) (D.honest disk) (opens (M.meaning machine) (D.view disk).reads) (D.failures disk) (D.failures x.disk) x.fault) }
         ensures unwritten { D.honest disk → IfErr result (λ x. x.fault ≢ DeviceFailed → Unwritten (D.view disk) (D.view x.disk)) }
         ensures machine { IfErr result (λ x. x.machine ≡ machine) }
         ensures honesty { MatchResult result (λ s. D.honest disk ↔ D.honest s.journal.disk) (λ x. D.honest disk ↔ D.honest x.disk) }
