@@ -1,7 +1,7 @@
 ghost use Rattle.std.specs.Prelude.{◌≡◌, IfOk, IfErr, OnErr};
 ghost use Rattle.tks_text.specs.declared.fault.ErrorNumber.TheVariants.{OutsideLoop};
 ghost use Rattle.tks_tcl.specs.Cause.{bare};
-ghost use Rattle.tks_input.specs.declared.input.Input.TheVariants.{Script};
+ghost use Rattle.tks_input.specs.declared.input.Input.TheVariants as inputs;
 ghost use Rattle.tks_eval.specs.Meets.{EndsSo};
 ghost use Rattle.tks_world.specs.Step.{script_ends, step, Accepts};
 ghost use Rattle.tks_world.specs.Meets.{FailsSo, RefusedSo};
@@ -46,8 +46,8 @@ fn step_script(
     text: &Txt,
     limits: &Limits,
 ) -> Result<Reply, Refused>
-    ensures accepted { IfOk result (λ reply. step world.old (Script text.now) limits.now ≡ Accepts world.new reply) }
-    ensures refused { IfErr result (λ why. RefusedSo why (step world.old (Script text.now) limits.now)) }
+    ensures accepted { IfOk result (λ reply. step world.old (inputs.Script text.now) limits.now ≡ Accepts world.new reply) }
+    ensures refused { IfErr result (λ why. RefusedSo why (step world.old (inputs.Script text.now) limits.now)) }
     ensures unchanged { OnErr result (world.new ≡ world.old) }
 {
     if text.len() > limits.text as usize {

@@ -10,5 +10,5 @@ returns c =
     let w = c.args.world.now in
     let panes = c.deref.ensures.value ∙ c.in_ok-panes.ensures in
     c.in_ok-cells.ensures
-    ∙ (λ i. rows (drawn (panes i)) (c.width.ensures i) (c.height.ensures i))
+    ∙ (λ i. rows (drawn (panes i)) (c.width.ensures.value i) (c.height.ensures i))
     ∙ (λ i. rows (λ x y. drawn_is w.variables w.kept (shown_windows w) x y i) c.args.size.width c.args.size.height)
