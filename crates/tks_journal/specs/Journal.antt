@@ -14,9 +14,12 @@ pub record JournalState (D : Type 0) : Type 0 where
   -- whether a call has failed
   pub failed : Bool
 
--- A frame has fewer than 2^32 bytes, and no side grows past 2^40 bytes.
+-- A frame behind a gate has fewer than 2^32 bytes, and no side grows past 2^40 bytes.
+abbrev pub room_at : ℕ → ℕ → Bool
+room_at gate count = nat_lt count (2 ^ 32) && nat_le (gate + 6 + count) (2 ^ 40)
+
 abbrev pub room_for : {D : Type 0} → JournalState D → ℕ → Bool
-room_for j count = nat_lt count (2 ^ 32) && nat_le (j.gate + 6 + count) (2 ^ 40)
+room_for j count = room_at j.gate count
 
 -- these bytes are read as this header, whatever stands behind them
 pub record SpelledAs (head : List ℕ) (header : Header) : Type 0 where

@@ -1,5 +1,5 @@
 -- Parts of a session's life, one behind the other.
-use Rattle.std.proofs.Common.{◌≡◌, List, [], ◌∷◌, ◌++◌, Ok, inl, refl, sym, ◌∙◌, ap, arith, subst, append_assoc, append-nil}
+use Rattle.std.proofs.Common.{◌≡◌, List, [], ◌∷◌, ◌++◌, Result, Ok, inl, refl, sym, ◌∙◌, ap, arith, subst, append_assoc, append-nil}
 use Rattle.tks_disk.specs.DiskModel.{View, Images}
 use Rattle.tks_input.specs.declared.input.Input.{Input}
 use Rattle.tks_journal.specs.Moments.{LeavesOnly}
@@ -12,9 +12,9 @@ use Rattle.tks_session.specs.Session.{SessionState}
 use Rattle.tks_session.specs.declared.fault.SessionFault.{SessionFault}
 use Rattle.tks_session.proofs.Runs.{run_on}
 
-module _ {D M W : Type 0} (m : Meaning W) (view : D → View) where
+module _ {W : Type 0} (m : Meaning W) where
   -- a prefix of inputs is one of more inputs
-  more : (start : _) (inputs others : List Input) (i : Images) → OpensToPrefix m start inputs i → OpensToPrefix m start (inputs ++ others) i
+  more : (start : Result W SessionFault) (inputs others : List Input) (i : Images) → OpensToPrefix m start inputs i → OpensToPrefix m start (inputs ++ others) i
   more start inputs others i is = record {
     prefix = is.prefix;
     others = is.others ++ others;
@@ -22,20 +22,21 @@ module _ {D M W : Type 0} (m : Meaning W) (view : D → View) where
     leaves = is.leaves;
   }
 
+module _ {D M W : Type 0} (m : Meaning W) (view : D → View) where
   pub leaves_more : (old new : SessionState D M W) (accepted others : List Input) → LeavesPrefixes m view old new accepted → LeavesPrefixes m view old new (accepted ++ others)
   leaves_more old new accepted others =
       let start = opens m (view old.journal.disk).reads in
-      weaker (view old.journal.disk) (view new.journal.disk) (OpensToPrefix m start (old.waiting ++ accepted)) (OpensToPrefix m start (old.waiting ++ accepted ++ others))
-      (λ i is. subst (λ x. OpensToPrefix m start x i) (append_assoc old.waiting accepted others) (more start (old.waiting ++ accepted) others i is))
+      weaker (view old.journal.disk) (view new.journal.disk) (OpensToPrefix m start (old.waiting ++ accepted)) (OpensToPrefix m start (old.waiting ++ (accepted ++ others)))
+      (λ i is. subst (λ x. OpensToPrefix m start x i) (append_assoc old.waiting accepted others) (more m start (old.waiting ++ accepted) others i is))
 
   module _ (old mid : SessionState D M W) (first : List Input) (life : Lives m view old mid first) where
     -- inputs behind those that were put on the disk
-    behind : (others : List Input) → old.waiting ++ first ++ others ≡ life.stored ++ mid.waiting ++ others
+    behind : (others : List Input) → old.waiting ++ (first ++ others) ≡ life.stored ++ (mid.waiting ++ others)
     behind others = sym (append_assoc old.waiting first others) ∙ ap (λ x. x ++ others) life.parts ∙ append_assoc life.stored mid.waiting others
 
     -- what a crash leaves behind them
     from_old : (others : List Input) (i : Images) → OpensToPrefix m (opens m (view mid.journal.disk).reads) (mid.waiting ++ others) i
-        → OpensToPrefix m (opens m (view old.journal.disk).reads) (old.waiting ++ first ++ others) i
+        → OpensToPrefix m (opens m (view old.journal.disk).reads) (old.waiting ++ (first ++ others)) i
     from_old others i is = record {
       prefix = life.stored ++ is.prefix;
       others = is.others;
@@ -49,7 +50,7 @@ module _ {D M W : Type 0} (m : Meaning W) (view : D → View) where
         let v = view old.journal.disk in
         let w = view mid.journal.disk in
         let x = view new.journal.disk in
-        let P : Images → Type 0 = OpensToPrefix m (opens m v.reads) (old.waiting ++ first ++ second) in
+        let P : Images → Type 0 = OpensToPrefix m (opens m v.reads) (old.waiting ++ (first ++ second)) in
         then v w x P (leaves_more old mid first second life.moments) (weaker w x (OpensToPrefix m (opens m w.reads) (mid.waiting ++ second)) P (from_old second) leaves)
 
     pub lives_then : (new : SessionState D M W) (second : List Input) → Lives m view mid new second → Lives m view old new (first ++ second)

@@ -1,12 +1,13 @@
 -- The inputs that wait, and their bytes.
-use Rattle.std.proofs.Common.{◌≡◌, ℕ, ◌+◌, List, [], ◌∷◌, ◌++◌, length, Some, refl, sym, ◌∙◌, ap, append-nil}
+use Rattle.std.proofs.Common.{◌≡◌, ◌≢◌, ℕ, ◌+◌, List, [], ◌∷◌, ◌++◌, length, Some, refl, sym, ◌∙◌, ap, append-nil}
 use Rattle.std.proofs.lemmas.Grind.{flat_map-append}
 use Rattle.std.proofs.lemmas.List.{length-append}
 use Rattle.std.specs.List.{AllByRecursion}
 use Rattle.tks_codec.specs.Input as codec
 use Rattle.tks_input.specs.declared.input.Input.{Input}
 use Rattle.tks_session.specs.Inputs.{inputs_in, spelled}
-use Rattle.tks_session.specs.Session.{IsPending, or_none}
+use Rattle.tks_journal.specs.Journal.{JournalState}
+use Rattle.tks_session.specs.Session.{IsPending, committed, gate_behind, or_none}
 use Rattle.tks_session.proofs.Reading.{read_all}
 
 -- they are read from their bytes
@@ -57,3 +58,12 @@ none_there body count p none = no_length (or_none (inputs_in body)) (how_many bo
 pub cleared : (body : List ℕ) → body ≡ [] → or_none (inputs_in body) ≡ []
 unfolding inputs_in
 cleared body e = ap (λ (l : List ℕ). or_none (inputs_in l)) e
+
+-- the journal behind a frame of these bytes
+pub committed_so : {D : Type 0} (journal : JournalState D) (disk : D) (copy body : List ℕ) (count : ℕ) → copy ≡ body → IsPending body count → count ≢ 0
+    → record journal { disk = disk; gate = journal.gate + 5 + length copy } ≡ committed journal disk (or_none (inputs_in body))
+committed_so journal disk copy body count same p some = ap (λ g. record journal { disk = disk; gate = g }) (by (or_none (inputs_in body)) (how_many body count p) (how_long body count p))
+  where
+    by : (waiting : List Input) → length waiting ≡ count → length (spelled waiting) ≡ length body → journal.gate + 5 + length copy ≡ gate_behind journal.gate waiting
+    by [] e l = absurd (some (sym e))
+    by (input ∷ inputs) e l = ap (λ n. journal.gate + 5 + n) (ap length same ∙ sym l)

@@ -1,9 +1,9 @@
 -- What contracts see of a session.
-use Rattle.std.specs.Prelude.{◌≡◌, ◌⊎◌, ◌<◌, ℕ, ◌+◌, Bool, true, not, ◌||◌, nat_le, List, [], length, Option, Some, None}
+use Rattle.std.specs.Prelude.{◌≡◌, ◌⊎◌, ◌<◌, ℕ, ◌+◌, Bool, true, not, ◌||◌, nat_le, List, [], ◌∷◌, length, Option, Some, None}
 use Rattle.std.specs.List.{AllByRecursion}
 use Rattle.tks_input.specs.declared.input.Input.{Input}
 use Rattle.tks_codec.specs.Input as codec
-use Rattle.tks_journal.specs.Journal.{JournalState, room_for}
+use Rattle.tks_journal.specs.Journal.{JournalState, room_at, room_for}
 use Rattle.tks_session.specs.Inputs.{spelled}
 use Rattle.tks_session.specs.declared.fault.SessionFault.{SessionFault}
 use Rattle.tks_session.specs.declared.fault.SessionFault.TheVariants as fault
@@ -23,9 +23,21 @@ abbrev pub or_none : Option (List Input) → List Input
 or_none None = []
 or_none (Some inputs) = inputs
 
--- As many inputs wait as may, or a frame with this one too finds no room.
+-- As many inputs wait as may, or a frame with this one too finds no room behind the gate.
+abbrev pub is_full_at : ℕ → ℕ → List Input → Input → Bool
+is_full_at pending gate waiting input = nat_le pending (length waiting) || not (room_at gate (length (spelled waiting) + length (codec.input.write input)))
+
 abbrev pub is_full : {D : Type 0} → ℕ → JournalState D → List Input → Input → Bool
-is_full pending journal waiting input = nat_le pending (length waiting) || not (room_for journal (length (spelled waiting) + length (codec.input.write input)))
+is_full pending journal waiting input = is_full_at pending journal.gate waiting input
+
+-- where the next gate stands behind a commit of these inputs
+abbrev pub gate_behind : ℕ → List Input → ℕ
+gate_behind gate [] = gate
+gate_behind gate (input ∷ inputs) = gate + 5 + length (spelled (input ∷ inputs))
+
+-- the journal behind a commit of these inputs
+abbrev pub committed : {D : Type 0} → JournalState D → D → List Input → JournalState D
+committed journal disk inputs = record journal { disk = disk; gate = gate_behind journal.gate inputs }
 
 -- these bytes are so many inputs
 pub record IsPending (body : List ℕ) (count : ℕ) : Type 0 where
@@ -38,10 +50,14 @@ pub record IsPending (body : List ℕ) (count : ℕ) : Type 0 where
 abbrev pub HasRoom : {D : Type 0} → JournalState D → ℕ → ℕ → Type 0
 HasRoom journal waiting size = (waiting ≡ 0) ⊎ (room_for journal size ≡ true)
 
+-- the journal behind a call that failed
+abbrev pub failed_with : {D : Type 0} → JournalState D → D → JournalState D
+failed_with journal disk = record journal { disk = disk; failed = true }
+
 -- An earlier call failed, and nothing has changed; or the device failed in this one, and the inputs wait still.
 abbrev pub CommitFails : {D M W : Type 0} → SessionState D M W → SessionState D M W → ℕ → ℕ → SessionFault → Type 0
 CommitFails old new before after fault.Failed = (old.journal.failed ≡ true) × (new ≡ old)
-CommitFails old new before after fault.Disk = (before < after) × (new.journal.failed ≡ true) × (new ≡ record old { journal = new.journal })
+CommitFails old new before after fault.Disk = (before < after) × (new ≡ record old { journal = failed_with old.journal new.journal.disk })
 CommitFails old new before after fault.TooLarge = ⊥
 CommitFails old new before after fault.NoMemory = ⊥
 CommitFails old new before after fault.Damaged = ⊥

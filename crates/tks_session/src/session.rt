@@ -45,7 +45,7 @@ impl<D: Disk, M: Machine> Session<D, M> {
     ghost use Rattle.tks_session.specs.Crash.{AllOpenTo, OpensToPrefix, Stands};
     ghost use Rattle.tks_session.specs.Opening.{opens};
     ghost use Rattle.tks_session.specs.Refusing.{PostRefused};
-    ghost use Rattle.tks_session.specs.Session.{CommitFails, SessionState, is_full};
+    ghost use Rattle.tks_session.specs.Session.{CommitFails, SessionState, committed, is_full};
     ghost use Rattle.tks_journal.specs.Moments.{LeavesOnly};
 
     /// A session over a journal that stands for this state.
@@ -163,7 +163,7 @@ impl<D: Disk, M: Machine> Session<D, M> {
     /// waits it makes no call of the disk.
     pub fn commit(&mut self) -> Result<u64, SessionFault>
         ensures ok { IfOk result (λ count. (self.old.journal.failed ≡ false) × (count ≡ (M.meaning self.old.machine).count self.old.world)
-            × (self.new ≡ record self.old { journal = self.new.journal; waiting = []; acknowledged = count })) }
+            × (self.new ≡ record self.old { journal = committed self.old.journal self.new.journal.disk self.old.waiting; waiting = []; acknowledged = count })) }
         ensures idle { self.old.waiting ≡ [] → self.new.journal ≡ self.old.journal }
 
         // At Ok, all that a crash may leave opens to the world.

@@ -15,18 +15,21 @@ use Rattle.tks_world.specs.Step.{Stepped, Accepts, Refuses, step}
 use Rattle.tks_terminal.specs.Crash.{Leads, LeadsByFirst}
 use Rattle.tks_terminal.specs.Terminals.{as_machine, terminal}
 
+-- the world that a run ends with, or another
+abbrev world_of : World → Result World SessionFault → World
+world_of other (Ok world) = world
+world_of other (Err fault) = other
+
 module _ (limits : Limits) (grid : Extent) where
   -- what a run ends with leads there
   pub runs_lead : (inputs : List Input) (old new : World) → run (terminal limits grid) (Ok old) inputs ≡ Ok new → Leads limits old inputs new
-  runs_lead [] old new is = by_same is
+  runs_lead [] old new is = ap (world_of old) is
+  runs_lead (input ∷ inputs) old new is = by (step old input limits) refl is (λ mid. runs_lead inputs mid new)
     where
-      by_same : Ok old ≡ Ok new → old ≡ new
-      by_same e = cc
-  runs_lead (input ∷ inputs) old new is = by (step old input limits) refl is
-    where
-      by : (stepped : Stepped) → step old input limits ≡ stepped → run (terminal limits grid) (reached input (as_machine stepped)) inputs ≡ Ok new → Leads limits old (input ∷ inputs) new
-      by (Accepts mid reply) first rest = (mid, reply, first, runs_lead inputs mid new rest)
-      by (Refuses why) first rest = absurd (no_world (sym (run_fault (terminal limits grid) (fault_of input why) inputs) ∙ rest))
+      by : (stepped : Stepped) → step old input limits ≡ stepped → run (terminal limits grid) (reached input (as_machine stepped)) inputs ≡ Ok new
+          → ((mid : World) → run (terminal limits grid) (Ok mid) inputs ≡ Ok new → Leads limits mid inputs new) → Leads limits old (input ∷ inputs) new
+      by (Accepts mid reply) first rest others = (mid, reply, first, others mid rest)
+      by (Refuses why) first rest others = absurd (no_world (sym (run_fault (terminal limits grid) (fault_of input why) inputs) ∙ rest))
         where
           no_world : Err (fault_of input why) ≡ Ok new → ⊥
           no_world e = absurd cc

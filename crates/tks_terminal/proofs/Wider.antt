@@ -32,12 +32,13 @@ module _ (limits wider : Limits) (grid : Extent) (wide : Wider limits wider) whe
 
   runs_too : (inputs : List Input) (old new : World) → run (terminal limits grid) (Ok old) inputs ≡ Ok new → run (terminal wider grid) (Ok old) inputs ≡ Ok new
   runs_too [] old new is = is
-  runs_too (input ∷ inputs) old new is = by (step old input limits) refl is
+  runs_too (input ∷ inputs) old new is = by (step old input limits) refl is (λ mid. runs_too inputs mid new)
     where
       by : (stepped : Stepped) → step old input limits ≡ stepped → run (terminal limits grid) (reached input (as_machine stepped)) inputs ≡ Ok new
+          → ((mid : World) → run (terminal limits grid) (Ok mid) inputs ≡ Ok new → run (terminal wider grid) (Ok mid) inputs ≡ Ok new)
           → run (terminal wider grid) (reached input (as_machine (step old input wider))) inputs ≡ Ok new
-      by (Accepts mid reply) first rest = rw (steps_stay limits wider wide old mid input reply first) (runs_too inputs mid new rest)
-      by (Refuses why) first rest = absurd (no_world (sym (run_fault (terminal limits grid) (fault_of input why) inputs) ∙ rest))
+      by (Accepts mid reply) first rest others = rw (steps_stay limits wider wide old mid input reply first) (others mid rest)
+      by (Refuses why) first rest others = absurd (no_world (sym (run_fault (terminal limits grid) (fault_of input why) inputs) ∙ rest))
         where
           no_world : Err (fault_of input why) ≡ Ok new → ⊥
           no_world e = absurd cc

@@ -13,7 +13,6 @@ ghost use Rattle.tks_terminal.specs.Terminals.{terminal};
 
 /// What opening gives after a crash: where inputs waited behind a world, the world that is opened is the one that the first
 /// of them lead to, each accepted whole, with all its scripts.
-#[tactic(auto, using(crate::proofs::Leads::by_first))]
 pub fn a_crash_leaves_whole_inputs()
     ensures { (limits : Limits) (grid : Extent) (start : World) (inputs : List Input) (images : Images) (world : World)
         → OpensToPrefix (terminal limits grid) (Ok start) inputs images → opens (terminal limits grid) images ≡ Ok world
@@ -21,7 +20,6 @@ pub fn a_crash_leaves_whole_inputs()
 {}
 
 /// What opens within limits opens within wider ones, to the same world.
-#[tactic(auto, using(crate::proofs::Wider::opens_too))]
 pub fn wider_limits_open()
     ensures { (limits wider : Limits) (grid : Extent) (images : Images) (world : World)
         → Wider limits wider → opens (terminal limits grid) images ≡ Ok world → opens (terminal wider grid) images ≡ Ok world }

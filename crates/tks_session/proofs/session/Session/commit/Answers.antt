@@ -1,12 +1,12 @@
-use Rattle.std.proofs.Common.{◌≡◌, false, List, [], Ok, length, inl, refl, sym, ◌∙◌, ap, subst}
+use Rattle.std.proofs.Common.{◌≡◌, ◌≢◌, false, List, [], Ok, length, inl, refl, sym, ◌∙◌, ap, subst}
 use Rattle.tks_input.specs.declared.input.Input.{Input}
 use Rattle.tks_journal.specs.Moments.{LeavesOnly}
 use Rattle.tks_session.specs.Crash.{AllOpenTo, OpensToPrefix, Stands}
 use Rattle.tks_session.specs.Inputs.{inputs_in}
 use Rattle.tks_session.specs.Opening.{opens, run}
-use Rattle.tks_session.specs.Session.{IsPending, or_none}
+use Rattle.tks_session.specs.Session.{IsPending, committed, or_none}
 use Rattle.tks_session.proofs.Crashes.{any_moment, idle_opens, written_opens, written_stands}
-use Rattle.tks_session.proofs.Pending.{cleared, how_many, none_there, none_wait, still_read}
+use Rattle.tks_session.proofs.Pending.{cleared, committed_so, how_many, none_there, none_wait, still_read}
 use Rattle.tks_session.proofs.session.Session.commit.Goals as goal
 
 pub returns-then-self-eq0-clause-ok : goal.returns-then-self-eq0-clause-ok
@@ -14,9 +14,14 @@ returns-then-self-eq0-clause-ok g c =
     let s = c.self.inside in
     let n = c.count-self-inside.result in
     let working : s.journal.failed ≡ false = sym c.has_failed.ensures ∙ c.if-has_failed.false in
+    let none = none_there s.body.items s.waiting c.self.invariant.0 c.if-self-eq0.true in
     subst (λ t. (t.journal.failed ≡ false) × (n ≡ (g.M.Machine.meaning t.machine).count t.world)
-    × (record { journal = s.journal; machine = s.machine; world = s.world; waiting = or_none (inputs_in s.body.items); acknowledged = n } ≡ record t { journal = s.journal; waiting = []; acknowledged = n })) c.self.view_is
-    (working, c.count-self-inside.ensures, ap (λ (w : List Input). record { journal = s.journal; machine = s.machine; world = s.world; waiting = w; acknowledged = n }) (none_there s.body.items s.waiting c.self.invariant.0 c.if-self-eq0.true))
+    × (record { journal = s.journal; machine = s.machine; world = s.world; waiting = or_none (inputs_in s.body.items); acknowledged = n } ≡ record t { journal = committed t.journal s.journal.disk t.waiting; waiting = []; acknowledged = n })) c.self.view_is (
+      working,
+      c.count-self-inside.ensures,
+      ap (λ (w : List Input). record { journal = s.journal; machine = s.machine; world = s.world; waiting = w; acknowledged = n }) none
+          ∙ ap (λ (w : List Input). record { journal = committed s.journal s.journal.disk w; machine = s.machine; world = s.world; waiting = []; acknowledged = n }) (sym none),
+    )
 
 pub returns-then-self-eq0-clause-acknowledged : goal.returns-then-self-eq0-clause-acknowledged
 returns-then-self-eq0-clause-acknowledged g c =
@@ -49,9 +54,15 @@ returns-in-Ok-clause-ok g c =
     let s = c.self.inside in
     let n = c.count-self-inside-in-Ok.result in
     let working : s.journal.failed ≡ false = sym c.has_failed.ensures ∙ c.if-has_failed.false in
+    let some : s.waiting ≢ 0 = c.if-self-eq0.false in
     subst (λ t. (t.journal.failed ≡ false) × (n ≡ (g.M.Machine.meaning t.machine).count t.world)
-    × (record { journal = c.append.new.self; machine = s.machine; world = s.world; waiting = or_none (inputs_in c.clear.new.self.items); acknowledged = n } ≡ record t { journal = c.append.new.self; waiting = []; acknowledged = n })) c.self.view_is
-    (working, c.count-self-inside-in-Ok.ensures, ap (λ (w : List Input). record { journal = c.append.new.self; machine = s.machine; world = s.world; waiting = w; acknowledged = n }) (cleared c.clear.new.self.items c.clear.ensures.items))
+    × (record { journal = c.append.new.self; machine = s.machine; world = s.world; waiting = or_none (inputs_in c.clear.new.self.items); acknowledged = n } ≡ record t { journal = committed t.journal c.append.new.self.disk t.waiting; waiting = []; acknowledged = n })) c.self.view_is (
+      working,
+      c.count-self-inside-in-Ok.ensures,
+      ap (λ (w : List Input). record { journal = c.append.new.self; machine = s.machine; world = s.world; waiting = w; acknowledged = n }) (cleared c.clear.new.self.items c.clear.ensures.items)
+          ∙ ap (λ j. record { journal = j; machine = s.machine; world = s.world; waiting = []; acknowledged = n })
+          (c.in-Ok.ensures.ok ∙ committed_so s.journal c.append.new.self.disk c.deref.result.now s.body.items s.waiting c.deref.ensures.value c.self.invariant.0 some),
+    )
 
 pub returns-in-Ok-clause-idle : goal.returns-in-Ok-clause-idle
 returns-in-Ok-clause-idle g c =
