@@ -5,3 +5,7 @@
 mod numbers;
 #[cfg(test)]
 mod options;
+#[cfg(test)]
+mod texts;
+#[cfg(test)]
+mod widgets;

@@ -1,13 +1,9 @@
 //! Options made again from the values that they had.
 
+use crate::texts::text;
 use std::alloc::Global;
 use tks_opt::{Anchor, OptionName, Options, class_number, class_numbered};
 use tks_text::{Class, Seq, Txt};
-
-// The text of a literal.
-fn text(alloc: Global, literal: &str) -> Option<Txt> {
-    Txt::from_bytes(alloc, literal.as_bytes()).ok()
-}
 
 // The first options of a window `.a`, with a background of its own.
 fn with_background(alloc: Global, class: Class) -> Option<Options> {
