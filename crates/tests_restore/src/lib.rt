@@ -6,6 +6,8 @@ mod numbers;
 #[cfg(test)]
 mod options;
 #[cfg(test)]
+mod packings;
+#[cfg(test)]
 mod texts;
 #[cfg(test)]
 mod widgets;
