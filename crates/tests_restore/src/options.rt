@@ -26,32 +26,56 @@ fn first_values(alloc: Global, options: &Options, count: usize) -> Option<Seq<Tx
     Some(values)
 }
 
-// Whether these values make no options of the class.
-fn is_refused(alloc: Global, class: Class, values: Seq<Txt>) -> Option<bool> {
-    Some(Options::restore(alloc, class, values).ok()?.is_none())
+// Whether options that are made of these values have the background that they had.
+fn has_background(alloc: Global, class: Class, values: Seq<Txt>) -> Option<bool> {
+    let options = Options::restore(alloc, class, values).ok()??;
+    let background = options.value(OptionName::Background)?;
+    Some(background.as_bytes() == b"red".as_slice())
 }
 
-// Whether options are made again with the background that they had, and refused where a value is missing, where there
-// is one more, and where the flag of the sixth option is no flag.
-fn is_restored(alloc: Global, class: Class) -> Option<bool> {
+// Whether these values make no options of the class.
+fn is_refused(alloc: Global, class: Class, values: Seq<Txt>) -> Option<bool> {
+    let options = Options::restore(alloc, class, values).ok()?;
+    Some(options.is_none())
+}
+
+// The values of options of the class, up to so many of them.
+fn values_of(alloc: Global, class: Class, count: usize) -> Option<Seq<Txt>> {
     let options = with_background(alloc, class)?;
-    let values = first_values(alloc, &options, 32)?;
-    let count = values.len();
-    let fewer = first_values(alloc, &options, count.saturating_sub(1))?;
-    let mut more = first_values(alloc, &options, count)?;
-    more.push(text(alloc, "")?).ok()?;
-    let mut unlawful = first_values(alloc, &options, 5)?;
-    unlawful.push(text(alloc, "yes")?).ok()?;
-    for index in 6..count {
-        let value = options.value_at(index)?;
-        unlawful.push(value.try_clone().ok()?).ok()?;
+    first_values(alloc, &options, count)
+}
+
+// Whether options are made again from all their values.
+fn all_are_taken(alloc: Global, class: Class) -> Option<bool> {
+    has_background(alloc, class, values_of(alloc, class, 32)?)
+}
+
+// Whether values are refused where the last ones are missing.
+fn fewer_are_refused(alloc: Global, class: Class) -> Option<bool> {
+    is_refused(alloc, class, values_of(alloc, class, 7)?)
+}
+
+// Whether values are refused where there is one more.
+fn more_are_refused(alloc: Global, class: Class) -> Option<bool> {
+    let mut values = values_of(alloc, class, 32)?;
+    values.push(Txt::new(alloc)).ok()?;
+    is_refused(alloc, class, values)
+}
+
+// Whether values are refused where that of the sixth option, a flag, is no flag.
+fn unlawful_are_refused(alloc: Global, class: Class) -> Option<bool> {
+    let mut values = values_of(alloc, class, 32)?;
+    if 5 < values.len() {
+        values.set(5, Txt::new(alloc));
     }
-    let again = Options::restore(alloc, class, values).ok()??;
-    let kept = again.value(OptionName::Background)?.as_bytes() == b"red".as_slice();
-    let refused = is_refused(alloc, class, fewer)?
-        && is_refused(alloc, class, more)?
-        && is_refused(alloc, class, unlawful)?;
-    Some(kept && refused)
+    is_refused(alloc, class, values)
+}
+
+// Whether options are made again from just the values that they may have.
+fn is_restored(alloc: Global, class: Class) -> Option<bool> {
+    let taken = all_are_taken(alloc, class)?;
+    let refused = fewer_are_refused(alloc, class)? && more_are_refused(alloc, class)?;
+    Some(taken && refused && unlawful_are_refused(alloc, class)?)
 }
 
 // Whether this holds of the class of a number, and no other number is that of the class.
