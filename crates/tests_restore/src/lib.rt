@@ -3,3 +3,11 @@
 
 #[cfg(test)]
 mod numbers;
+#[cfg(test)]
+mod options;
+#[cfg(test)]
+mod packings;
+#[cfg(test)]
+mod texts;
+#[cfg(test)]
+mod widgets;

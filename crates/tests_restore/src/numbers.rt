@@ -21,11 +21,12 @@ fn numbers_are_kept(alloc: Global) -> Option<bool> {
     let first = takes(alloc, &mut tree, ".a", 1)?;
     let later = takes(alloc, &mut tree, ".a.b", 7)?;
     let refused = !tree.skip_to(7) && !tree.skip_to(LAST + 1);
+    let known = tree.next() == 8;
     let next = takes(alloc, &mut tree, ".c", 8)?;
     let ended = tree.skip_to(LAST) && !tree.skip_to(9);
     let path = Txt::from_bytes(alloc, b".d").ok()?;
     let full = tree.create(&path, Class::Frame).is_err();
-    Some(first && later && refused && next && ended && full)
+    Some(first && later && refused && known && next && ended && full)
 }
 
 #[test]

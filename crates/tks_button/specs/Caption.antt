@@ -1,5 +1,5 @@
 -- A widget with a caption: what a label, a button or a checkbutton answers, asks for and shows, by its class.
-use Rattle.std.specs.Prelude.{ℕ, Bool, true, false, List, Option, Some, None, option_map}
+use Rattle.std.specs.Prelude.{ℕ, Bool, true, false, if◌then◌else◌, List, Option, Some, None, option_map}
 use Rattle.tks_text.specs.declared.class.Class.{Class}
 use Rattle.tks_text.specs.declared.class.Class.TheVariants as class
 use Rattle.tks_opt.specs.Calls as calls
@@ -16,6 +16,10 @@ has_caption class.Label = true
 has_caption class.Button = true
 has_caption class.Checkbutton = true
 has_caption c = false
+
+-- the widget that has these options, where their class has a caption
+abbrev pub restored : Options → Option Options
+restored t = if has_caption t.class then Some t else None
 
 -- ---- commands
 

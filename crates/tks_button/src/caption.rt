@@ -3,7 +3,7 @@ ghost use Rattle.tks_text.specs.Fault.{Gives};
 ghost use Rattle.tks_text.specs.declared.class.Class.TheVariants as class;
 ghost use Rattle.tks_opt.specs.Options.{first_options, configured, replaced};
 ghost use Rattle.tks_opt.specs.declared.name.OptionName.TheVariants as name;
-ghost use Rattle.tks_button.specs.Caption.{has_caption, called, variable_of, is_on, assignment, assigned, first_assigned, requested_width, requested_height, shown};
+ghost use Rattle.tks_button.specs.Caption.{has_caption, restored, called, variable_of, is_on, assignment, assigned, first_assigned, requested_width, requested_height, shown};
 ghost use Rattle.tks_button.specs.Sizes.{text_of};
 
 use crate::mark::MARK_WIDTH;
@@ -50,6 +50,17 @@ impl Caption {
     {
         let options = Options::new(alloc, class, path)?;
         Ok(Caption { alloc, options })
+    }
+
+    /// The widget that has these options, so that one is made again from what it had: none where they are those of a
+    /// class without a caption.
+    pub fn restore(alloc: Global, options: Options) -> Option<Caption>
+        ensures { result ≡ restored options }
+    {
+        match options.class() {
+            Class::Label | Class::Button | Class::Checkbutton => Some(Caption { alloc, options }),
+            _ => None,
+        }
     }
 
     /// Its options.

@@ -3,7 +3,7 @@ ghost use Rattle.tks_text.specs.Fault.{Gives};
 ghost use Rattle.tks_text.specs.declared.class.Class.TheVariants as class;
 ghost use Rattle.tks_opt.specs.Calls.{called};
 ghost use Rattle.tks_opt.specs.Options.{first_options, configured};
-ghost use Rattle.tks_button.specs.Frame.{is_frame, requested_width, requested_height, shown};
+ghost use Rattle.tks_button.specs.Frame.{is_frame, restored, requested_width, requested_height, shown};
 
 use std::alloc::{AllocError, Global};
 use std::marker::Model;
@@ -44,6 +44,17 @@ impl Frame {
     {
         let options = Options::new(alloc, Class::Root, path)?;
         Ok(Frame { alloc, options })
+    }
+
+    /// The frame that has these options, so that one is made again from what it had: none where they are those of a
+    /// class that isn't a frame's or that of `.`.
+    pub fn restore(alloc: Global, options: Options) -> Option<Frame>
+        ensures { result ≡ restored options }
+    {
+        match options.class() {
+            Class::Root | Class::Frame => Some(Frame { alloc, options }),
+            _ => None,
+        }
     }
 
     /// Its options.

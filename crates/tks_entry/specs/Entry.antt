@@ -5,6 +5,7 @@ use Rattle.tks_text.specs.Text.{same_text}
 use Rattle.tks_text.specs.Integer.{integer_of}
 use Rattle.tks_text.specs.Fault.{fault_about}
 use Rattle.tks_text.specs.declared.integer.Range.{Range}
+use Rattle.tks_text.specs.declared.class.Class.{Class}
 use Rattle.tks_text.specs.declared.class.Class.TheVariants as class
 use Rattle.tks_text.specs.declared.fault.ErrorNumber.TheVariants.{BadIndex, OutOfRange}
 use Rattle.tks_text.specs.declared.fault.ScriptFault.{ScriptFault}
@@ -23,11 +24,21 @@ pub record Entry : Type 0 where
 abbrev pub first_entry : List ℕ → Entry
 first_entry path = record { options = first_options class.Entry path; text = []; cursor = 0 }
 
+-- ---- making one again
+
+abbrev pub is_entry : Class → Bool
+is_entry class.Entry = true
+is_entry c = false
+
+-- the entry that has these; the cursor may have been put behind a text's end of now
+abbrev pub restored : Options → List ℕ → ℕ → Option Entry
+restored options text cursor = if is_entry options.class then Some (record { options = options; text = text; cursor = cursor }) else None
+
+-- ---- places
+
 -- where the cursor stands: before so many characters
 abbrev pub cursor_place : Entry → ℕ
 cursor_place e = min e.cursor (length e.text)
-
--- ---- places
 
 -- the place that is nearest to a number
 abbrev pub rounded : ℤ → ℕ → ℕ

@@ -2,7 +2,7 @@ ghost use Rattle.std.specs.Prelude.{◌≡◌, ◌+◌, ◌≤◌, ◌<◌, ◌^
 ghost use Rattle.tks_text.specs.Fault.{Gives};
 ghost use Rattle.tks_text.specs.declared.class.Class.TheVariants as class;
 ghost use Rattle.tks_opt.specs.Options.{configured};
-ghost use Rattle.tks_entry.specs.Entry.{first_entry, cursor_place, rounded, place_in, kept_place, is_editable, moved_on, moved_back, inserted, deleted, with_cursor};
+ghost use Rattle.tks_entry.specs.Entry.{first_entry, restored, cursor_place, rounded, place_in, kept_place, is_editable, moved_on, moved_back, inserted, deleted, with_cursor};
 
 use std::alloc::{AllocError, Global};
 use std::marker::Model;
@@ -84,6 +84,22 @@ impl EntryWidget {
             text: Txt::new(alloc),
             cursor: 0,
         })
+    }
+
+    /// The entry that has these options, this text, and the cursor where it was put last, so that one is made again
+    /// from what it had: none where the options aren't those of an entry.
+    pub fn restore(alloc: Global, options: Options, text: Txt, cursor: u32) -> Option<EntryWidget>
+        ensures { result ≡ restored options text cursor }
+    {
+        match options.class() {
+            Class::Entry => Some(EntryWidget {
+                alloc,
+                options,
+                text,
+                cursor,
+            }),
+            _ => None,
+        }
     }
 
     /// Its options.

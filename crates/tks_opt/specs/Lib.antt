@@ -4,3 +4,4 @@ pub mod Table
 pub mod Options
 pub mod Cells
 pub mod Calls
+pub mod Numbers

@@ -1,6 +1,6 @@
 -- The options of one window (options(n)), as a map with the names of its class.
-use Rattle.std.specs.Prelude.{◌≡◌, ℕ, Bool, true, is_some, if◌then◌else◌, List, [], ◌∷◌, map, Option, Some, None, Result, Ok, Err}
-use Rattle.std.specs.List.{AllByRecursion, list_any}
+use Rattle.std.specs.Prelude.{◌≡◌, ℕ, Bool, true, false, ◌&&◌, is_some, if◌then◌else◌, List, [], ◌∷◌, map, Option, Some, None, Result, Ok, Err}
+use Rattle.std.specs.List.{AllByRecursion, list_any, zip}
 use Rattle.tks_text.specs.Fault.{fault_about}
 use Rattle.tks_text.specs.declared.class.Class.{Class}
 use Rattle.tks_text.specs.declared.fault.ErrorNumber.TheVariants.{UnknownOption, BadValue}
@@ -49,6 +49,23 @@ or_unknown text (Some x) = Ok x
 -- `cget`: the value as it was given
 abbrev pub value_of : Options → List ℕ → Result (List ℕ) ScriptFault
 value_of t text = or_unknown text (named_value t.values (option_named text))
+
+-- the value of each option, in the table's order
+abbrev pub values_in_order : Options → List (List ℕ)
+values_in_order t = map (λ e. e.1) t.values
+
+-- Making them again.
+
+-- whether there is a value for each of these options of a class and no further one, and each is one that its option may have
+abbrev pub are_values : Class → List OptionName → List (List ℕ) → Bool
+are_values c [] [] = true
+are_values c [] (value ∷ values) = false
+are_values c (o ∷ os) [] = false
+are_values c (o ∷ os) (value ∷ values) = accepts c o value && are_values c os values
+
+-- the options of a class with these values, in the table's order, where they are such
+abbrev pub restored : Class → List (List ℕ) → Option Options
+restored c values = if are_values c (options_of c) values then Some (record { class = c; values = zip (options_of c) values }) else None
 
 -- Writing.
 

@@ -1,4 +1,5 @@
 ghost use Rattle.std.specs.Prelude.{◌≡◌};
+ghost use Rattle.tks_opt.specs.Numbers.{anchor_number, anchor_numbered};
 ghost use Rattle.tks_opt.specs.Values.{anchor_named};
 
 use tks_text::Txt;
@@ -43,6 +44,41 @@ impl Anchor {
             Some(Anchor::NorthWest)
         } else {
             None
+        }
+    }
+
+    /// The number by which bytes tell it.
+    pub fn number(self) -> u8
+        ensures { result ≡ anchor_number self }
+    {
+        match self {
+            Anchor::Center => 0,
+            Anchor::North => 1,
+            Anchor::NorthEast => 2,
+            Anchor::East => 3,
+            Anchor::SouthEast => 4,
+            Anchor::South => 5,
+            Anchor::SouthWest => 6,
+            Anchor::West => 7,
+            Anchor::NorthWest => 8,
+        }
+    }
+
+    /// The anchor of a number.
+    pub fn numbered(number: u8) -> Option<Anchor>
+        ensures { result ≡ anchor_numbered number }
+    {
+        match number {
+            0 => Some(Anchor::Center),
+            1 => Some(Anchor::North),
+            2 => Some(Anchor::NorthEast),
+            3 => Some(Anchor::East),
+            4 => Some(Anchor::SouthEast),
+            5 => Some(Anchor::South),
+            6 => Some(Anchor::SouthWest),
+            7 => Some(Anchor::West),
+            8 => Some(Anchor::NorthWest),
+            _ => None,
         }
     }
 }

@@ -1,8 +1,10 @@
-ghost use Rattle.std.specs.Prelude.{◌≡◌, IfOk, OnErr, [], true, Some, option_map, option_and_then};
+ghost use Rattle.std.specs.Prelude.{◌≡◌, IfOk, OnErr, [], true, Some, option_map, option_and_then, slice_get};
+ghost use Rattle.std.specs.List.{zip};
+ghost use Rattle.indexmap.specs.IndexMap.{insert_all};
 ghost use Rattle.tks_text.specs.Fault.{Gives};
 ghost use Rattle.tks_opt.specs.Table.{option_named, max_size};
 ghost use Rattle.tks_opt.specs.Values.{number_within, anchor_named, state_named};
-ghost use Rattle.tks_opt.specs.Options.{Legal, first_options, had, has_option, value_in, value_of, with_value, configured, replaced};
+ghost use Rattle.tks_opt.specs.Options.{Legal, first_options, had, has_option, value_in, value_of, values_in_order, with_value, configured, replaced, same_name, are_values, restored};
 
 use crate::anchor::Anchor;
 use crate::name::OptionName;
@@ -12,7 +14,7 @@ use crate::table::{MAX_SIZE, accepts, first_value, options_of};
 use indexmap::IndexMap;
 use std::alloc::{AllocError, Global};
 use std::marker::Model;
-use tks_text::{Class, ErrorNumber, Failure, Txt};
+use tks_text::{Class, ErrorNumber, Failure, Seq, Txt};
 
 /// The options of one window: each that its class has, with a value that it may have. A value is kept as it
 /// was given.
@@ -33,6 +35,44 @@ impl Model for Options {
     ghost invariant = { λ t. Legal (record { class = t.class; values = t.values.entries }) };
 }
 
+// Whether there is a value for each of these options of a class and no further one, and each is one that its option
+// may have.
+fn are_values(class: Class, names: &[OptionName], values: &[Txt]) -> bool
+    ensures { result ≡ are_values class names.now values.now }
+{
+    let mut rest = values;
+    for name in names {
+        let Some((value, behind)) = rest.split_first() else {
+            return false;
+        };
+        if !accepts(class, *name, value) {
+            return false;
+        }
+        rest = behind;
+    }
+    rest.is_empty()
+}
+
+// The options of these names, each with the value that stands in its place.
+fn with_values(
+    alloc: Global,
+    names: &[OptionName],
+    values: Seq<Txt>,
+) -> Result<IndexMap<OptionName, Txt>, AllocError>
+    ensures { IfOk result (λ m. m.entries ≡ insert_all same_name [] (zip names.now values)) }
+{
+    let mut kept = IndexMap::new(alloc);
+    let mut rest = names;
+    for value in values.into_items() {
+        let Some((name, behind)) = rest.split_first() else {
+            return Ok(kept);
+        };
+        kept.insert(*name, value)?;
+        rest = behind;
+    }
+    Ok(kept)
+}
+
 impl Options {
     /// The options that a window of a class has at first. The path is for the default of `-variable`.
     pub fn new(alloc: Global, class: Class, path: &Txt) -> Result<Options, AllocError>
@@ -48,6 +88,27 @@ impl Options {
             class,
             values,
         })
+    }
+
+    /// The options of a class that have these values, in the order in which the class's options are kept: so they
+    /// are made again from the values that they had. None where there are more values than options or fewer, or one
+    /// is a value that its option may not have.
+    pub fn restore(
+        alloc: Global,
+        class: Class,
+        values: Seq<Txt>,
+    ) -> Result<Option<Options>, AllocError>
+        ensures { IfOk result (λ t. t ≡ restored class values) }
+    {
+        if !are_values(class, options_of(class), values.as_slice()) {
+            return Ok(None);
+        }
+        let values = with_values(alloc, options_of(class), values)?;
+        Ok(Some(Options {
+            alloc,
+            class,
+            values,
+        }))
     }
 
     /// The class of the window.
@@ -73,6 +134,16 @@ impl Options {
         match self.values.get(&name) {
             Some(value) => value,
             None => unreachable!(),
+        }
+    }
+
+    /// The value that stands behind so many others, in the order in which the class's options are kept.
+    pub fn value_at(&self, index: usize) -> Option<&Txt>
+        ensures { option_map (λ v. v.now) result ≡ slice_get (values_in_order self.now) index }
+    {
+        match self.values.get_index(index) {
+            Some((_name, value)) => Some(value),
+            None => None,
         }
     }
 

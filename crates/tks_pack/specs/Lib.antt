@@ -7,3 +7,4 @@ pub mod Notes
 pub mod Shares
 pub mod Laws
 pub mod Meets
+pub mod Numbers

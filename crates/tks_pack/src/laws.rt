@@ -1,9 +1,12 @@
-ghost use Rattle.std.specs.Prelude.{List, ◌∷◌, ◌≡◌, ◌≤◌, ◌↔◌, ℕ, true};
+ghost use Rattle.std.specs.Prelude.{List, ◌∷◌, ◌≡◌, ◌≤◌, ◌↔◌, ℕ, Some, true};
 ghost use Rattle.std.specs.List.{AllByRecursion};
 ghost use Rattle.tks_pack.specs.declared.area.Extent.{Extent};
 ghost use Rattle.tks_pack.specs.declared.packing.Content.{Content};
+ghost use Rattle.tks_pack.specs.declared.settings.Fill.{Fill};
+ghost use Rattle.tks_pack.specs.declared.settings.Side.{Side};
 ghost use Rattle.tks_pack.specs.declared.stretch.Stretch.{Stretch};
 ghost use Rattle.tks_pack.specs.Laws.{LiesInside, InOrder};
+ghost use Rattle.tks_pack.specs.Numbers.{side_number, side_numbered, fill_number, fill_numbered};
 ghost use Rattle.tks_pack.specs.Packer.{share};
 ghost use Rattle.tks_pack.specs.Packing.{places};
 ghost use Rattle.tks_pack.specs.Requests.{request_with};
@@ -24,4 +27,16 @@ pub fn windows_stand_in_order()
 /// get alike, so that each content still gets what it asks for; where not even a cell fits, it is nothing.
 pub fn share_is_the_most_that_fits()
     ensures { (r x : ℕ) (s : Stretch) (rest : List Stretch) → takes_share s ≡ true → 1 ≤ x → (x ≤ share r s rest) ↔ (request_with x (s ∷ rest) ≤ r) }
+{}
+
+/// Each side has a number of its own, and is the one of that number.
+pub fn sides_have_numbers()
+    ensures kept { (s : Side) → side_numbered (side_number s) ≡ Some s }
+    ensures made { (n : ℕ) (s : Side) → side_numbered n ≡ Some s → side_number s ≡ n }
+{}
+
+/// Each way of filling has a number of its own, and is the one of that number.
+pub fn fills_have_numbers()
+    ensures kept { (f : Fill) → fill_numbered (fill_number f) ≡ Some f }
+    ensures made { (n : ℕ) (f : Fill) → fill_numbered n ≡ Some f → fill_number f ≡ n }
 {}

@@ -13,7 +13,10 @@ mod share;
 mod stretch;
 
 pub use area::{Area, Extent};
-pub use laws::{share_is_the_most_that_fits, windows_lie_inside, windows_stand_in_order};
+pub use laws::{
+    fills_have_numbers, share_is_the_most_that_fits, sides_have_numbers, windows_lie_inside,
+    windows_stand_in_order,
+};
 pub use options::with_options;
 pub use packing::{Content, Packing, Requests};
 pub use settings::{Fill, Settings, Side};

@@ -157,6 +157,17 @@ impl Packing {
         }
     }
 
+    /// The packing with these contents, in order, so that one is made again from what it had.
+    pub fn restore(alloc: Global, contents: Vec<Content>, propagates: bool) -> Packing
+        ensures { result ≡ record { contents = contents.items; propagates = propagates } }
+    {
+        Packing {
+            alloc,
+            contents,
+            propagates,
+        }
+    }
+
     /// The packed windows in order, with their settings.
     pub fn contents(&self) -> &[Content]
         ensures { result.now ≡ self.now.contents }

@@ -1,4 +1,5 @@
 ghost use Rattle.std.specs.Prelude.{◌≡◌};
+ghost use Rattle.tks_pack.specs.Numbers.{side_number, side_numbered, fill_number, fill_numbered};
 
 use tks_opt::Anchor;
 
@@ -36,6 +37,60 @@ pub struct Settings {
     pub ipadx: u16,
     /// Added to the window's requested size above and below each.
     pub ipady: u16,
+}
+
+impl Side {
+    /// The number by which bytes tell it.
+    pub fn number(self) -> u8
+        ensures { result ≡ side_number self }
+    {
+        match self {
+            Side::Top => 0,
+            Side::Bottom => 1,
+            Side::Left => 2,
+            Side::Right => 3,
+        }
+    }
+
+    /// The side of a number.
+    pub fn numbered(number: u8) -> Option<Side>
+        ensures { result ≡ side_numbered number }
+    {
+        match number {
+            0 => Some(Side::Top),
+            1 => Some(Side::Bottom),
+            2 => Some(Side::Left),
+            3 => Some(Side::Right),
+            _ => None,
+        }
+    }
+}
+
+impl Fill {
+    /// The number by which bytes tell it.
+    pub fn number(self) -> u8
+        ensures { result ≡ fill_number self }
+    {
+        match self {
+            Fill::Neither => 0,
+            Fill::X => 1,
+            Fill::Y => 2,
+            Fill::Both => 3,
+        }
+    }
+
+    /// The way of filling of a number.
+    pub fn numbered(number: u8) -> Option<Fill>
+        ensures { result ≡ fill_numbered number }
+    {
+        match number {
+            0 => Some(Fill::Neither),
+            1 => Some(Fill::X),
+            2 => Some(Fill::Y),
+            3 => Some(Fill::Both),
+            _ => None,
+        }
+    }
 }
 
 impl Settings {

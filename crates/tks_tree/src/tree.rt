@@ -165,6 +165,13 @@ impl Tree {
         Ok(id)
     }
 
+    /// The number that the next window gets, if there is one left.
+    pub fn next(&self) -> u64
+        ensures { result ≡ self.now.next }
+    {
+        self.next
+    }
+
     /// Makes a number the next one to be given out, and says whether it may be: it isn't below the present next
     /// one, nor above 2^62. Else nothing is done. So a tree is made again with the numbers that its windows had.
     pub fn skip_to(&mut self, number: u64) -> bool
