@@ -6,8 +6,4 @@ set here [file dirname [info script]]
 foreach part {sessions lists substitution operators expressions variables commands evaluation} {
     if {[file exists $here/$part.tcl]} { source $here/$part.tcl }
 }
-foreach {side text} [list in $rows::input out $rows::output] {
-    set file [open [lindex $argv 0].$side w]
-    puts -nonewline $file $text
-    close $file
-}
+rows::write [lindex $argv 0]

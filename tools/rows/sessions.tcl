@@ -165,3 +165,14 @@ proc rows::given {script} {
 proc pick {list} {
     lindex $list [expr {int(rand() * [llength $list])}]
 }
+
+# Writes the sessions into BASE.in, and what the program has to answer into BASE.out.
+proc rows::write {base} {
+    variable input
+    variable output
+    foreach {side text} [::list in $input out $output] {
+        set file [open $base.$side w]
+        puts -nonewline $file $text
+        close $file
+    }
+}

@@ -1,6 +1,7 @@
-# Text widgets, each with two commands and so many more, drawn at random by a seed: `xvfb-run -a wish text.tcl 200 12 4`.
-# Behind a command's answer (an error is `!`) stands the text, then the marks in the order in which they were made, each with
-# its index and its gravity, then the tags, each with its ranges.
+# Text widgets, each with two commands and so many more, drawn at random by a seed: `xvfb-run -a wish text.tcl BASE 100 12 4`
+# writes BASE.in and BASE.out.
+# Each line answers a list: what the command answers (an error is `!`), the text, the marks in the order in which they were
+# made, each with its index and its gravity, and the tags, each with its ranges.
 #
 # What only this project rules is asked of wish in other words: the last newline is neither deleted nor tagged, so a place
 # behind it is `end -1c` there; marks stand before it; a line below the first is the first one, with the column kept; white
@@ -8,18 +9,11 @@
 # their words in a disabled text too; a gravity that isn't one is an error about the words; `tag add` makes its tag on an empty range too, and
 # `tag remove` makes none. Abbreviated keywords, counts in
 # octal or hex digits, and a sign or a blank within `L.C` are not drawn.
-lassign $argv texts commands seed
+source [file join [file dirname [info script]] sessions.tcl]
+lassign $argv base texts commands seed
 expr {srand($seed)}
 proc one {choices} { lindex $choices [expr {int(rand() * [llength $choices])}] }
 proc below {n} { expr {int(rand() * $n)} }
-
-# A word as an element of a list in backslash form.
-proc written {word} {
-    if {$word eq ""} { return "{}" }
-    set text [string map {\\ \\\\ \" \\\" \$ \\$ ; \\; \[ \\\[ \] \\\] \{ \\\{ \} \\\} " " "\\ " \n \\n \t \\t} $word]
-    return [regsub {^#} $text {\#}]
-}
-proc shown {text} { string map {\n \\n \t \\t} $text }
 
 set names {a b {c d} a-b x}
 set tags {u v w}
@@ -145,29 +139,44 @@ proc answer {words} {
     }
     return [.t {*}$words]
 }
+# The answer as a list, where it is one.
+proc told {words answer} {
+    set name [lindex $words 0]
+    if {$name in {mark tag}} { append name " [lindex $words 1]" }
+    if {$name in {{mark names} {tag names} {tag ranges}}} { return [rows::joined $answer] }
+    return $answer
+}
 proc state {made} {
     set marks {}
-    foreach name $made { lappend marks "$name [.t index $name] [.t mark gravity $name]" }
+    foreach name $made { lappend marks [rows::joined [list $name [.t index $name] [.t mark gravity $name]]] }
     set tags {}
-    foreach name [lsearch -inline -all -not -exact [.t tag names] sel] { lappend tags "$name [.t tag ranges $name]" }
-    return "[.t get 1.0 end]|[join $marks ,]|[join $tags ,]"
+    foreach name [lsearch -inline -all -not -exact [.t tag names] sel] { lappend tags [rows::joined [list $name {*}[.t tag ranges $name]]] }
+    return [list [.t get 1.0 end] [rows::joined $marks] [rows::joined $tags]]
 }
+
+# ---- rows
+
+session "Texts: answers, characters, marks and tags, by tools/rows/text.tcl with wish 8.6.13, which says where there is an error" 1 1
+row {proc new {} {destroy .t; text .t}} ok
+row {proc marks {} {set l {}; foreach m [.t mark names] {lappend l [list $m [.t index $m] [.t mark gravity $m]]}; set l}} ok
+row {proc tags {} {set l {}; foreach g [.t tag names] {lappend l [list $g {*}[.t tag ranges $g]]}; set l}} ok
+row {proc does args {if {[catch {.t {*}$args} r]} {set r !}; list $r [.t get 1.0 end] [marks] [tags]}} ok
 for {set k 0} {$k < $texts} {incr k} {
     text .t
+    row new ok .t
     set made insert
-    set session [list {insert 1.0 "abc\ndefg\n\nhi"} {tag add u 1.1 2.2}]
-    for {set row 0} {$row < $commands} {incr row} { lappend session [command] }
-    puts "< new text"
-    foreach words $session {
+    set drawn [list {insert 1.0 "abc\ndefg\n\nhi"} {tag add u 1.1 2.2}]
+    for {set row 0} {$row < $commands} {incr row} { lappend drawn [command] }
+    foreach words $drawn {
         set skip 0
         foreach index [indices $words] { if {[above $index]} { set skip 1 } }
         if {$skip} continue
-        if {[catch {answer $words} answer]} { set answer ! }
+        if {[catch {told $words [answer $words]} answer]} { set answer ! }
         if {[lrange $words 0 1] eq "mark set" && $answer ne "!" && [lindex $words 2] ni $made} { lappend made [lindex $words 2] }
         set made [lmap name $made { if {$name ni [.t mark names]} continue; set name }]
-        puts "< .f.w [join [lmap word $words { written $word }]]"
-        puts "> [shown "$answer|[state $made]"]"
+        row "does [join [lmap word $words { rows::word $word }]]" ok [rows::joined [list $answer {*}[state $made]]]
     }
     destroy .t
 }
+rows::write $base
 exit

@@ -1,11 +1,23 @@
-//! The program: it serves the standard streams, over a session of a grid of the size that its words give.
+//! The program: it serves the standard streams, over the session in the store that its words name.
 #![tactic(auto)]
 
-use std::io::{BufReader, BufWriter};
+ghost use Rattle.std.specs.Prelude.{◌≡◌, ℕ, List, IfOk};
+ghost use Rattle.tks_app.specs.declared.answer.AppAnswer.{AppAnswer};
+ghost use Rattle.tks_desk.specs.Own.{next_of, swap_of};
+
+use std::alloc::{AllocError, Global};
+use std::fs::File;
+use std::io::{BufReader, BufWriter, Write};
 use std::process::ExitCode;
-use tks_desk::{Plain, RunFault, grid_size, put_last, run};
-use tks_text::Size;
-use tks_world::World;
+use tks_app::{AppAnswer, AppBody, AppClosure};
+use tks_desk::{
+    CommandLine, Own, RunFault, command_line, next_number, own_apps, put_fault, run, status_of,
+    swap_word,
+};
+use tks_disk::{FileDisk, FileDiskFault};
+use tks_session::{Session, SessionFault};
+use tks_terminal::Terminal;
+use tks_text::{Limits, Txt};
 
 /// The status where reading or writing a standard stream failed.
 const BAD_STREAM: u8 = 3;
@@ -14,14 +26,38 @@ const BAD_STREAM: u8 = 3;
 const NO_MEMORY: u8 = 5;
 
 fn main(rt: HostRuntime) -> ExitCode {
-    match grid_size(&rt, rt.alloc()) {
-        Ok(size) => serve(rt, size),
-        Err(status) => status,
+    let alloc = rt.alloc();
+    let words = match command_line(&rt, alloc) {
+        Ok(words) => words,
+        Err(status) => return status,
+    };
+    let next = Box::new(
+        alloc,
+        move |memory: &Txt, words: &[Txt]| -> Result<AppAnswer, AllocError>
+            ensures { IfOk result (λ a. a ≡ next_of memory.now words.now) }
+        { next_number(alloc, memory, words) },
+    );
+    let swap = Box::new(
+        alloc,
+        move |memory: &Txt, words: &[Txt]| -> Result<AppAnswer, AllocError>
+            ensures { IfOk result (λ a. a ≡ swap_of memory.now words.now) }
+        { swap_word(alloc, memory, words) },
+    );
+    match (next, swap) {
+        (Ok(next), Ok(swap)) => {
+            let next: AppClosure = next;
+            let swap: AppClosure = swap;
+            serve(rt, &words, next, swap)
+        }
+        _ => ExitCode::from(NO_MEMORY),
     }
 }
 
-// Serves the standard streams, over a session of a grid of this size.
-fn serve(rt: HostRuntime, size: Size) -> ExitCode {
+// Serves the standard streams, over the session in this store, with commands of these closures.
+fn serve<B: AppBody>(rt: HostRuntime, words: &CommandLine, next: B, swap: B) -> ExitCode
+    requires next { B.callable next × ((memory : List ℕ) (words : List (List ℕ)) (a : AppAnswer) → B.may_answer next memory words a → a ≡ next_of memory words) }
+    requires swap { B.callable swap × ((memory : List ℕ) (words : List (List ℕ)) (a : AppAnswer) → B.may_answer swap memory words a → a ≡ swap_of memory words) }
+{
     let alloc = rt.alloc();
     let Ok(mut reader) = BufReader::new(alloc, rt.stdin()) else {
         return ExitCode::from(NO_MEMORY);
@@ -29,16 +65,50 @@ fn serve(rt: HostRuntime, size: Size) -> ExitCode {
     let Ok(mut writer) = BufWriter::new(alloc, rt.stdout()) else {
         return ExitCode::from(NO_MEMORY);
     };
-    let Ok(world) = World::first(alloc, size) else {
-        return ExitCode::from(NO_MEMORY);
+    let mut session = match opened(&rt, alloc, words, next, swap) {
+        Ok(session) => session,
+        Err(fault) => return ended_by(&mut writer, &fault),
     };
-    let mut session = Plain::new(alloc, world);
     match run(alloc, &mut reader, &mut writer, &mut session) {
         Ok(_) => ExitCode::SUCCESS,
         Err(RunFault::Read | RunFault::Write) => ExitCode::from(BAD_STREAM),
-        Err(RunFault::Memory) => {
-            let _ = put_last(&mut writer, b"fault memory\n");
-            ExitCode::from(NO_MEMORY)
-        }
+        Err(RunFault::Memory) => ended_by(&mut writer, &SessionFault::NoMemory),
+        Err(RunFault::Session(fault)) => ended_by(&mut writer, &fault),
     }
+}
+
+// Opens the session in the store, within the limits of format 1.
+fn opened<B: AppBody>(
+    rt: &HostRuntime,
+    alloc: Global,
+    words: &CommandLine,
+    next: B,
+    swap: B,
+) -> Result<Session<FileDisk<File>, Terminal<Own, B>>, SessionFault>
+    requires next { B.callable next × ((memory : List ℕ) (words : List (List ℕ)) (a : AppAnswer) → B.may_answer next memory words a → a ≡ next_of memory words) }
+    requires swap { B.callable swap × ((memory : List ℕ) (words : List (List ℕ)) (a : AppAnswer) → B.may_answer swap memory words a → a ≡ swap_of memory words) }
+{
+    let disk = match FileDisk::open(rt, alloc, words.store.as_str()) {
+        Ok(disk) => disk,
+        Err(FileDiskFault::NoMemory) => return Err(SessionFault::NoMemory),
+        Err(FileDiskFault::Device) => return Err(SessionFault::Disk),
+    };
+    let Ok(apps) = own_apps(alloc, next, swap) else {
+        return Err(SessionFault::NoMemory);
+    };
+    let terminal = Terminal {
+        limits: Limits::format1(),
+        grid: words.grid,
+        apps,
+    };
+    match Session::open(alloc, disk, terminal) {
+        Ok(session) => Ok(session),
+        Err(refused) => Err(refused.fault),
+    }
+}
+
+// Writes a fault as the last line, and answers its status.
+fn ended_by<W: Write>(writer: &mut W, fault: &SessionFault) -> ExitCode {
+    let _ = put_fault(writer, fault);
+    ExitCode::from(status_of(fault))
 }

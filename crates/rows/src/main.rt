@@ -5,15 +5,25 @@
 //! the first session is passed over.
 #![tactic(auto)]
 
-use std::alloc::Global;
+ghost use Rattle.std.specs.Prelude.{◌≡◌, ℕ, List, IfOk};
+ghost use Rattle.tks_app.specs.declared.answer.AppAnswer.{AppAnswer};
+ghost use Rattle.tks_desk.specs.Own.{next_of, swap_of};
+
+use std::alloc::{AllocError, Global};
 use std::io::{Read, Write};
 use std::process::ExitCode;
-use tks_desk::{Plain, run};
-use tks_text::Size;
-use tks_world::World;
+use tks_app::{AppAnswer, AppBody, AppClosure};
+use tks_desk::{next_number, own_apps, run, swap_word};
+use tks_disk::MemoryDisk;
+use tks_session::Session;
+use tks_terminal::Terminal;
+use tks_text::{Limits, Size, Txt};
 
 /// What begins a session, behind a newline.
 const HEADING: &str = "\n== ";
+
+/// How many inputs may wait for a commit: more than any session has.
+const PENDING: u32 = 10_000;
 
 fn main(rt: HostRuntime) -> ExitCode {
     let alloc = rt.alloc();
@@ -26,7 +36,27 @@ fn main(rt: HostRuntime) -> ExitCode {
     };
     let mut answers = Vec::new(alloc);
     for session in sessions.as_str().split(HEADING).skip(1) {
-        if answer(alloc, session, &mut answers).is_none() {
+        let next = Box::new(
+            alloc,
+            move |memory: &Txt, words: &[Txt]| -> Result<AppAnswer, AllocError>
+                ensures { IfOk result (λ a. a ≡ next_of memory.now words.now) }
+            { next_number(alloc, memory, words) },
+        );
+        let swap = Box::new(
+            alloc,
+            move |memory: &Txt, words: &[Txt]| -> Result<AppAnswer, AllocError>
+                ensures { IfOk result (λ a. a ≡ swap_of memory.now words.now) }
+            { swap_word(alloc, memory, words) },
+        );
+        let answered = match (next, swap) {
+            (Ok(next), Ok(swap)) => {
+                let next: AppClosure = next;
+                let swap: AppClosure = swap;
+                answer(alloc, session, next, swap, &mut answers).is_some()
+            }
+            _ => false,
+        };
+        if !answered {
             return ExitCode::FAILURE;
         }
     }
@@ -37,14 +67,31 @@ fn main(rt: HostRuntime) -> ExitCode {
 }
 
 // Adds the heading of a session and what its lines answer.
-fn answer(alloc: Global, session: &str, answers: &mut Vec<u8>) -> Option<()> {
+fn answer<B: AppBody>(
+    alloc: Global,
+    session: &str,
+    next: B,
+    swap: B,
+    answers: &mut Vec<u8>,
+) -> Option<()>
+    requires next { B.callable next × ((memory : List ℕ) (words : List (List ℕ)) (a : AppAnswer) → B.may_answer next memory words a → a ≡ next_of memory words) }
+    requires swap { B.callable swap × ((memory : List ℕ) (words : List (List ℕ)) (a : AppAnswer) → B.may_answer swap memory words a → a ≡ swap_of memory words) }
+{
     let (heading, lines) = session.split_once('\n').unwrap_or((session, ""));
     answers.extend_from_slice(b"== ").ok()?;
     answers.extend_from_slice(heading.as_bytes()).ok()?;
     answers.push(b'\n').ok()?;
-    let world = World::first(alloc, grid_of(heading)?).ok()?;
+    let terminal = Terminal {
+        limits: Limits {
+            pending: PENDING,
+            ..Limits::format1()
+        },
+        grid: grid_of(heading)?,
+        apps: own_apps(alloc, next, swap).ok()?,
+    };
+    let mut session = Session::open(alloc, MemoryDisk::new(alloc), terminal).ok()?;
     let mut lines = lines.as_bytes();
-    run(alloc, &mut lines, answers, &mut Plain::new(alloc, world)).ok()?;
+    run(alloc, &mut lines, answers, &mut session).ok()?;
     Some(())
 }
 

@@ -2,6 +2,10 @@
 #![tactic(auto)]
 
 #[cfg(test)]
+mod lines;
+#[cfg(test)]
+mod listboxes;
+#[cfg(test)]
 mod numbers;
 #[cfg(test)]
 mod options;

@@ -1,5 +1,5 @@
 -- A machine whose state is a text, to which scripts are added, as long as it stays within a limit.
-use Rattle.std.specs.Prelude.{ℕ, ◌+◌, nat_le, Bool, List, [], ◌++◌, length, if◌then◌else◌, Option, Some, None}
+use Rattle.std.specs.Prelude.{ℕ, ◌+◌, nat_le, Bool, List, [], ◌∷◌, ◌++◌, codes, length, if◌then◌else◌, Option, Some, None}
 use Rattle.tks_text.specs.Text.{is_text}
 use Rattle.tks_codec.specs.declared.header.Header.{Header}
 use Rattle.tks_input.specs.declared.input.Input.{Input}
@@ -7,10 +7,18 @@ use Rattle.tks_input.specs.declared.input.Input.TheVariants.{Script, KeyPress, K
 use Rattle.tks_input.specs.declared.reply.Refused.TheVariants.{BadInput, Quiet, TooLarge}
 use Rattle.tks_session.specs.Machine.{Meaning, Stepped, accepts, refuses}
 
--- a script is added where the text stays within the limit
+-- more is added where the text stays within the limit
+abbrev pub longer : ℕ → List ℕ → List ℕ → Stepped (List ℕ)
+longer limit text more = if nat_le (length text + length more) limit then accepts (text ++ more) (record { number = length text + length more; code = 0; text = [] }) else refuses TooLarge
+
+-- a turn adds a `t`, unless the text is empty
+abbrev pub turned : ℕ → List ℕ → Stepped (List ℕ)
+turned limit [] = refuses Quiet
+turned limit (c ∷ text) = longer limit (c ∷ text) (codes "t")
+
 abbrev pub logged : ℕ → List ℕ → Input → Stepped (List ℕ)
-logged limit text (Script more) = if nat_le (length text + length more) limit then accepts (text ++ more) (record { number = length text + length more; code = 0; text = [] }) else refuses TooLarge
-logged limit text Turn = refuses Quiet
+logged limit text (Script more) = longer limit text more
+logged limit text Turn = turned limit text
 logged limit text (KeyPress key) = refuses BadInput
 logged limit text (KeyRelease key) = refuses BadInput
 logged limit text (Press button x y) = refuses BadInput

@@ -1,5 +1,7 @@
-ghost use Rattle.std.specs.Prelude.{◌≡◌};
-ghost use Rattle.tests_session.specs.Logging.{logging};
+ghost use Rattle.std.specs.Prelude.{◌≡◌, IfOk, IfErr, OnErr};
+ghost use Rattle.tks_session.specs.Machine.{accepts};
+ghost use Rattle.tks_session.specs.Refusing.{RefusedAs};
+ghost use Rattle.tests_session.specs.Logging.{logging, longer};
 
 use std::alloc::{AllocError, Global};
 use tks_codec::Header;
@@ -7,7 +9,24 @@ use tks_input::{Input, Refused, Reply};
 use tks_session::Machine;
 use tks_text::{Seq, Size, Txt};
 
-/// A machine whose state is a text of at most `limit` bytes, to which scripts are added.
+// Adds more to a text, as long as it stays within the limit.
+fn lengthen(alloc: Global, limit: usize, text: &mut Txt, more: &Txt) -> Result<Reply, Refused>
+    ensures accepted { IfOk result (λ reply. longer limit text.old more.now ≡ accepts text.new reply) }
+    ensures refused { IfErr result (λ why. RefusedAs why (longer limit text.old more.now)) }
+    ensures unchanged { OnErr result (text.new ≡ text.old) }
+{
+    if more.len() > limit || text.len() > limit - more.len() {
+        return Err(Refused::TooLarge);
+    }
+    text.append(more)?;
+    Ok(Reply {
+        number: text.len() as u64,
+        code: 0,
+        text: Txt::new(alloc),
+    })
+}
+
+/// A machine whose state is a text of at most `limit` bytes, to which scripts are added; a turn adds a `t`, unless it is empty.
 #[derive(Clone, Copy, Drop)]
 pub struct Log {
     pub limit: usize,
@@ -21,18 +40,12 @@ impl Machine for Log {
 
     fn step(&self, alloc: Global, world: &mut Txt, input: &Input) -> Result<Reply, Refused> {
         match input {
-            Input::Script(more) => {
-                if more.len() > self.limit || world.len() > self.limit - more.len() {
-                    return Err(Refused::TooLarge);
-                }
-                world.append(more)?;
-                Ok(Reply {
-                    number: world.len() as u64,
-                    code: 0,
-                    text: Txt::new(alloc),
-                })
+            Input::Script(more) => lengthen(alloc, self.limit, world, more),
+            Input::Turn if world.is_empty() => Err(Refused::Quiet),
+            Input::Turn => {
+                let more = Txt::from_text(alloc, b"t")?;
+                lengthen(alloc, self.limit, world, &more)
             }
-            Input::Turn => Err(Refused::Quiet),
             _ => Err(Refused::BadInput),
         }
     }
@@ -90,8 +103,8 @@ impl Machine for Log {
         grid
     }
 
-    fn names(&self) -> &[Txt] {
-        &[]
+    fn has_names(&self, names: &[Txt]) -> bool {
+        names.is_empty()
     }
 
     fn pending(&self) -> usize {

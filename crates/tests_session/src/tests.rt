@@ -1,8 +1,8 @@
 use crate::log::Log;
 use std::alloc::Global;
 use tks_disk::{Disk, Fuse, Left, MemoryDisk, Side};
-use tks_input::{Input, Refused};
-use tks_session::{Session, SessionFault};
+use tks_input::{Input, Refused, Reply};
+use tks_session::{Drained, Session, SessionFault};
 use tks_text::Txt;
 
 fn script(alloc: Global, bytes: &[u8]) -> Option<Input> {
@@ -210,11 +210,13 @@ fn faults_come_in_their_order(rt: HostRuntime) {
         side_fails(alloc, 27, over, SessionFault::SmallerLimits),
         "an input over the limit"
     );
-    let turn = b"\x01\0\0\0\x01\x07\0";
+    let clock = b"\x01\0\0\0\x09\x06\0\0\0\0\0\0\0\0\0";
     assert!(rt;
-        side_fails(alloc, 27, turn, SessionFault::Damaged),
+        side_fails(alloc, 27, clock, SessionFault::Damaged),
         "an input that was never accepted"
     );
+    let turn = b"\x01\0\0\0\x01\x07\0";
+    assert!(rt; side_opens(alloc, 27, turn, b"at"), "a turn");
     let both = b"\x01\0\0\0\x0b\x01\0\0\0\x06bcdefg\x01\0\0\0\x01\x09\0";
     assert!(rt;
         side_fails(alloc, 27, both, SessionFault::Damaged),
@@ -256,4 +258,67 @@ fn refusals(alloc: Global) -> Option<bool> {
 fn refused_inputs_change_nothing(rt: HostRuntime) {
     let alloc = rt.alloc();
     assert!(rt; refusals(alloc) == Some(true));
+}
+
+// Drains so many turns, and what was told of them: the sum of the replies' numbers.
+fn drains(session: &mut Session<MemoryDisk, Log>, turns: u64) -> (Drained, u64) {
+    let mut sum: u64 = 0;
+    let mut tell = |reply: &Reply| sum = sum.saturating_add(reply.number);
+    let drained = session.drain(turns, &mut tell);
+    (drained, sum)
+}
+
+fn ended(turns: u64, ended: Option<Refused>, sum: u64) -> (Drained, u64) {
+    (Drained { turns, ended }, sum)
+}
+
+fn drained(alloc: Global) -> Option<bool> {
+    let log = Log {
+        limit: 6,
+        pending: 10,
+    };
+    let Ok(mut session) = Session::open(alloc, MemoryDisk::new(alloc), log) else {
+        return None;
+    };
+    let session = &mut session;
+    let quiet = drains(session, 9) == ended(0, Some(Refused::Quiet), 0);
+    let none = drains(session, 0) == ended(0, None, 0);
+    let letter = posts(alloc, session, b"a")? == Ok(1);
+    let two = drains(session, 2) == ended(2, None, 5);
+    let large = drains(session, 9) == ended(3, Some(Refused::TooLarge), 15);
+    let text = session.world().as_bytes() == b"attttt".as_slice();
+    Some(quiet && none && letter && two && large && text && session.commit() == Ok(6))
+}
+
+#[test]
+fn turns_are_told_one_by_one(rt: HostRuntime) {
+    let alloc = rt.alloc();
+    assert!(rt; drained(alloc) == Some(true));
+}
+
+// A session whose disk fails at its next call.
+fn failed(alloc: Global) -> Option<bool> {
+    for calls in 0..40 {
+        let Ok(mut session) = Session::open(alloc, Fuse::new(MemoryDisk::new(alloc), calls), LOG)
+        else {
+            continue;
+        };
+        session.post(&script(alloc, b"a")?).ok()?;
+        if session.commit().is_err() {
+            let mut told = false;
+            let mut tell = |_reply: &Reply| told = true;
+            let none = session.drain(0, &mut tell);
+            let three = session.drain(3, &mut tell);
+            return Some(
+                none.turns == 0 && none.ended == Some(Refused::Failed) && three == none && !told,
+            );
+        }
+    }
+    None
+}
+
+#[test]
+fn a_session_that_failed_runs_no_turn(rt: HostRuntime) {
+    let alloc = rt.alloc();
+    assert!(rt; failed(alloc) == Some(true));
 }

@@ -2,10 +2,18 @@
 #![tactic(auto)]
 
 #[cfg(test)]
+mod applications;
+#[cfg(test)]
+mod events;
+#[cfg(test)]
 mod lines;
+#[cfg(test)]
+mod nothing;
 #[cfg(test)]
 mod places;
 #[cfg(test)]
 mod tree;
+#[cfg(test)]
+mod turns;
 #[cfg(test)]
 mod worlds;

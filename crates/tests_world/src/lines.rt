@@ -1,10 +1,15 @@
 //! Runs over readers and writers that a row has not: such as break, are narrow, or hold long lines.
 
-use crate::worlds::first_world;
+use crate::nothing::Nothing;
 use std::alloc::Global;
 use std::io;
 use std::io::{BufRead, ErrorKind, Read, Write};
-use tks_desk::{Plain, RunEnd, RunFault, run};
+use tks_app::Apps;
+use tks_desk::{Own, RunEnd, RunFault, run};
+use tks_disk::{Left, MemoryDisk};
+use tks_session::Session;
+use tks_terminal::Terminal;
+use tks_text::{Limits, Size};
 
 // Shows its text three bytes at a time, interrupts every other try, and fails in place of the end.
 #[derive(Drop)]
@@ -79,12 +84,23 @@ fn told(end: &Result<RunEnd, RunFault>) -> &'static str {
         Err(RunFault::Read) => "read fault",
         Err(RunFault::Write) => "write fault",
         Err(RunFault::Memory) => "memory fault",
+        Err(RunFault::Session(_)) => "session fault",
     }
 }
 
-// What a session of a grid of 20 by 3 writes for an input, and then how the run ends.
+// A session of a grid of 20 by 3 on an empty disk.
+fn fresh_session(alloc: Global) -> Option<Session<MemoryDisk, Terminal<Own, Nothing>>> {
+    let terminal = Terminal {
+        limits: Limits::format1(),
+        grid: Size::new(20, 3)?,
+        apps: Apps::new(alloc),
+    };
+    Session::open(alloc, MemoryDisk::new(alloc), terminal).ok()
+}
+
+// What a fresh session writes for an input, and then how the run ends.
 fn talk<R: BufRead>(alloc: Global, reader: &mut R) -> Option<Vec<u8>> {
-    let mut session = Plain::new(alloc, first_world(alloc, 20, 3)?);
+    let mut session = fresh_session(alloc)?;
     let mut written = Vec::new(alloc);
     let end = run(alloc, reader, &mut written, &mut session);
     written.extend_from_slice(told(&end).as_bytes()).ok()?;
@@ -222,8 +238,8 @@ fn a_writer_that_breaks(rt: HostRuntime) {
         (100, false, b"ok 1 5\n"),
     ];
     for (most, flushes, want) in rows {
-        let Some(world) = first_world(rt.alloc(), 20, 3) else {
-            return assert!(rt; false, "no world");
+        let Some(mut session) = fresh_session(rt.alloc()) else {
+            return assert!(rt; false, "no session");
         };
         let mut reader: &[u8] = b"cmd set x 5\ncmd set x 6\ncmd set x 7\n";
         let mut writer = Narrow {
@@ -232,9 +248,59 @@ fn a_writer_that_breaks(rt: HostRuntime) {
             interrupts: false,
             flushes,
         };
-        let mut session = Plain::new(rt.alloc(), world);
         let end = run(rt.alloc(), &mut reader, &mut writer, &mut session);
         assert_eq!(rt; told(&end), "write fault");
         assert_eq!(rt; writer.held.as_slice(), want);
+    }
+}
+
+// 65 times the line `cmd`, then a commit, and the line once more.
+fn many_inputs(alloc: Global) -> Option<Vec<u8>> {
+    let mut lines = Vec::new(alloc);
+    for _ in 0..65 {
+        lines.extend_from_slice(b"cmd\n").ok()?;
+    }
+    lines.extend_from_slice(b"commit\ncmd\n").ok()?;
+    Some(lines)
+}
+
+#[test]
+fn no_more_than_64_inputs_wait(rt: HostRuntime) {
+    let Some(lines) = many_inputs(rt.alloc()) else {
+        return assert!(rt; false, "no lines");
+    };
+    let mut reader = lines.as_slice();
+    let Some(answers) = talk(rt.alloc(), &mut reader) else {
+        return assert!(rt; false, "no session");
+    };
+    let want = b"\nok 63\nok 64\nrefused pending\ncommitted 64\nok 65\nend".as_slice();
+    assert!(rt; answers.as_slice().starts_with(b"ok 1\nok 2\n"));
+    assert!(rt; answers.as_slice().ends_with(want));
+}
+
+// What a session answers that is opened on what a crash leaves of another one's disk.
+fn talk_after_crash(alloc: Global, first: &[u8], second: &[u8]) -> Option<Vec<u8>> {
+    let mut session = fresh_session(alloc)?;
+    let mut unread = Vec::new(alloc);
+    let mut lines = first;
+    run(alloc, &mut lines, &mut unread, &mut session).ok()?;
+    let (disk, terminal) = session.close();
+    let left = disk.crash(alloc, Left::Old, Left::Old).ok()?;
+    let mut session = Session::open(alloc, left, terminal).ok()?;
+    let mut written = Vec::new(alloc);
+    let mut lines = second;
+    run(alloc, &mut lines, &mut written, &mut session).ok()?;
+    Some(written)
+}
+
+#[test]
+fn what_was_committed_stands(rt: HostRuntime) {
+    let first = b"cmd set x 5\ncmd label .l -text old; pack .l\ncommit\ncmd set x 6\n";
+    let second = b"cmd set x\nscreen\ncommit\n";
+    let want =
+        b"ok 3 5\n|        old         |\n|                    |\n|                    |\ncommitted 3\n".as_slice();
+    match talk_after_crash(rt.alloc(), first, second) {
+        Some(written) => assert_eq!(rt; written.as_slice(), want),
+        None => assert!(rt; false, "no session"),
     }
 }

@@ -1,7 +1,10 @@
 //! Steps under small limits, copies, and the parts of a world.
 
+use crate::nothing::Nothing;
 use std::alloc::Global;
+use tks_app::Apps;
 use tks_cmd::command;
+use tks_desk::Own;
 use tks_eval::Plan;
 use tks_tcl::Stop;
 use tks_text::{Limits, Size, Txt};
@@ -10,19 +13,20 @@ use tks_world::{Input, Refused, Reply, World, step};
 
 /// The world before any input, on a grid of so many cells.
 pub fn first_world(alloc: Global, width: u16, height: u16) -> Option<World> {
-    World::first(alloc, Size::new(width, height)?).ok()
+    World::first(alloc, Size::new(width, height)?, &[]).ok()
 }
 
 /// The world behind a script that is accepted with code 0.
 pub fn world_of(alloc: Global, width: u16, height: u16, script: &str) -> Option<World> {
     let mut world = first_world(alloc, width, height)?;
     let input = Input::Script(Txt::from_bytes(alloc, script.as_bytes()).ok()?);
-    let reply = step(alloc, &mut world, &input, &Limits::format1()).ok()?;
+    let apps: Apps<Own, Nothing> = Apps::new(alloc);
+    let reply = step(alloc, &mut world, &apps, &input, &Limits::format1()).ok()?;
     if reply.code == 0 { Some(world) } else { None }
 }
 
-// A reply's number, code and text.
-fn shown(alloc: Global, reply: &Reply) -> Option<Vec<u8>> {
+/// A reply's number, code and text.
+pub fn shown(alloc: Global, reply: &Reply) -> Option<Vec<u8>> {
     let front = format!(in alloc; "{} {} ", reply.number, reply.code).ok()?;
     let mut shown = Vec::from_slice(alloc, front.as_bytes()).ok()?;
     shown.extend_from_slice(reply.text.as_bytes()).ok()?;
@@ -32,7 +36,8 @@ fn shown(alloc: Global, reply: &Reply) -> Option<Vec<u8>> {
 // What a script does to a world: its reply, or why it is refused.
 fn answer(alloc: Global, world: &mut World, limits: &Limits, script: &str) -> Option<Vec<u8>> {
     let input = Input::Script(Txt::from_bytes(alloc, script.as_bytes()).ok()?);
-    match step(alloc, world, &input, limits) {
+    let apps: Apps<Own, Nothing> = Apps::new(alloc);
+    match step(alloc, world, &apps, &input, limits) {
         Ok(reply) => shown(alloc, &reply),
         Err(Refused::BadInput) => Vec::from_slice(alloc, b"bad").ok(),
         Err(Refused::Depth) => Vec::from_slice(alloc, b"depth").ok(),
@@ -119,21 +124,55 @@ const ROWS: [(&str, &str); 12] = [
     ("frame .cdefghi", "large"),
 ];
 
-#[test]
-fn limits_of_windows_are_kept(rt: HostRuntime) {
-    let alloc = rt.alloc();
+// Under the same limits: what a listbox and a text hold.
+const HELD: [(&str, &str); 18] = [
+    ("listbox .l", "0 0 .l"),
+    (".l insert 0 a b c", "0 0 "),
+    (".l insert end d", "large"),
+    (".l insert x d", "0 1 E19 x"),
+    (".l delete 0", "0 0 "),
+    (".l insert end d", "0 0 "),
+    ("text .t", "0 0 .t"),
+    (".t insert end abcdefg", "0 0 "),
+    (".t insert 1.0 h", "large"),
+    (".t get 1.0 1.7", "0 0 abcdefg"),
+    (".t mark set a 1.0", "0 0 "),
+    (".t mark set b 1.0", "0 0 "),
+    (".t mark set c 1.0", "large"),
+    (".t mark set b 1.1", "0 0 "),
+    (".t tag add u 1.0", "0 0 "),
+    (".t tag add v 1.0", "0 0 "),
+    (".t tag add w 1.0", "0 0 "),
+    (".t tag add x 1.0", "large"),
+];
+
+// The first row that isn't answered as it says, of rows for one world, under limits of three items and of seven bytes.
+fn differing_row<'a>(alloc: Global, rows: &[(&'a str, &str)]) -> &'a str {
     let limits = Limits {
         items: 3,
         text: 7,
         ..Limits::format1()
     };
     let Some(mut world) = first_world(alloc, 20, 3) else {
-        return assert!(rt; false, "no world");
+        return "no world";
     };
-    for (row, want) in ROWS {
-        let told = command_answer(alloc, &mut world, &limits, row).unwrap_or(Vec::new(alloc));
-        assert_eq!(rt; told.as_slice(), want.as_bytes(), "at {row}");
+    for (row, want) in rows {
+        match command_answer(alloc, &mut world, &limits, row) {
+            Some(told) if told.as_slice() == want.as_bytes() => {}
+            _ => return row,
+        }
     }
+    "none"
+}
+
+#[test]
+fn limits_of_windows_are_kept(rt: HostRuntime) {
+    assert_eq!(rt; differing_row(rt.alloc(), &ROWS), "none");
+}
+
+#[test]
+fn limits_of_what_widgets_hold_are_kept(rt: HostRuntime) {
+    assert_eq!(rt; differing_row(rt.alloc(), &HELD), "none");
 }
 
 #[test]

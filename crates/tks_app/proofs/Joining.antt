@@ -1,36 +1,61 @@
--- A command that joins others.
-use Rattle.std.proofs.Common.{◌≡◌, ℕ, Bool, true, false, ◌||◌, List, [], ◌∷◌, ◌++◌, refl, sym, ◌∙◌, true≢false}
-use Rattle.std.specs.Cmp.Lexicographic.{bytes_decides}
+-- A command that joins others, in the place of its name.
+use Rattle.std.proofs.Common.{◌≡◌, ℕ, zero, suc, Bool, true, false, ◌||◌, if◌then◌else◌, List, [], ◌∷◌, insert, length, Ordering, Less, Equal, Greater, refl, sym, ap, ◌∙◌, true≢false}
+use Rattle.std.specs.Ordering.{is_lt, nat_cmp, ordering_reverse}
+use Rattle.std.specs.Cmp.{IsTotalOrder}
+use Rattle.std.specs.Cmp.Lexicographic.{slice_cmp, bytes_decides}
+use Rattle.std.proofs.lemmas.Cmp.{nat_list_cmp_total}
+use Rattle.std.proofs.lemmas.Map.Lookups.{exact_bytes}
 use Rattle.tks_text.specs.Text.{same_text}
-use Rattle.tks_app.specs.Applications.{is_name, has, AreNames, Joins}
-
-turned : (p q : List ℕ) → same_text p q ≡ true → same_text q p ≡ true
-turned p q h = (bytes_decides q p).1 (sym ((bytes_decides p q).0 h))
-
-other : (p q : List ℕ) → same_text p q ≡ false → same_text q p ≡ false
-other p q h = by (same_text q p) refl
-  where
-    by : (b : Bool) → same_text q p ≡ b → b ≡ false
-    by false e = refl
-    by true e = absurd (true≢false (sym (turned q p e) ∙ h))
+use Rattle.tks_app.specs.Applications.{is_name, has, comes_before, place_for, with_name, Leads, AreNames, Joins}
 
 either_false : (b c : Bool) → (b || c) ≡ false → (b ≡ false) × (c ≡ false)
 either_false false c h = (refl, h)
 either_false true c h = absurd (true≢false h)
 
-both_false : (b c : Bool) → b ≡ false → c ≡ false → (b || c) ≡ false
-both_false false c h k = k
-both_false true c h k = absurd (true≢false h)
+-- of two names that aren't the same, the one comes before the other
+other_way : (a b : List ℕ) → comes_before a b ≡ false → same_text b a ≡ false → comes_before b a ≡ true
+other_way a b late differ = by (slice_cmp nat_cmp a b) refl
+  where
+    by : (o : Ordering) → slice_cmp nat_cmp a b ≡ o → comes_before b a ≡ true
+    by Less e = absurd (true≢false (sym (ap is_lt e) ∙ late))
+    by Equal e = absurd (true≢false (sym ((bytes_decides b a).1 (sym (exact_bytes a b e))) ∙ differ))
+    by Greater e = ap is_lt (nat_list_cmp_total.antisymm b a ∙ ap ordering_reverse e)
 
--- a name that isn't among names, nor is it the one behind them
-absent : (names : List (List ℕ)) (last name : List ℕ) → same_text last name ≡ false → has names name ≡ false → has (names ++ last ∷ []) name ≡ false
-absent [] last name h e = both_false (same_text last name) false h refl
-absent (n ∷ names) last name h e =
-    let both = either_false (same_text n name) (has names name) e in
-    both_false (same_text n name) (has (names ++ last ∷ []) name) both.0 (absent names last name h both.1)
+-- what comes before the first of names comes before the first of them with one more
+still_leads : (other name : List ℕ) (names : List (List ℕ)) → comes_before other name ≡ true → Leads other names → Leads other (with_name name names)
+still_leads other name [] h leads = h
+still_leads other name (next ∷ names) h leads = by (comes_before name next)
+  where
+    by : (b : Bool) → Leads other (if b then name ∷ next ∷ names else next ∷ with_name name names)
+    by true = h
+    by false = leads
 
-pub joined : (names : List (List ℕ)) (last : List ℕ) → AreNames names → Joins names last → AreNames (names ++ last ∷ [])
-joined [] last names joins = (joins.0, refl, tt)
-joined (n ∷ names) last are joins =
-    let both = either_false (same_text n last) (has names last) joins.1 in
-    (are.0, absent names last n (other n last both.0) are.1, joined names last are.2 (joins.0, both.1))
+pub joined : (names : List (List ℕ)) (name : List ℕ) → AreNames names → Joins names name → AreNames (with_name name names)
+joined [] name are joins = (joins.0, tt, tt)
+joined (other ∷ names) name are joins =
+    let both = either_false (same_text other name) (has names name) joins.1 in
+    by (comes_before name other) refl both.0 (joined names name are.2 (joins.0, both.1))
+  where
+    by : (b : Bool) → comes_before name other ≡ b → same_text other name ≡ false → AreNames (with_name name names)
+        → AreNames (if b then name ∷ other ∷ names else other ∷ with_name name names)
+    by true h differ rest = (joins.0, h, are)
+    by false h differ rest = (are.0, still_leads other name names (other_way name other h differ) are.1, rest)
+
+-- what is put in that place is in its place
+pub put_in_place : (names : List (List ℕ)) (name : List ℕ) → insert names (place_for name names) name ≡ with_name name names
+put_in_place [] name = refl
+put_in_place (other ∷ names) name = by (comes_before name other) (put_in_place names name)
+  where
+    by : (b : Bool) → insert names (place_for name names) name ≡ with_name name names
+        → insert (other ∷ names) (if b then zero else suc (place_for name names)) name ≡ (if b then name ∷ other ∷ names else other ∷ with_name name names)
+    by true rest = refl
+    by false rest = ap (λ ns. other ∷ ns) rest
+
+-- there is one more then
+pub longer : (name : List ℕ) (names : List (List ℕ)) → length (with_name name names) ≡ suc (length names)
+longer name [] = refl
+longer name (other ∷ names) = by (comes_before name other) (longer name names)
+  where
+    by : (b : Bool) → length (with_name name names) ≡ suc (length names) → length (if b then name ∷ other ∷ names else other ∷ with_name name names) ≡ suc (suc (length names))
+    by true rest = refl
+    by false rest = ap suc rest

@@ -1,7 +1,9 @@
 -- Commands of the application: what one answers, which names there are, and when one may join others (this project's own
 -- rules).
-use Rattle.std.specs.Prelude.{◌≡◌, ℕ, Bool, true, false, not, ◌&&◌, ◌||◌, ◌==◌, nat_le, List, [], ◌∷◌, length}
+use Rattle.std.specs.Prelude.{◌≡◌, ℕ, suc, Bool, true, false, not, ◌&&◌, ◌||◌, ◌==◌, nat_le, if◌then◌else◌, List, [], ◌∷◌, length}
 use Rattle.std.specs.List.{list_all}
+use Rattle.std.specs.Ordering.{is_lt, nat_cmp}
+use Rattle.std.specs.Cmp.Lexicographic.{slice_cmp}
 use Rattle.tks_text.specs.Text.{same_text}
 use Rattle.tks_tcl.specs.Names.{is_built_in}
 use Rattle.tks_app.specs.declared.answer.AppAnswer.{AppAnswer}
@@ -29,10 +31,34 @@ abbrev pub has : List (List ℕ) → List ℕ → Bool
 has [] name = false
 has (n ∷ names) name = same_text n name || has names name
 
--- names that commands may have, all different
+-- a name comes before another, by their bytes
+abbrev pub comes_before : List ℕ → List ℕ → Bool
+comes_before name other = is_lt (slice_cmp nat_cmp name other)
+
+-- names with one more, in its place
+abbrev pub with_name : List ℕ → List (List ℕ) → List (List ℕ)
+with_name name [] = name ∷ []
+with_name name (other ∷ names) = if comes_before name other then name ∷ other ∷ names else other ∷ with_name name names
+
+-- that place: how many come before it
+abbrev pub place_for : List ℕ → List (List ℕ) → ℕ
+place_for name [] = 0
+place_for name (other ∷ names) = if comes_before name other then 0 else suc (place_for name names)
+
+-- a name comes before the first of these, if there is one
+abbrev pub Leads : List ℕ → List (List ℕ) → Type 0
+Leads name [] = Unit {0}
+Leads name (other ∷ names) = comes_before name other ≡ true
+
+-- names that commands may have, which rise by their bytes: no two are the same
 abbrev pub AreNames : List (List ℕ) → Type 0
 AreNames [] = Unit {0}
-AreNames (name ∷ names) = (is_name name ≡ true) × (has names name ≡ false) × AreNames names
+AreNames (name ∷ names) = (is_name name ≡ true) × Leads name names × AreNames names
+
+-- an application: the names of its commands, and what they mean
+pub record Application : Type 0 where
+  pub names : List (List ℕ)
+  pub meaning : Meaning
 
 -- a command of this name may join commands of those names
 abbrev pub Joins : List (List ℕ) → List ℕ → Type 0

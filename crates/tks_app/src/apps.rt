@@ -1,17 +1,21 @@
 //! Commands by name.
-ghost use Rattle.std.specs.Prelude.{◌≡◌, ◌++◌, ◌∷◌, [], true, is_some, IfOk, IfErr, IfSome, OnOk, OnErr};
+ghost use Rattle.std.specs.Prelude.{◌≡◌, ◌≤◌, ◌<◌, ◌-◌, ◌^◌, [], length, true, is_some, IfOk, IfErr, IfSome, OnOk, OnErr};
 ghost use Rattle.std.specs.List.{list_all};
-ghost use Rattle.tks_app.specs.Applications.{is_name_byte, begins_dot, is_name, has, AreNames, Joins, RefusedFor};
+ghost use Rattle.tks_app.specs.Applications.{is_name_byte, begins_dot, is_name, has, comes_before, place_for, with_name, AreNames, Joins, RefusedFor};
+ghost use Rattle.tks_app.specs.declared.apps.AddRefusal.TheVariants.{NoMemory};
 
 use crate::{AppAnswer, AppBody, AppClosure, AppCommand, AppMeaning};
 use std::alloc::{AllocError, Global};
 use std::marker::Model;
 use thiserror::Error;
 use tks_tcl::is_built_in;
-use tks_text::Txt;
+use tks_text::{Seq, Txt};
 
 /// How many bytes a name has at most.
 const NAME_LEN: usize = 64;
+
+/// How many commands there are at most.
+const MAX_COMMANDS: usize = (1 << 32) - 1;
 
 // Whether a name may hold the byte.
 fn is_name_byte(byte: u8) -> bool
@@ -50,6 +54,13 @@ pub fn is_name(name: &Txt) -> bool
         && !is_built_in(name)
 }
 
+// Whether a name comes before another, by their bytes.
+fn comes_before(name: &Txt, other: &Txt) -> bool
+    ensures { result ≡ comes_before name.now other.now }
+{
+    name.as_bytes().cmp(other.as_bytes()).is_lt()
+}
+
 /// Why a command doesn't join the others.
 #[derive(Clone, Copy, Debug, PartialEq, Eq, Error)]
 pub enum AddRefusal {
@@ -71,7 +82,8 @@ pub struct AddFault<T: AppMeaning, B: AppBody = AppClosure> {
     pub why: AddRefusal,
 }
 
-/// The commands of an application, each of another name. Contracts see their names, in the order in which they joined.
+/// The commands of an application, each of another name, and fewer than 2^32. Contracts see their names, which rise by
+/// their bytes.
 #[derive(Drop)]
 pub struct Apps<T: AppMeaning, B: AppBody = AppClosure> {
     commands: Vec<AppCommand<T, B>>,
@@ -85,11 +97,12 @@ impl<T: AppMeaning, B: AppBody> Model for Apps<T, B> {
 
     ghost coded = { coded_list (coded_list coded_ℕ) };
 
+    ghost use Rattle.std.specs.Prelude.{◌<◌, ◌^◌, length};
     ghost use Rattle.tks_app.specs.Applications.{AreNames};
 
     ghost view = { λ a. a.commands.items };
 
-    ghost invariant = { λ a. AreNames a.commands.items };
+    ghost invariant = { λ a. AreNames a.commands.items × (length a.commands.items < 2 ^ 32) };
 }
 
 impl<T: AppMeaning, B: AppBody> Apps<T, B> {
@@ -102,12 +115,24 @@ impl<T: AppMeaning, B: AppBody> Apps<T, B> {
         }
     }
 
-    /// The commands, in the order in which they joined.
+    /// The commands, in the order of their names.
     pub fn commands(&self) -> &[AppCommand<T, B>]
         ensures commands { result.now ≡ self.now }
         ensures names { AreNames self.now }
+        ensures count { length self.now < 2 ^ 32 }
     {
         &self.commands
+    }
+
+    /// Their names, in order.
+    pub fn names(&self, alloc: Global) -> Result<Seq<Txt>, AllocError>
+        ensures { IfOk result (λ names. names ≡ self.now) }
+    {
+        let mut names = Seq::new(alloc);
+        for command in &self.commands {
+            names.push(command.name().try_clone()?)?;
+        }
+        Ok(names)
     }
 
     // The command of a name.
@@ -132,10 +157,27 @@ impl<T: AppMeaning, B: AppBody> Apps<T, B> {
         self.find(name).is_some()
     }
 
-    #[tactic(auto, using(crate::proofs::Joining::joined))]
-    /// Adds a command. One that doesn't join is handed back, with the reason.
+    // The place of a name among those of the commands.
+    fn place_for(&self, name: &Txt) -> usize
+        ensures place { result ≡ place_for name.now self.now }
+        ensures bound { result ≤ length self.now }
+    {
+        let mut place = 0;
+        let mut rest = self.commands();
+        while let Some((command, behind)) = rest.split_first() {
+            if comes_before(name, command.name()) {
+                return place;
+            }
+            place += 1;
+            rest = behind;
+        }
+        place
+    }
+
+    /// Adds a command, in the place of its name. One that doesn't join is handed back, with the reason; so is one beyond
+    /// 2^32 - 1, as for want of memory.
     pub fn add(&mut self, command: AppCommand<T, B>) -> Result<(), AddFault<T, B>>
-        ensures ok { OnOk result (self.new ≡ self.old ++ command ∷ []) }
+        ensures ok { OnOk result (self.new ≡ with_name command self.old) }
         ensures joins { OnOk result (Joins self.old command) }
         ensures err { OnErr result (self.new ≡ self.old) }
         ensures handed_back { IfErr result (λ fault. fault.command ≡ command) }
@@ -153,7 +195,25 @@ impl<T: AppMeaning, B: AppBody> Apps<T, B> {
                 why: AddRefusal::Twice,
             });
         }
-        if let Err(refused) = self.commands.push(command) {
+        if MAX_COMMANDS <= self.commands.len() {
+            return Err(AddFault {
+                command,
+                why: AddRefusal::NoMemory,
+            });
+        }
+        self.put(command)
+    }
+
+    // Puts a command in the place of its name.
+    fn put(&mut self, command: AppCommand<T, B>) -> Result<(), AddFault<T, B>>
+        requires joins { Joins self.old command }
+        requires room { length self.old < 2 ^ 32 - 1 }
+        ensures ok { OnOk result (self.new ≡ with_name command self.old) }
+        ensures err { OnErr result (self.new ≡ self.old) }
+        ensures handed_back { IfErr result (λ fault. (fault.command ≡ command) × (fault.why ≡ NoMemory)) }
+    {
+        let place = self.place_for(command.name());
+        if let Err(refused) = self.commands.insert(place, command) {
             return Err(AddFault {
                 command: refused.value,
                 why: AddRefusal::NoMemory,

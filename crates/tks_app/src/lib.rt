@@ -5,8 +5,10 @@ mod answer;
 mod apps;
 mod body;
 mod command;
+mod memories;
 
 pub use answer::{AppAnswer, AppCode};
 pub use apps::{AddFault, AddRefusal, Apps, is_name};
 pub use body::{AppBody, AppClosure};
 pub use command::{AppCommand, AppMeaning};
+pub use memories::{Memories, Memory};

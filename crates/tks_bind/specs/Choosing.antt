@@ -76,3 +76,7 @@ later (Some b) (Some c) = Some (if nat_lt b.number c.number then c else b)
 abbrev pub latest_of : Scene → List Binding → Option Binding
 latest_of s [] = None
 latest_of s (b ∷ bs) = if wins s b then later (Some b) (latest_of s bs) else latest_of s bs
+
+-- the binding that an event fires: of those that win, the latest
+unfoldable pub chosen : Scene → Option Binding
+chosen s = latest_of s s.bindings

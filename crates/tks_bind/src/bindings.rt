@@ -1,9 +1,11 @@
 //! The bindings.
 ghost use Rattle.std.specs.Prelude.{◌≡◌, ◌≢◌, ◌↔◌, ◌≤◌, ◌<◌, ◌^◌, [], ◌∷◌, ◌++◌, length, map, Some, None, Err, IsSome, is_some, IfSome, IfOk, OnOk, OnErr, option_copied};
+ghost use Rattle.std.specs.List.{remove};
 ghost use Rattle.tks_text.specs.Text.{IsText};
 ghost use Rattle.tks_event.specs.Canonical.{canonical};
 ghost use Rattle.tks_bind.specs.Binding.{Content, nothing, script_for, placed, without, set, unset, made, appended, bound, spelled, without_tag};
 ghost use Rattle.tks_bind.specs.Chosen.{ChosenSo};
+ghost use Rattle.tks_bind.specs.Choosing.{chosen};
 ghost use Rattle.tks_bind.specs.Indexes.{index_of, index_tagged};
 
 use crate::binding::Binding;
@@ -51,6 +53,25 @@ impl Bindings {
         }
     }
 
+    /// These bindings, in order, and this next number, with no mark, so that they are made again from what there was.
+    pub fn restore(alloc: Global, bindings: Vec<Binding>, next: u64) -> Result<Bindings, AllocError>
+        ensures { IfOk result (λ made. made ≡ record { present = record { bindings = bindings.items; next = next }; at_mark = None }) }
+    {
+        Ok(Bindings {
+            alloc,
+            bindings: Marked::of(alloc, bindings)?,
+            next,
+            next_at_mark: 0,
+        })
+    }
+
+    /// The number that the next binding gets.
+    pub fn next(&self) -> u64
+        ensures { result ≡ self.now.present.next }
+    {
+        self.next
+    }
+
     /// The bindings, in the order in which they were made.
     pub fn bindings(&self) -> Items<'_, Binding>
         ensures { result ≡ self.now.present.bindings }
@@ -82,7 +103,7 @@ impl Bindings {
     /// The binding of a tag that an event fires, where the event is the last one of the history, or a virtual one: of
     /// the bindings that it meets, and by a way that no way to meet one of them beats, the one that was set last. It
     /// takes no memory.
-    #[tactic(auto, using(crate::proofs::Winning::chosen_so))]
+    #[tactic(auto, unfolding(crate::specs::Choosing::chosen))]
     pub fn chosen<'a>(
         &'a self,
         tag: &'a Txt,
@@ -90,7 +111,8 @@ impl Bindings {
         history: &'a History,
         virtuals: &'a Virtuals,
     ) -> Option<&'a Binding>
-        ensures { ChosenSo (record { bindings = self.now.present.bindings; tag = tag.now; event = event.now; history = history.now.present; virtuals = virtuals.now.present }) (option_copied result) }
+        ensures value { option_copied result ≡ chosen (record { bindings = self.now.present.bindings; tag = tag.now; event = event.now; history = history.now.present; virtuals = virtuals.now.present }) }
+        ensures so { ChosenSo (record { bindings = self.now.present.bindings; tag = tag.now; event = event.now; history = history.now.present; virtuals = virtuals.now.present }) (option_copied result) }
     {
         let looked = Looked {
             bindings: &self.bindings,
@@ -120,6 +142,21 @@ impl Bindings {
         let script = made(self.alloc, self.script(&tag, &sequence), script)?;
         self.set(tag, sequence, script)?;
         Ok(())
+    }
+
+    /// How long the script is that `bind` sets for a tag and a sequence, given this one.
+    pub fn script_len(&self, tag: &Txt, sequence: &Sequence, script: &Txt) -> usize
+        ensures { result ≡ length (made (script_for tag.now sequence.now self.now.present.bindings) script.now) }
+    {
+        made_len(self.script(tag, sequence), script)
+    }
+
+    /// Takes away the binding in this place, counted from 0. It takes no memory.
+    pub fn remove(&mut self, index: usize)
+        requires { index < length self.old.present.bindings }
+        ensures { self.new ≡ record self.old { present = record self.old.present { bindings = remove self.old.present.bindings index } } }
+    {
+        self.bindings.remove(index);
     }
 
     /// Takes all bindings of a tag away. It takes no memory.
@@ -292,6 +329,26 @@ fn appended(alloc: Global, script: Option<&Txt>, more: &[u8]) -> Result<Txt, All
     text.push_byte(b'\n')?;
     text.append(&more)?;
     Ok(text)
+}
+
+// How long the script is that is set where this one is there and that one is given.
+fn made_len(script: Option<&Txt>, given: &Txt) -> usize
+    ensures { result ≡ length (made (option_copied script.entry) given.now) }
+{
+    match given.as_bytes() {
+        [b'+', more @ ..] => appended_len(script, more),
+        bytes => bytes.len(),
+    }
+}
+
+// How long the script that is there is with more behind it.
+fn appended_len(script: Option<&Txt>, more: &[u8]) -> usize
+    ensures { result ≡ length (appended (option_copied script.entry) more.now) }
+{
+    match script {
+        Some(script) => script.as_bytes().len() + 1 + more.len(),
+        None => more.len(),
+    }
 }
 
 fn spelled(alloc: Global, bindings: &Marked<Binding>, tag: &Txt) -> Result<Seq<Txt>, AllocError>

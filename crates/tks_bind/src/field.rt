@@ -72,7 +72,8 @@ impl Field {
     }
 }
 
-fn is_of_key(kind: Kind) -> bool
+/// Whether it is that of a key that goes down or up.
+pub fn is_of_key(kind: Kind) -> bool
     ensures { result ≡ is_of_key kind }
 {
     matches!(kind, Kind::KeyPress | Kind::KeyRelease)

@@ -45,6 +45,18 @@ impl History {
         }
     }
 
+    /// The history of these events, the latest last, with no mark, so that one is made again from what it had. Of more
+    /// than 32 events it holds the last.
+    pub fn restore(alloc: Global, events: Vec<Event>) -> History
+        ensures { result ≡ record { present = latest events.items; at_mark = None } }
+    {
+        History {
+            alloc,
+            log: events,
+            mark: None,
+        }
+    }
+
     /// The events, the latest last.
     #[tactic(auto, using(crate::proofs::Latest::latest_within))]
     pub fn events(&self) -> &[Event]

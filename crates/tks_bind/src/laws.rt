@@ -4,6 +4,8 @@ ghost use Rattle.tks_event.specs.declared.event.Event.{Event};
 ghost use Rattle.tks_bind.specs.Percents.{has_field, field_text, value};
 ghost use Rattle.tks_bind.specs.declared.field.Field.{Field};
 ghost use Rattle.tks_bind.specs.Choice.{Way, Beats, Unbeaten};
+ghost use Rattle.tks_bind.specs.Chosen.{Scene, ChosenSo};
+ghost use Rattle.tks_bind.specs.Choosing.{chosen};
 
 /// No way to meet a binding beats itself, and one that beats another beats all that this one beats.
 #[tactic(auto, using(crate::proofs::Order::never_itself, crate::proofs::Order::beats_along))]
@@ -22,4 +24,10 @@ pub fn some_way_is_unbeaten()
 #[tactic(auto, using(crate::proofs::Values::value_splits))]
 pub fn values_stand_for_themselves()
     ensures { (e : Event) (path : List ℕ) (f : Field) → has_field e.kind f ≡ true → Splits (value e path f) (field_text e path f ∷ []) }
+{}
+
+/// The binding that an event fires is, of those that it meets by a way that none beats, the one that was set last; and
+/// none is fired only where it meets none.
+pub fn chosen_is_the_choice()
+    ensures { (s : Scene) → ChosenSo s (chosen s) }
 {}

@@ -18,9 +18,12 @@ mod way;
 pub use binding::Binding;
 pub use bindings::Bindings;
 pub use fault::BindFault;
-pub use field::Field;
+pub use field::{Field, is_of_key, is_virtual};
 pub use history::{History, MAX_HISTORY};
-pub use laws::{beating_is_an_order, some_way_is_unbeaten, values_stand_for_themselves};
+pub use laws::{
+    beating_is_an_order, chosen_is_the_choice, some_way_is_unbeaten, values_stand_for_themselves,
+};
+pub use matching::is_of_button;
 pub use search::occurs;
 pub use substitution::percents;
 pub use virtual_event::VirtualEvent;

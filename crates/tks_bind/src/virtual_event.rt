@@ -13,6 +13,24 @@ pub struct VirtualEvent {
 }
 
 impl VirtualEvent {
+    /// The one of this name and these sequences, in order, so that it is made again from what it had.
+    pub fn restore(
+        alloc: Global,
+        name: Txt,
+        sequences: Vec<Sequence>,
+    ) -> Result<VirtualEvent, AllocError>
+        ensures { IfOk result (λ v. v ≡ record { name = name; sequences = sequences.items }) }
+    {
+        let mut kept = Seq::new(alloc);
+        for sequence in sequences {
+            kept.push(sequence)?;
+        }
+        Ok(VirtualEvent {
+            name,
+            sequences: kept,
+        })
+    }
+
     /// An equal one.
     pub fn try_clone(&self, alloc: Global) -> Result<VirtualEvent, AllocError>
         ensures { IfOk result (λ v. v ≡ self.now) }

@@ -37,6 +37,16 @@ impl Virtuals {
         }
     }
 
+    /// These virtual events, in order, with no mark, so that they are made again from what there was.
+    pub fn restore(alloc: Global, events: Vec<VirtualEvent>) -> Result<Virtuals, AllocError>
+        ensures { IfOk result (λ made. made ≡ record { present = events.items; at_mark = None }) }
+    {
+        Ok(Virtuals {
+            alloc,
+            events: Marked::of(alloc, events)?,
+        })
+    }
+
     /// The virtual events, in the order in which they were added.
     pub fn events(&self) -> Items<'_, VirtualEvent>
         ensures { result ≡ self.now.present }

@@ -12,7 +12,7 @@ use Rattle.tks_tree.specs.WellFormed.{WellFormed}
 use Rattle.tks_tree.specs.Meets.{AnswersSo}
 use Rattle.tks_tree.proofs.Parents.{not_first}
 use Rattle.tks_state.specs.Windows as windows
-use Rattle.tks_state.specs.World.{World, windows_of, with_windows, without, destroyed}
+use Rattle.tks_state.specs.World.{World, windows_of, with_left, without, destroyed}
 use Rattle.tks_cmd.specs.Windows.{is_other, without_path}
 
 other_text : (path : List ℕ) → is_other path ≡ true → same_text path root_path ≡ false
@@ -25,7 +25,7 @@ other_text path h = by (same_text path root_path) h
 -- a window other than the first is destroyed
 not_refused : (w : World) (number : ℕ) → (number == 0) ≡ false → destroyed w number ≡ Ok (without w number)
 not_refused w number other =
-    ap (λ (b : Bool). after (after (if b then Err (record { number = NotAllowedOnRoot; subject = None }) else Ok (tree.without w.tree number)) (λ _. Ok (windows.without (windows_of w) number))) (λ x. Ok (with_windows w x))) other
+    ap (λ (b : Bool). after (after (if b then Err (record { number = NotAllowedOnRoot; subject = None }) else Ok (tree.without w.tree number)) (λ _. Ok (windows.without (windows_of w) number))) (λ x. Ok (with_left w x))) other
 
 abbrev from_ok : World → Result World ScriptFault → World
 from_ok w (Ok v) = v

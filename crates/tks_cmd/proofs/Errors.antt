@@ -17,19 +17,17 @@ use Rattle.tks_state.specs.World.{with_widget}
 use Rattle.tks_state.specs.declared.kept.Kept.{Kept}
 use Rattle.tks_cmd.specs.Changes.{Changed, Outcome, outcome, plan_of, beside, silent, creation}
 use Rattle.tks_cmd.specs.Commands.{command_named, command_does, named_does, words_do, may_come, answered, does}
+use Rattle.tks_cmd.specs.EventCommands.{event_command_does, planned}
 use Rattle.tks_cmd.specs.Links.{called}
 use Rattle.tks_cmd.specs.Packing.{pack_does}
 use Rattle.tks_cmd.specs.Widgets.{window_does}
 use Rattle.tks_cmd.specs.Windows.{are_paired, new_widget, added, room, made, make_does, destroy_does}
+use Rattle.tks_cmd.proofs.EventLaws.{NoError, PlansWell, event_command_well}
 use Rattle.tks_cmd.specs.declared.commands.Command.{Command}
 use Rattle.tks_cmd.specs.declared.commands.Command.TheVariants as command
 use Rattle.tks_cmd.specs.declared.windows.WindowKind.{WindowKind}
 
 -- what comes of a command that is no error isn't told as one
-abbrev NoError : Plan → Type 0
-NoError (plan.Answer code text) = code ≡ 0
-NoError other = Unit {0}
-
 abbrev Well : Result Outcome Cause → Type 0
 Well (Ok x) = NoError x.plan
 Well (Err cause) = Unit {0}
@@ -40,6 +38,10 @@ after_well (Err cause) next well = tt
 
 beside_well : (variables : Variables) (r : Result Changed Cause) → Well (beside variables r)
 beside_well variables r = after_well r _ (λ x. refl)
+
+planned_well : (variables : Variables) (r : Result (Plan × World) Cause) → PlansWell r → Well (planned variables r)
+planned_well variables (Ok x) well = well
+planned_well variables (Err cause) well = tt
 
 plan_well : (s : Said) → NoError (plan_of s)
 plan_well (said.Text text) = refl
@@ -62,6 +64,7 @@ module _ (limits : Limits) where
   command_well (command.Make kind) name words w variables = make_well kind name words w variables
   command_well command.Destroy name words w variables = beside_well variables (destroy_does name words w)
   command_well command.Pack name words w variables = beside_well variables (pack_does name words w)
+  command_well (command.Events c) name words w variables = planned_well variables (event_command_does limits c name words w) (event_command_well limits c name words w)
 
   window_well : (number : ℕ) (words : List (List ℕ)) (w : World) (variables : Variables) → Well (window_does limits number words w variables)
   window_well number words w variables = by (kept_of w.kept number)

@@ -5,3 +5,10 @@ pub mod Packs
 pub mod Pairs
 pub mod Results
 pub mod Wider
+pub mod Scripts
+pub mod Tags
+pub mod EventLaws
+pub mod Generating
+pub mod Sorting
+pub mod Choices
+pub mod Digits

@@ -11,24 +11,28 @@ use Rattle.tks_eval.specs.Outcome.{Answer, Unknown, Comes, PassesLimit}
 use Rattle.tks_eval.specs.declared.host.Plan.{Plan}
 use Rattle.tks_eval.specs.declared.host.Plan.TheVariants as plan
 use Rattle.tks_cmd.specs.Changes.{Outcome, beside}
-use Rattle.tks_cmd.specs.Windows.{make_does, destroy_does}
+use Rattle.tks_cmd.specs.Windows.{kind_named, make_does, destroy_does}
 use Rattle.tks_cmd.specs.Widgets.{window_does}
 use Rattle.tks_cmd.specs.Packing.{pack_does}
-use Rattle.tks_cmd.specs.declared.windows.WindowKind.TheVariants as kind
+use Rattle.tks_cmd.specs.EventCommands.{event_command_named, event_command_does, planned}
+use Rattle.tks_cmd.specs.declared.windows.WindowKind.{WindowKind}
 use Rattle.tks_cmd.specs.declared.commands.Command.{Command}
 use Rattle.tks_cmd.specs.declared.commands.Command.TheVariants as command
 
+-- one that makes no windows
+abbrev pub other_named : List ℕ → Option Command
+other_named name =
+    if same_text name (codes "destroy") then Some command.Destroy
+    else (if same_text name (codes "pack") then Some command.Pack
+    else option_map command.Events (event_command_named name))
+
+abbrev pub making_or : Option WindowKind → Option Command → Option Command
+making_or (Some kind) other = Some (command.Make kind)
+making_or None other = other
+
 -- the command of a name
 abbrev pub command_named : List ℕ → Option Command
-command_named name =
-    if same_text name (codes "frame") then Some (command.Make kind.Frame)
-    else (if same_text name (codes "label") then Some (command.Make kind.Label)
-    else (if same_text name (codes "button") then Some (command.Make kind.Button)
-    else (if same_text name (codes "checkbutton") then Some (command.Make kind.Checkbutton)
-    else (if same_text name (codes "entry") then Some (command.Make kind.Entry)
-    else (if same_text name (codes "destroy") then Some command.Destroy
-    else (if same_text name (codes "pack") then Some command.Pack
-    else None))))))
+command_named name = making_or (kind_named name) (other_named name)
 
 module _ (limits : Limits) where
   -- what a command comes to with the words behind its name
@@ -36,6 +40,7 @@ module _ (limits : Limits) where
   command_does (command.Make kind) name words w variables = make_does limits kind name words w variables
   command_does command.Destroy name words w variables = beside variables (destroy_does name words w)
   command_does command.Pack name words w variables = beside variables (pack_does name words w)
+  command_does (command.Events c) name words w variables = planned variables (event_command_does limits c name words w)
 
   -- a command of this name, or else a window whose path it is
   abbrev pub named_does : Option Command → List ℕ → List (List ℕ) → World → Variables → Option (Result Outcome Cause)

@@ -1,4 +1,5 @@
 pub mod Changes
+pub mod Contents
 pub mod Links
 pub mod Windows
 pub mod Widgets
@@ -6,3 +7,11 @@ pub mod Packing
 pub mod Commands
 pub mod Meets
 pub mod Laws
+pub mod Dispatch
+pub mod Bindings
+pub mod Queue
+pub mod Events
+pub mod VirtualEvents
+pub mod Focus
+pub mod After
+pub mod EventCommands

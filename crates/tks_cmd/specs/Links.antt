@@ -1,7 +1,7 @@
 -- Widgets that are linked to globals (label(n), entry(n), button(n), `-textvariable`; checkbutton(n), `-variable`). That
 -- a link is by name, that each pair of `configure` is a change of its own, and which errors there are, are this
 -- project's own rules.
-use Rattle.std.specs.Prelude.{ℕ, Bool, false, if◌then◌else◌, codes, List, [], ◌∷◌, Option, Some, None, Result, Ok, Err}
+use Rattle.std.specs.Prelude.{ℕ, Bool, false, ◌&&◌, if◌then◌else◌, codes, List, [], ◌∷◌, Option, Some, None, Result, Ok, Err}
 use Rattle.tks_text.specs.Text.{same_text}
 use Rattle.tks_text.specs.declared.fault.ScriptFault.{ScriptFault}
 use Rattle.tks_text.specs.declared.limits.Limits.{Limits}
@@ -15,6 +15,7 @@ use Rattle.tks_button.specs.declared.caption.Assignment.{Assignment}
 use Rattle.tks_state.specs.Widget as widgets
 use Rattle.tks_state.specs.Links.{link_of, text_of, with_text, seen, assigned, first_assigned}
 use Rattle.tks_state.specs.declared.widget.Widget.{Widget}
+use Rattle.tks_cmd.specs.Contents.{holds_within}
 
 -- a widget, and the variables beside it
 abbrev pub Linked : Type 0
@@ -50,9 +51,9 @@ module _ (limits : Limits) where
   stored None w next variables = Ok (next, variables)
   stored (Some name) w next variables = after (told (link_of w) name (text_of (seen variables w)) (text_of next) variables) (λ v. Ok (with_text (text_of w) next, v))
 
-  -- a widget after the one that was seen became another; its text passes no limit
+  -- a widget after the one that was seen became another; neither its text nor what it holds passes a limit
   unfoldable pub settled : Widget → Widget → Variables → Result Linked Cause
-  settled w next variables = if fits limits (text_of next) then stored (link_of next) w next variables else Err OverLimit
+  settled w next variables = if fits limits (text_of next) && holds_within limits next then stored (link_of next) w next variables else Err OverLimit
 
   -- ---- options
 

@@ -30,6 +30,17 @@ RunsSo (Err (interrupt.Script fault)) old new before now given = (given ≡ Some
 RunsSo (Err interrupt.TooLarge) old new before now given = given ≡ Some (Err OverLimit)
 RunsSo (Err interrupt.NoMemory) old new before now given = Unit {0}
 
+-- a stop tells that a limit is passed; want of memory may come anywhere
+abbrev pub StopsSo : {Y : Type 0} → Stop → Result Y Cause → Type 0
+StopsSo stop.TooLarge given = given ≡ Err OverLimit
+StopsSo stop.NoMemory given = Unit {0}
+StopsSo why given = ⊥
+
+-- what a call returned, seen by view, is what its definition gives, or a stop tells why there is nothing
+abbrev pub LimitsSo : {X Y : Type 0} → (X → Y) → Result X Stop → Result Y Cause → Type 0
+LimitsSo view (Ok x) given = given ≡ Ok (view x)
+LimitsSo view (Err why) given = StopsSo why given
+
 -- the end by an error's text; want of memory may come anywhere
 abbrev pub ErrsSo : Limits → ScriptFault → Result Plan Stop → Type 0
 ErrsSo limits fault (Ok (plan.Answer code text)) = (code ≡ 1) × (text ≡ fault_text fault) × (fits limits (fault_text fault) ≡ true)

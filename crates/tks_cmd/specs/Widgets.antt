@@ -1,5 +1,5 @@
--- A window's own command (frame(n), label(n), button(n), checkbutton(n), entry(n), "WIDGET COMMAND"): its path, a
--- subcommand and words.
+-- A window's own command (frame(n), label(n), button(n), checkbutton(n), entry(n), listbox(n), text(n), "WIDGET COMMAND"):
+-- its path, a subcommand and words.
 use Rattle.std.specs.Prelude.{ℕ, List, Result, Ok}
 use Rattle.tks_text.specs.declared.limits.Limits.{Limits}
 use Rattle.tks_vars.specs.Variables.{Variables}

@@ -1,6 +1,6 @@
--- Making and destroying windows (frame(n), label(n), button(n), checkbutton(n), entry(n), destroy(n); which errors there
--- are, their order and the limits are this project's own).
-use Rattle.std.specs.Prelude.{ℕ, Bool, not, ◌==◌, ◌%◌, nat_lt, if◌then◌else◌, List, [], ◌∷◌, length, Result, Ok, Err}
+-- Making and destroying windows (frame(n), label(n), button(n), checkbutton(n), entry(n), listbox(n), text(n), destroy(n);
+-- which errors there are, their order and the limits are this project's own).
+use Rattle.std.specs.Prelude.{ℕ, Bool, not, ◌==◌, ◌%◌, nat_lt, if◌then◌else◌, codes, List, [], ◌∷◌, length, Option, Some, None, Result, Ok, Err}
 use Rattle.std.specs.List.{list_all}
 use Rattle.tks_text.specs.Text.{same_text}
 use Rattle.tks_text.specs.declared.class.Class.TheVariants as class
@@ -9,6 +9,8 @@ use Rattle.tks_tcl.specs.Cause.{Cause, OverLimit, after, wrong_words}
 use Rattle.tks_vars.specs.Variables.{Variables}
 use Rattle.tks_opt.specs.Options.{first_options}
 use Rattle.tks_entry.specs.Entry.{first_entry}
+use Rattle.tks_listbox.specs.Listbox.{first_listbox}
+use Rattle.tks_lines.specs.Lines.{first_lines}
 use Rattle.tks_tree.specs.Path.{root_path}
 use Rattle.tks_tree.specs.Windows.{of_path, on_window, free_path}
 use Rattle.tks_state.specs.World.{World, with_window, without}
@@ -24,7 +26,19 @@ use Rattle.tks_cmd.specs.declared.windows.WindowKind.TheVariants as kind
 abbrev pub are_paired : List (List ℕ) → Bool
 are_paired options = length options % 2 == 0
 
--- ---- frame, label, button, checkbutton, entry: path ?option value ..?
+-- ---- frame, label, button, checkbutton, entry, listbox, text: path ?option value ..?
+
+-- the kind of window that the command of a name makes
+abbrev pub kind_named : List ℕ → Option WindowKind
+kind_named name =
+    if same_text name (codes "frame") then Some kind.Frame
+    else (if same_text name (codes "label") then Some kind.Label
+    else (if same_text name (codes "button") then Some kind.Button
+    else (if same_text name (codes "checkbutton") then Some kind.Checkbutton
+    else (if same_text name (codes "entry") then Some kind.Entry
+    else (if same_text name (codes "listbox") then Some kind.Listbox
+    else (if same_text name (codes "text") then Some kind.Text
+    else None))))))
 
 -- a window of a kind as it is at first
 abbrev pub first_widget : WindowKind → List ℕ → Widget
@@ -33,6 +47,8 @@ first_widget kind.Label path = widget.Caption (first_options class.Label path)
 first_widget kind.Button path = widget.Caption (first_options class.Button path)
 first_widget kind.Checkbutton path = widget.Caption (first_options class.Checkbutton path)
 first_widget kind.Entry path = widget.Entry (first_entry path)
+first_widget kind.Listbox path = widget.Listbox (first_listbox path)
+first_widget kind.Text path = widget.Text (first_lines path)
 
 -- the world with a window more
 abbrev pub added : World → List ℕ → Widget → Result World Cause

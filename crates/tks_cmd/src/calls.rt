@@ -58,11 +58,13 @@ fn err(alloc: Global, fault: &ScriptFault, limits: &Limits) -> Result<Plan, Stop
     Ok(Plan::Answer(1, text))
 }
 
-/// What a command on windows comes to: `frame`, `label`, `button`, `checkbutton`, `entry`, `destroy`, `pack`, or one of a
-/// window, whose name is its path. The first word names it; `None` where there is none of this name, and then nothing
-/// has changed. An error of the command's own leaves the world and the variables as they were. The stops are `TooLarge`,
-/// where a text, the list of windows or one of variables would pass its limit or the numbers of windows have run out, and
-/// `NoMemory`; after them nothing is said of either. The variables are those handed in: the world's own aren't looked at.
+/// What a command on windows comes to: `frame`, `label`, `button`, `checkbutton`, `entry`, `listbox`, `text`, `destroy`,
+/// `pack`, `bind`, `bindtags`, `event`, `focus`, `tk_focusNext`, `tk_focusPrev`, `after`, or one of a window, whose name is
+/// its path. The first word names it; `None` where there is none of this name, and then nothing has changed. An error of
+/// the command's own leaves the world and the variables as they were. The stops are `TooLarge`, where a text, or a list of
+/// windows, bindings, tags, virtual events, waiting events or scripts, or variables, or one that a widget or a virtual event
+/// holds, would pass its limit or numbers have run out, and `NoMemory`; after them nothing is said of either. The variables
+/// are those handed in: the world's own aren't looked at.
 pub fn command(
     alloc: Global,
     world: &mut World,

@@ -1,9 +1,10 @@
 ghost use Rattle.std.specs.Prelude.{◌≡◌};
 ghost use Rattle.tks_tcl.specs.Meets.{GivesSo};
 ghost use Rattle.tks_cmd.specs.Changes.{outcome};
-ghost use Rattle.tks_cmd.specs.Commands.{command_named, command_does};
+ghost use Rattle.tks_cmd.specs.Commands.{other_named, command_named, command_does};
 ghost use Rattle.tks_cmd.specs.Meets.{KeepsSo};
 
+use crate::event_commands::EventCommand;
 use crate::packing::run_pack;
 use crate::windows::{WindowKind, run_destroy, run_make};
 use std::alloc::Global;
@@ -20,6 +21,8 @@ pub enum Command {
     Make(WindowKind),
     Destroy,
     Pack,
+    /// One on bindings and events.
+    Events(EventCommand),
 }
 
 impl Command {
@@ -27,23 +30,26 @@ impl Command {
     pub fn named(name: &Txt) -> Option<Command>
         ensures { result ≡ command_named name.now }
     {
+        match WindowKind::named(name) {
+            Some(kind) => Some(Command::Make(kind)),
+            None => Command::other_named(name),
+        }
+    }
+
+    // The command of this name that makes no windows.
+    fn other_named(name: &Txt) -> Option<Command>
+        ensures { result ≡ other_named name.now }
+    {
         let name = name.as_bytes();
-        if name == b"frame".as_slice() {
-            Some(Command::Make(WindowKind::Frame))
-        } else if name == b"label".as_slice() {
-            Some(Command::Make(WindowKind::Label))
-        } else if name == b"button".as_slice() {
-            Some(Command::Make(WindowKind::Button))
-        } else if name == b"checkbutton".as_slice() {
-            Some(Command::Make(WindowKind::Checkbutton))
-        } else if name == b"entry".as_slice() {
-            Some(Command::Make(WindowKind::Entry))
-        } else if name == b"destroy".as_slice() {
+        if name == b"destroy".as_slice() {
             Some(Command::Destroy)
         } else if name == b"pack".as_slice() {
             Some(Command::Pack)
         } else {
-            None
+            match EventCommand::named(name) {
+                Some(command) => Some(Command::Events(command)),
+                None => None,
+            }
         }
     }
 
@@ -73,6 +79,10 @@ impl Command {
             Command::Pack => {
                 let text = run_pack(alloc, name, words, world)?;
                 Ok(Plan::Answer(0, text))
+            }
+            Command::Events(command) => {
+                let plan = command.run(alloc, name, words, world, limits)?;
+                Ok(plan)
             }
         }
     }

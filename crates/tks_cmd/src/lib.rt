@@ -1,13 +1,23 @@
-//! The commands on windows.
+//! The commands on windows, events, the focus and scripts that wait.
 #![tactic(auto)]
 
+mod after;
+mod bindings;
 mod calls;
 mod commands;
+mod contents;
+mod dispatch;
+mod event_commands;
+mod events;
+mod focus;
 mod laws;
 mod links;
 mod packing;
+mod queue;
+mod virtual_events;
 mod widgets;
 mod windows;
 
 pub use calls::command;
+pub use dispatch::begin;
 pub use laws::errors_change_nothing;

@@ -7,6 +7,7 @@ ghost use Rattle.tks_state.specs.Widget.{class_of};
 ghost use Rattle.tks_state.specs.Links.{link_of, text_of, seen, with_text};
 ghost use Rattle.tks_cmd.specs.Links.{is_lacking, global_set, made_global, told, stored, settled, configured_pair, configured, told_words, first_value, assigned_does, action_does, configure_does, called};
 
+use crate::contents::holds_within;
 use std::alloc::Global;
 use std::mem;
 use tks_button::Assignment;
@@ -124,6 +125,9 @@ fn settle(
     ensures class { class_of next.new ≡ class_of next.old }
 {
     let text = text_within(alloc, next, limits)?;
+    if !holds_within(next, limits) {
+        return Err(Interrupt::TooLarge);
+    }
     if let Some(name) = next.copied_link()? {
         *next = store(alloc, widget, next, &name, text, variables, limits)?;
     }

@@ -16,8 +16,8 @@ use tks_tcl::{Interrupt, integer_in, wrong_words};
 use tks_text::{Seq, Txt, truth_of_word};
 use tks_tree::{Tree, WindowId};
 
-// The window of a path, which must be there.
-fn window_of(world: &World, path: &Txt) -> Result<WindowId, Interrupt>
+/// The window of a path, which must be there.
+pub fn window_of(world: &World, path: &Txt) -> Result<WindowId, Interrupt>
     ensures { GivesSo (λ id. id) result (window_of world.now path.now) }
 {
     let id = world.tree().resolve(path)?;
@@ -264,8 +264,8 @@ fn truth_text(alloc: Global, is_true: bool) -> Result<Txt, AllocError>
     Txt::from_text(alloc, if is_true { b"1" } else { b"0" })
 }
 
-// Whether a word begins as paths do.
-fn begins_dot(word: &[u8]) -> bool
+/// Whether a word begins as paths do.
+pub fn begins_dot(word: &[u8]) -> bool
     ensures { result ≡ begins_dot word.now }
 {
     matches!(word, [b'.', ..])

@@ -5,7 +5,7 @@ ghost use Rattle.tks_tcl.specs.Cause.{after};
 ghost use Rattle.tks_tcl.specs.Meets.{GivesSo};
 ghost use Rattle.tks_tree.specs.Windows.{free_path};
 ghost use Rattle.tks_cmd.specs.Changes.{creation, outcome};
-ghost use Rattle.tks_cmd.specs.Windows.{are_paired, first_widget, new_widget, added, room, made, make_does, is_other, without_path, without_all, destroy_does};
+ghost use Rattle.tks_cmd.specs.Windows.{are_paired, kind_named, first_widget, new_widget, added, room, made, make_does, is_other, without_path, without_all, destroy_does};
 ghost use Rattle.tks_cmd.specs.Meets.{KeepsSo, interrupt_of};
 
 use crate::links::{configure, set_first_value};
@@ -14,6 +14,8 @@ use std::mem;
 use tks_button::{Caption, Frame};
 use tks_entry::EntryWidget;
 use tks_eval::Plan;
+use tks_lines::TextWidget;
+use tks_listbox::ListWidget;
 use tks_state::{Widget, World};
 use tks_tcl::{Interrupt, wrong_words};
 use tks_text::{Class, ErrorNumber, Limits, ScriptFault, Txt};
@@ -28,9 +30,35 @@ pub enum WindowKind {
     Button,
     Checkbutton,
     Entry,
+    Listbox,
+    Text,
 }
 
 impl WindowKind {
+    /// The kind that the command of this name makes.
+    pub fn named(name: &Txt) -> Option<WindowKind>
+        ensures { result ≡ kind_named name.now }
+    {
+        let name = name.as_bytes();
+        if name == b"frame".as_slice() {
+            Some(WindowKind::Frame)
+        } else if name == b"label".as_slice() {
+            Some(WindowKind::Label)
+        } else if name == b"button".as_slice() {
+            Some(WindowKind::Button)
+        } else if name == b"checkbutton".as_slice() {
+            Some(WindowKind::Checkbutton)
+        } else if name == b"entry".as_slice() {
+            Some(WindowKind::Entry)
+        } else if name == b"listbox".as_slice() {
+            Some(WindowKind::Listbox)
+        } else if name == b"text".as_slice() {
+            Some(WindowKind::Text)
+        } else {
+            None
+        }
+    }
+
     // A window of this kind as it is at first.
     fn first_widget(self, alloc: Global, path: &Txt) -> Result<Widget, AllocError>
         ensures { IfOk result (λ v. v ≡ first_widget self path.now) }
@@ -45,6 +73,8 @@ impl WindowKind {
                 path,
             )?)),
             WindowKind::Entry => Ok(Widget::Entry(EntryWidget::new(alloc, path)?)),
+            WindowKind::Listbox => Ok(Widget::Listbox(ListWidget::new(alloc, path)?)),
+            WindowKind::Text => Ok(Widget::Text(TextWidget::new(alloc, path)?)),
         }
     }
 
@@ -156,7 +186,7 @@ fn make(
     Ok(Plan::Answer(0, answer))
 }
 
-/// frame, label, button, checkbutton, entry: path ?option value ..? Makes a window, and answers its path.
+/// frame, label, button, checkbutton, entry, listbox, text: path ?option value ..? Makes a window, and answers its path.
 #[tactic(auto, using(tks_tcl::proofs::Causes::tells))]
 pub fn run_make(
     alloc: Global,

@@ -1,11 +1,11 @@
 -- Reading the members of a list one after the other, as a loop does.
-use Rattle.std.proofs.Common.{◌≡◌, ℕ, suc, ◌-◌, ◌+◌, ◌≤◌, ◌<◌, List, [], ◌∷◌, ◌++◌, length, get_or, Option, Some, Ok, Err, refl, sym, ap, ◌∙◌, append_assoc, arith}
+use Rattle.std.proofs.Common.{◌≡◌, ℕ, suc, ◌-◌, ◌+◌, ◌≤◌, ◌<◌, List, [], ◌∷◌, ◌++◌, length, take, drop, get_or, Option, Some, None, Ok, Err, refl, sym, ap, subst, ◌∙◌, append_assoc, arith}
 use Rattle.std.specs.List.{AllByRecursion}
-use Rattle.std.proofs.lemmas.List.{append-nil}
+use Rattle.std.proofs.lemmas.List.{append-nil, take_more, take_at, take-append-drop}
 use Rattle.tks_codec.specs.declared.unread.Unread.{Unread}
 use Rattle.tks_codec.specs.declared.unread.Unread.TheVariants as unread
 use Rattle.tks_codec.specs.Reading.{Fails}
-use Rattle.tks_codec.specs.Spelling.{Read, ◌>>=◌, Spelling, last_of, members, members_at}
+use Rattle.tks_codec.specs.Spelling.{Read, ◌>>=◌, Spelling, last_of, AreLegal, members, members_at}
 
 pub last_is : {T : Type 0} (before : Option T) (xs : List T) (x : T) → last_of before (xs ++ x ∷ []) ≡ Some x
 last_is before [] x = refl
@@ -62,3 +62,51 @@ members_more member before (y ∷ xs) x =
 pub all_more : {T : Type 0} (P : T → Type 0) (xs : List T) (x : T) → AllByRecursion P xs → P x → AllByRecursion P (xs ++ x ∷ [])
 all_more P [] x h p = (p, tt)
 all_more P (y ∷ xs) x h p = (h.0, all_more P xs x h.1 p)
+
+-- Members were put behind other bytes up to this one, and this one behind them.
+pub one_put : {T : Type 0} (member : Option T → Spelling T) (xs : List T) (i : ℕ) (x : T) (old now new : List ℕ) → i < length xs → x ≡ get_or xs i x → now ≡ old ++ members member None (take i xs) → new ≡ now ++ (member (last_of None (take i xs))).write x → new ≡ old ++ members member None (take (i + 1) xs)
+one_put member xs i x old now new lt is so_far e =
+    let more = take_more xs i x lt ∙ ap (λ y. take i xs ++ y ∷ []) (sym is) in
+    e ∙ rw (so_far, more, members_more member None (take i xs) x) (append_assoc old (members member None (take i xs)) ((member (last_of None (take i xs))).write x))
+
+-- What holds of those up to this one, and of this one.
+pub one_holds : {T : Type 0} (P : T → Type 0) (xs : List T) (i : ℕ) (x : T) → i < length xs → x ≡ get_or xs i x → AllByRecursion P (take i xs) → P x → AllByRecursion P (take (i + 1) xs)
+one_holds P xs i x lt is so_far p =
+    let more = take_more xs i x lt ∙ ap (λ y. take i xs ++ y ∷ []) (sym is) in
+    subst (AllByRecursion P) (sym more) (all_more P (take i xs) x so_far p)
+
+-- members that are spelled each by itself
+pub each_is_legal : {T : Type 0} (s : Spelling T) (before : Option T) (xs : List T) → AllByRecursion s.Legal xs → AreLegal (λ before. s) before xs
+each_is_legal s before [] h = tt
+each_is_legal s before (x ∷ xs) h = (h.0, each_is_legal s (Some x) xs h.1)
+
+-- what follows from each
+pub each_by : {T : Type 0} (P Q : T → Type 0) (xs : List T) → AllByRecursion (λ x. P x → Q x) xs → AllByRecursion P xs → AllByRecursion Q xs
+each_by P Q [] f h = tt
+each_by P Q (x ∷ xs) f h = (f.0 h.0, each_by P Q xs f.1 h.1)
+
+-- ---- a loop over what an iterator has still to give
+
+any_before : {T : Type 0} (s : Spelling T) (a b : Option T) (xs : List T) → members (λ before. s) a xs ≡ members (λ before. s) b xs
+any_before s a b [] = refl
+any_before s a b (x ∷ xs) = refl
+
+-- one member more was put behind those before it
+pub one_given : {T : Type 0} (s : Spelling T) (out new total : List ℕ) (xs : List T) (x : T) (rest : List T) → xs ≡ x ∷ rest → new ≡ out ++ s.write x → out ++ members (λ before. s) None xs ≡ total → new ++ members (λ before. s) None rest ≡ total
+one_given s out new total xs x rest is put so_far =
+    ap (λ (w : List ℕ). w ++ members (λ before. s) None rest) put
+    ∙ append_assoc out (s.write x) (members (λ before. s) None rest)
+    ∙ ap (λ (w : List ℕ). out ++ (s.write x ++ w)) (any_before s None (Some x) rest)
+    ∙ ap (λ ys. out ++ members (λ before. s) None ys) (sym is)
+    ∙ so_far
+
+-- what stood at the front stays there
+pub stays_there : (old out more new : List ℕ) → take (length old) out ≡ old → new ≡ out ++ more → take (length old) new ≡ old
+stays_there old out more new there put =
+    let whole : out ≡ old ++ drop (length old) out = sym (take-append-drop (length old) out) ∙ ap (λ (w : List ℕ). w ++ drop (length old) out) there in
+    ap (take (length old)) (put ∙ ap (λ (w : List ℕ). w ++ more) whole ∙ append_assoc old (drop (length old) out) more) ∙ take_at old (drop (length old) out ++ more) (length old) refl
+
+-- where nothing is asked of them
+pub nothing_asked : {T : Type 0} (xs : List T) → AllByRecursion (λ x. Unit {0}) xs
+nothing_asked [] = tt
+nothing_asked (x ∷ xs) = (tt, nothing_asked xs)

@@ -1,8 +1,11 @@
 -- Adding bytes piece by piece.
-use Rattle.std.proofs.Common.{◌≡◌, ℕ, List, ◌++◌, length, take, Result, Ok, Err, refl, sym, ap, subst, ◌∙◌, append_assoc, arith}
+use Rattle.std.proofs.Common.{◌≡◌, ℕ, List, [], ◌∷◌, ◌++◌, length, take, Result, Ok, Err, refl, sym, ap, subst, ◌∙◌, append_assoc, true≢false, arith}
 use Rattle.std.proofs.lemmas.List.{take_all, take_at, take-take, length-append}
 use Rattle.std.specs.declared.alloc.AllocError.{AllocError}
-use Rattle.tks_codec.specs.Writing.{PutsSo}
+use Rattle.std.specs.Prelude.{OnOk}
+use Rattle.std.specs.Result.{IsErr, IsErrAnd}
+use Rattle.std.proofs.lemmas.Result.{err_from_is_err_and}
+use Rattle.tks_codec.specs.Writing.{PutsSo, joined}
 
 -- nothing was added
 pub all_there : (old new : List ℕ) → new ≡ old → take (length old) new ≡ old
@@ -33,3 +36,58 @@ four_pieces old a b c d = append_assoc ((old ++ a) ++ b) c d ∙ three_pieces ol
 pub five_pieces : (old a b c d e : List ℕ) → ((((old ++ a) ++ b) ++ c) ++ d) ++ e ≡ old ++ (a ++ ((b ++ c) ++ (d ++ e)))
 five_pieces old a b c d e =
     append_assoc (((old ++ a) ++ b) ++ c) d e ∙ four_pieces old a b c (d ++ e) ∙ ap (λ (x : List ℕ). old ++ (a ++ x)) (sym (append_assoc b c (d ++ e)))
+
+-- ---- pieces of which each is put by a call, as `joined` has them
+
+module _ (r : Result (Unit {0}) AllocError) (old new xs : List ℕ) where
+  -- the exit of a `?` returns the error as it is
+  pub exit : (e : AllocError) → IsErrAnd r (λ f. f ≡ e) → PutsSo (Err e) old new xs → PutsSo r old new xs
+  exit e is puts = let p = err_from_is_err_and r is in rw p.1 puts
+
+  -- a call that was refused is refused whatever was to follow
+  refused : (ys : List ℕ) → IsErr r → PutsSo r old new xs → PutsSo r old new ys
+  refused ys failed puts = refused_so r failed puts
+    where
+      refused_so : (q : Result (Unit {0}) AllocError) → IsErr q → PutsSo q old new xs → PutsSo q old new ys
+      refused_so (Ok done) failed puts = absurd (true≢false (sym failed))
+      refused_so (Err e) failed puts = puts
+
+  pub joined_longer : (more : List ℕ) (pieces : List (List ℕ)) → IsErr r → PutsSo r old new xs → PutsSo r old new (joined (xs ∷ more ∷ pieces))
+  joined_longer more pieces failed puts = refused (joined (xs ∷ more ∷ pieces)) failed puts
+
+  pub joined_last : PutsSo r old new xs → PutsSo r old new (joined (xs ∷ []))
+  unfolding joined
+  joined_last puts = puts
+
+module _ (old mid new xs more : List ℕ) (pieces : List (List ℕ)) where
+  pub joined_then : (r : Result (Unit {0}) AllocError) → mid ≡ old ++ xs → PutsSo r mid new (joined (more ∷ pieces)) → PutsSo r old new (joined (xs ∷ more ∷ pieces))
+  unfolding joined
+  joined_then r first rest = put_behind r old xs mid (joined (more ∷ pieces)) new first rest
+
+  pub joined_then_ok : mid ≡ old ++ xs → new ≡ mid ++ joined (more ∷ pieces) → new ≡ old ++ joined (xs ∷ more ∷ pieces)
+  unfolding joined
+  joined_then_ok first rest = rest ∙ ap (λ (x : List ℕ). x ++ joined (more ∷ pieces)) first ∙ append_assoc old xs (joined (more ∷ pieces))
+
+pub joined_last_ok : (old new xs : List ℕ) → new ≡ old ++ xs → new ≡ old ++ joined (xs ∷ [])
+unfolding joined
+joined_last_ok old new xs e = e
+
+-- what proves any sequence of `put_..(..)?` that ends in such a call, where the clause reads `joined (xs ∷ ys ∷ zs ∷ [])`
+pub ruleset joined_puts = (joined_then, joined_then_ok, joined_longer, joined_last, joined_last_ok, exit)
+
+-- ---- by hand
+
+-- more pieces behind others
+pub joined_both : (x : List ℕ) (xs : List (List ℕ)) (y : List ℕ) (ys : List (List ℕ)) → joined ((x ∷ xs) ++ (y ∷ ys)) ≡ joined (x ∷ xs) ++ joined (y ∷ ys)
+unfolding joined
+joined_both x [] y ys = refl
+joined_both x (z ∷ xs) y ys = ap (λ (w : List ℕ). x ++ w) (joined_both z xs y ys) ∙ sym (append_assoc x (joined (z ∷ xs)) (joined (y ∷ ys)))
+
+-- what follows where all was put
+pub where_put : {P Q : Type 0} (r : Result (Unit {0}) AllocError) → (P → Q) → OnOk r P → OnOk r Q
+where_put (Ok done) f p = f p
+where_put (Err e) f p = tt
+
+pub anyway : {P : Type 0} (r : Result (Unit {0}) AllocError) → P → OnOk r P
+anyway (Ok done) p = p
+anyway (Err e) p = tt

@@ -6,11 +6,12 @@ mod header;
 mod input;
 mod laws;
 mod names;
-mod reading;
+pub mod reading;
 mod unread;
-mod writing;
+pub mod writing;
 
 pub use fault::CodecFault;
 pub use header::{Header, read_header, write_header};
 pub use input::{has_spelling, read_input, write_input};
 pub use laws::{one_header, one_input, two_inputs};
+pub use unread::Unread;

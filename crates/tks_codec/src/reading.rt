@@ -4,7 +4,7 @@ ghost use Rattle.std.specs.Prelude.{◌≡◌, ◌≤◌, length};
 ghost use Rattle.std.specs.Int.{w16, w32, w64};
 ghost use Rattle.std.specs.List.{prefix_len};
 ghost use Rattle.tks_text.specs.Text.{is_text_byte};
-ghost use Rattle.tks_codec.specs.Spelling.{byte_at, number_at, letters_at, text};
+ghost use Rattle.tks_codec.specs.Spelling.{byte, byte_at, number_at, letters_at, text, such_that, is_flag, flag_of, flag, signed};
 ghost use Rattle.tks_codec.specs.Reading.{Gives};
 
 use crate::unread::Unread;
@@ -60,6 +60,34 @@ pub fn u64_of(bytes: &[u8]) -> Result<(u64, &[u8]), Unread>
         front[0], front[1], front[2], front[3], front[4], front[5], front[6], front[7],
     ]);
     Ok((number, rest))
+}
+
+/// An integer of eight bytes.
+pub fn i64_of(bytes: &[u8]) -> Result<(i64, &[u8]), Unread>
+    ensures { Gives (λ x. (x.0, x.1.now)) result ((signed w64).read bytes.now) }
+{
+    let (bits, rest) = u64_of(bytes)?;
+    Ok((bits.cast_signed(), rest))
+}
+
+/// Whether a value that may be there is there: the byte in front of it, 0 or 1.
+pub fn presence_of(bytes: &[u8]) -> Result<(bool, &[u8]), Unread>
+    ensures { Gives (λ x. (flag_of x.0, x.1.now)) result ((such_that is_flag byte).read bytes.now) }
+{
+    let (byte, rest) = u8_of(bytes)?;
+    match byte {
+        0 => Ok((false, rest)),
+        1 => Ok((true, rest)),
+        _ => Err(Unread::Left(rest.len() + 1)),
+    }
+}
+
+/// A truth value.
+pub fn flag_of(bytes: &[u8]) -> Result<(bool, &[u8]), Unread>
+    ensures { Gives (λ x. (x.0, x.1.now)) result (flag.read bytes.now) }
+{
+    let (value, rest) = presence_of(bytes)?;
+    Ok((value, rest))
 }
 
 // How many bytes at the front may stand in a text.

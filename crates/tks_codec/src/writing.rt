@@ -3,6 +3,7 @@
 ghost use Rattle.std.specs.Prelude.{◌≡◌, ◌<◌, ◌^◌, ◌++◌, ◌∷◌, [], length, OnOk};
 ghost use Rattle.std.specs.Int.{w16, w32, w64, to_be_bytes};
 ghost use Rattle.tks_text.specs.Text.{IsText};
+ghost use Rattle.tks_codec.specs.Spelling.{flag_of, flag, signed};
 ghost use Rattle.tks_codec.specs.Writing.{PutsSo};
 
 use std::alloc::AllocError;
@@ -46,6 +47,30 @@ pub fn put_u64(out: &mut Vec<u8>, number: u64) -> Result<(), AllocError>
     ensures { PutsSo result out.old.items out.new.items (to_be_bytes w64 number) }
 {
     put(out, &number.to_be_bytes())?;
+    Ok(())
+}
+
+/// Adds an integer of eight bytes.
+pub fn put_i64(out: &mut Vec<u8>, number: i64) -> Result<(), AllocError>
+    ensures { PutsSo result out.old.items out.new.items ((signed w64).write number) }
+{
+    put_u64(out, number.cast_unsigned())?;
+    Ok(())
+}
+
+/// Adds whether a value that may be there is there, the byte in front of it.
+pub fn put_presence(out: &mut Vec<u8>, is_there: bool) -> Result<(), AllocError>
+    ensures { PutsSo result out.old.items out.new.items (flag_of is_there ∷ []) }
+{
+    put_u8(out, if is_there { 1 } else { 0 })?;
+    Ok(())
+}
+
+/// Adds a truth value.
+pub fn put_flag(out: &mut Vec<u8>, value: bool) -> Result<(), AllocError>
+    ensures { PutsSo result out.old.items out.new.items (flag.write value) }
+{
+    put_presence(out, value)?;
     Ok(())
 }
 

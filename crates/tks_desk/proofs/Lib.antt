@@ -2,4 +2,8 @@ pub mod Lines
 pub mod Loads
 pub mod Writes
 pub mod Asked
+pub mod Numbers
 pub mod Talks
+pub mod Parts
+pub mod Turns
+pub mod Drained

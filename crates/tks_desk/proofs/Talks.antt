@@ -1,19 +1,22 @@
 -- Turns of a run, one after another.
-use Rattle.std.proofs.Common.{◌≡◌, ℕ, Bool, true, false, List, [], ◌∷◌, ◌++◌, Option, Some, None, IfSome, Result, Ok, Err, refl, sym, ap, ◌∙◌, subst, append_assoc, append-nil}
+use Rattle.std.proofs.Common.{◌≡◌, ℕ, Bool, true, false, cond, List, [], ◌∷◌, ◌++◌, Option, Some, None, IfSome, Result, Ok, Err, refl, sym, ap, ◌∙◌, subst, append_assoc, append-nil}
 use Rattle.std.specs.Io.KnownBytes.{Appends}
-use Rattle.tks_text.specs.Limits.{format1}
 use Rattle.tks_state.specs.World.{World}
-use Rattle.tks_world.specs.Step.{Accepts, Refuses, step}
-use Rattle.tks_world.specs.Meets.{RefusedSo}
+use Rattle.tks_session.specs.Machine.{Meaning, accepts, refuses}
+use Rattle.tks_session.specs.Refusing.{PostRefused, Tried}
+use Rattle.tks_session.specs.Session.{SessionState, CommitFails, committed, is_full_at}
+use Rattle.tks_session.specs.declared.fault.SessionFault.{SessionFault}
+use Rattle.tks_session.specs.declared.fault.SessionFault.TheVariants as session
 use Rattle.tks_input.specs.declared.input.Input.{Input}
 use Rattle.tks_input.specs.declared.reply.Reply.{Reply}
 use Rattle.tks_input.specs.declared.reply.Refused.{Refused}
 use Rattle.tks_input.specs.declared.reply.Refused.TheVariants.{BadInput, ClockBack, PendingFull, Budget, Depth, TooLarge, NoMemory, Quiet, Failed}
+use Rattle.tks_desk.specs.Reading.{InReading}
 use Rattle.tks_desk.specs.Writing.{WritesSo, AppendsFront}
 use Rattle.tks_desk.specs.Requests.{requests_of, ReadsRequest}
-use Rattle.tks_desk.specs.Answers.{Granted, Withheld, Talk, said, answered, talk, bad_line, bye, reply_line, refusal_line, quits, answers_of, SoFar, Answers, CutOff, WrittenUpTo, resumed, screen_lines, memory_line, AnswersRequest, TurnsSo}
+use Rattle.tks_desk.specs.Answers.{Granted, Withheld, Standing, standing, posted, stored, Talk, said, tried, answered, talk, bad_line, bye, reply_line, refusal_line, committed_line, quits, end_by, answers_of, SoFar, Answers, CutOff, WrittenUpTo, resumed, behind, screen_lines, faults_lines, memory_line, Memory, Answered, AnswersSo, RefusalSo, TurnsSo}
 use Rattle.tks_desk.specs.declared.request.Request.{Request}
-use Rattle.tks_desk.specs.declared.request.Request.TheVariants.{Post, Screen, Quit, Bad}
+use Rattle.tks_desk.specs.declared.request.Request.TheVariants.{Post, Unfit, Drain, Screen, Faults, Commit, Quit, Bad}
 use Rattle.tks_desk.specs.declared.ending.RunEnd.{RunEnd}
 use Rattle.tks_desk.specs.declared.ending.RunEnd.TheVariants as end
 use Rattle.tks_desk.specs.declared.ending.RunFault.{RunFault}
@@ -22,13 +25,15 @@ use Rattle.tks_desk.proofs.Writes.{then}
 
 -- ---- answers one after the other
 
-abbrev written_talk : List ℕ → World → Bool → Talk
-written_talk written world has_quit = record { written = written; world = world; has_quit = has_quit }
+abbrev a_talk : List ℕ → List Input → Standing → Bool → Talk
+a_talk written accepted left has_quit = record { written = written; accepted = accepted; left = left; has_quit = has_quit }
 
-said-said : (a b : List ℕ) (t : Talk) → said a (said b t) ≡ said (a ++ b) t
-said-said a b t = ap (λ w. written_talk w t.world t.has_quit) (sym (append_assoc a b t.written))
+pub said-said : (a b : List ℕ) (x y : List Input) (t : Talk) → said a x (said b y t) ≡ said (a ++ b) (x ++ y) t
+said-said a b x y t =
+    ap (λ w. a_talk w (x ++ (y ++ t.accepted)) t.left t.has_quit) (sym (append_assoc a b t.written))
+    ∙ ap (λ i. a_talk ((a ++ b) ++ t.written) i t.left t.has_quit) (sym (append_assoc x y t.accepted))
 
-appends_nothing : (a : Option (List ℕ)) → Appends a a []
+pub appends_nothing : (a : Option (List ℕ)) → Appends a a []
 appends_nothing None = tt
 appends_nothing (Some xs) = sym (append-nil xs)
 
@@ -42,192 +47,299 @@ up_to_then : (why : RunFault) (a b c : Option (List ℕ)) (xs ys : List ℕ) →
 up_to_then fault.Write a b c xs ys p q = front_then a b c xs ys p q
 up_to_then fault.Read a b c xs ys p q = appends_then a b c xs ys p q
 up_to_then fault.Memory a b c xs ys p q = appends_then a b c xs ys p q
+up_to_then (fault.Session why) a b c xs ys p q = appends_then a b c xs ys p q
 
--- a write that failed leaves a front
-failed_up_to : (why : RunFault) (a b : Option (List ℕ)) (xs : List ℕ) → WritesSo (Err why) a b xs → WrittenUpTo why a b xs
-failed_up_to why a b xs h = subst (λ w. WrittenUpTo w a b xs) (sym h.0) h.1
+-- ---- one answer
 
--- ---- an input
+module _ (meaning : Meaning World) where
+  -- what was written is an answer
+  pub answers_so : (result : Result (Unit {0}) RunFault) (request : Request) (accepted : List Input) (old new : Standing) (before after : Option (List ℕ))
+      → Answered meaning result request accepted old new before after → AnswersSo meaning result request accepted old new before after
+  answers_so (Ok done) request accepted old new before after is = is
+  answers_so (Err fault.Write) request accepted old new before after is = is
+  answers_so (Err fault.Read) request accepted old new before after is = absurd (not_write is.writes.0)
+    where
+      not_write : fault.Read ≡ fault.Write → ⊥
+      not_write e = absurd cc
+  answers_so (Err fault.Memory) request accepted old new before after is = absurd (not_write is.writes.0)
+    where
+      not_write : fault.Memory ≡ fault.Write → ⊥
+      not_write e = absurd cc
+  answers_so (Err (fault.Session why)) request accepted old new before after is = absurd (not_write is.writes.0)
+    where
+      not_write : fault.Session why ≡ fault.Write → ⊥
+      not_write e = absurd cc
 
-pub input_accepted : (result : Result (Unit {0}) RunFault) (input : Input) (old new : World) (before after : Option (List ℕ)) (reply : Reply)
-    → step old input format1 ≡ Accepts new reply → WritesSo result before after (reply_line reply) → AnswersRequest result (Post input) old new before after
-input_accepted result input old new before after reply is writes = record {
-  memory = Granted ∷ [];
-  answer = reply_line reply;
-  goes = λ rest later. ap (λ s. answered s old (talk rest later)) is;
-  writes = writes;
-}
+  module _ (result : Result (Unit {0}) RunFault) (old : Standing) (before after : Option (List ℕ)) where
+    pub quit_answered : WritesSo result before after bye → AnswersSo meaning result Quit [] old old before after
+    quit_answered writes = answers_so result Quit [] old old before after (record { memory = []; answer = bye; goes = λ rest later. refl; writes = writes })
 
-refused_so : (result : Result (Unit {0}) RunFault) (input : Input) (old new : World) (before after : Option (List ℕ)) (why : Refused)
-    → step old input format1 ≡ Refuses why → new ≡ old → WritesSo result before after (refusal_line why) → AnswersRequest result (Post input) old new before after
-refused_so result input old new before after why is same writes = record {
-  memory = Granted ∷ [];
-  answer = refusal_line why;
-  goes = λ rest later. ap (λ s. answered s old (talk rest later)) is ∙ ap (λ w. said (refusal_line why) (talk rest later w)) (sym same);
-  writes = writes;
-}
+    pub bad_answered : WritesSo result before after bad_line → AnswersSo meaning result Bad [] old old before after
+    bad_answered writes = answers_so result Bad [] old old before after (record { memory = []; answer = bad_line; goes = λ rest later. refl; writes = writes })
 
-pub input_refused : (result : Result (Unit {0}) RunFault) (input : Input) (old new : World) (before after : Option (List ℕ)) (why : Refused)
-    → RefusedSo why (step old input format1) → new ≡ old → WritesSo result before after (refusal_line why) → AnswersRequest result (Post input) old new before after
-input_refused result input old new before after BadInput is same writes = refused_so result input old new before after BadInput is same writes
-input_refused result input old new before after Budget is same writes = refused_so result input old new before after Budget is same writes
-input_refused result input old new before after Depth is same writes = refused_so result input old new before after Depth is same writes
-input_refused result input old new before after TooLarge is same writes = refused_so result input old new before after TooLarge is same writes
-input_refused result input old new before after ClockBack is same writes = refused_so result input old new before after ClockBack is same writes
-input_refused result input old new before after Quiet is same writes = refused_so result input old new before after Quiet is same writes
-input_refused result input old new before after PendingFull is same writes = absurd is
-input_refused result input old new before after Failed is same writes = absurd is
-input_refused result input old new before after NoMemory is same writes = record {
-  memory = Withheld ∷ [];
-  answer = refusal_line NoMemory;
-  goes = λ rest later. ap (λ w. said (refusal_line NoMemory) (talk rest later w)) (sym same);
-  writes = writes;
-}
+    pub unfit_answered : WritesSo result before after (refusal_line BadInput) → AnswersSo meaning result Unfit [] old old before after
+    unfit_answered writes = answers_so result Unfit [] old old before after (record { memory = []; answer = refusal_line BadInput; goes = λ rest later. refl; writes = writes })
 
--- ---- the screen
+    pub faults_answered : WritesSo result before after (faults_lines old.world.faults) → AnswersSo meaning result Faults [] old old before after
+    faults_answered writes = answers_so result Faults [] old old before after (record { memory = []; answer = faults_lines old.world.faults; goes = λ rest later. refl; writes = writes })
 
-pub screen_shown : (result : Result (Unit {0}) RunFault) (world : World) (before after : Option (List ℕ))
-    → WritesSo result before after (screen_lines world) → AnswersRequest result Screen world world before after
-screen_shown result world before after writes = record {
-  memory = Granted ∷ [];
-  answer = screen_lines world;
-  goes = λ rest later. refl;
-  writes = writes;
-}
+    pub screen_shown : WritesSo result before after (screen_lines old.world) → Answered meaning result Screen [] old old before after
+    screen_shown writes = record { memory = Granted ∷ []; answer = screen_lines old.world; goes = λ rest later. refl; writes = writes }
 
-pub screen_not_shown : (result : Result (Unit {0}) RunFault) (world : World) (before after : Option (List ℕ))
-    → WritesSo result before after memory_line → AnswersRequest result Screen world world before after
-screen_not_shown result world before after writes = record {
-  memory = Withheld ∷ [];
-  answer = memory_line;
-  goes = λ rest later. refl;
-  writes = writes;
-}
+    pub screen_not_shown : WritesSo result before after memory_line → Answered meaning result Screen [] old old before after
+    screen_not_shown writes = record { memory = Withheld ∷ []; answer = memory_line; goes = λ rest later. refl; writes = writes }
+
+    committed_answered : WritesSo result before after (committed_line (meaning.count old.world)) → AnswersSo meaning result Commit [] old (stored old) before after
+    committed_answered writes = answers_so result Commit [] old (stored old) before after (record { memory = []; answer = committed_line (meaning.count old.world); goes = λ rest later. refl; writes = writes })
+
+    accepted_answered : (input : Input) (new : World) (reply : Reply) → tried meaning old input ≡ accepts new reply → WritesSo result before after (reply_line reply)
+        → AnswersSo meaning result (Post input) (input ∷ []) old (posted old input new) before after
+    accepted_answered input new reply is writes = answers_so result (Post input) (input ∷ []) old (posted old input new) before after (record {
+      memory = Granted ∷ [];
+      answer = reply_line reply;
+      goes = λ rest later. ap (λ s. answered meaning input s old (talk meaning rest later)) is;
+      writes = writes;
+    })
+
+    refused_answered : (input : Input) (why : Refused) → tried meaning old input ≡ refuses why → WritesSo result before after (refusal_line why)
+        → AnswersSo meaning result (Post input) [] old old before after
+    refused_answered input why is writes = answers_so result (Post input) [] old old before after (record {
+      memory = Granted ∷ [];
+      answer = refusal_line why;
+      goes = λ rest later. ap (λ s. answered meaning input s old (talk meaning rest later)) is;
+      writes = writes;
+    })
+
+    withheld_answered : (input : Input) → WritesSo result before after (refusal_line NoMemory) → AnswersSo meaning result (Post input) [] old old before after
+    withheld_answered input writes = answers_so result (Post input) [] old old before after (record {
+      memory = Withheld ∷ [];
+      answer = refusal_line NoMemory;
+      goes = λ rest later. refl;
+      writes = writes;
+    })
+
+  -- no answer, since the session failed
+  not_answered : (why : SessionFault) (request : Request) (st : Standing) (before after : Option (List ℕ)) → after ≡ before
+      → AnswersSo meaning (Err (fault.Session why)) request [] st st before after
+  not_answered why request st before after same = record { none = refl; same = refl; nothing = subst (λ a. Appends before a []) (sym same) (appends_nothing before) }
+
+module _ {D M : Type 0} (meaning_of : M → Meaning World) (old new : SessionState D M World) (input : Input) where
+  abbrev own : Meaning World
+  own = (meaning_of old.machine)
+
+  room_tried : is_full_at own.pending old.journal.gate old.waiting input ≡ false → tried own (standing old) input ≡ own.step old.world input
+  room_tried room = ap (λ b. cond b (refuses PendingFull) (own.step old.world input)) room
+
+  pub accepted_tried : (reply : Reply) → own.step old.world input ≡ accepts new.world reply
+      → is_full_at own.pending old.journal.gate old.waiting input ≡ false → tried own (standing old) input ≡ accepts new.world reply
+  accepted_tried reply is room = room_tried room ∙ is
+
+  pub refused_tried : (why : Refused) → Tried own old input why → tried own (standing old) input ≡ refuses why
+  refused_tried why is = room_tried is.room ∙ is.refused
+
+  pub full_tried : is_full_at own.pending old.journal.gate old.waiting input ≡ true → tried own (standing old) input ≡ refuses PendingFull
+  full_tried full = ap (λ b. cond b (refuses PendingFull) (own.step old.world input)) full
+
+  module _ (result : Result (Unit {0}) RunFault) (before after : Option (List ℕ)) where
+    pub input_accepted : (reply : Reply) → own.step old.world input ≡ accepts new.world reply
+        → is_full_at own.pending old.journal.gate old.waiting input ≡ false → new ≡ record old { world = new.world; waiting = old.waiting ++ input ∷ [] }
+        → WritesSo result before after (reply_line reply) → AnswersSo own result (Post input) (input ∷ []) (standing old) (standing new) before after
+    input_accepted reply is room so writes =
+        subst (λ st. AnswersSo own result (Post input) (input ∷ []) (standing old) st before after) (sym (ap standing so))
+        (accepted_answered own result (standing old) before after input new.world reply (accepted_tried reply is room) writes)
+
+    stepped_refused : (why : Refused) → Tried own old input why → WritesSo result before after (refusal_line why)
+        → AnswersSo own result (Post input) [] (standing old) (standing old) before after
+    stepped_refused why is writes = refused_answered own result (standing old) before after input why (refused_tried why is) writes
+
+    refused_so : (why : Refused) → PostRefused own old input why → RefusalSo why result before after
+        → AnswersSo own result (Post input) [] (standing old) (standing old) before after
+    refused_so Failed is writes = subst (λ r. AnswersSo own r (Post input) [] (standing old) (standing old) before after) (sym writes.0) (not_answered own session.Failed (Post input) (standing old) before after writes.1)
+    refused_so PendingFull is writes = refused_answered own result (standing old) before after input PendingFull (full_tried is.1) writes
+    refused_so NoMemory is writes = withheld_answered own result (standing old) before after input writes
+    refused_so BadInput is writes = stepped_refused BadInput is writes
+    refused_so ClockBack is writes = stepped_refused ClockBack is writes
+    refused_so Budget is writes = stepped_refused Budget is writes
+    refused_so Depth is writes = stepped_refused Depth is writes
+    refused_so TooLarge is writes = stepped_refused TooLarge is writes
+    refused_so Quiet is writes = stepped_refused Quiet is writes
+
+    pub input_refused : (why : Refused) → PostRefused own old input why → new ≡ old → RefusalSo why result before after
+        → AnswersSo own result (Post input) [] (standing old) (standing new) before after
+    input_refused why is same writes =
+        subst (λ s. AnswersSo own result (Post input) [] (standing old) (standing s) before after) (sym same) (refused_so why is writes)
+
+module _ {D M : Type 0} (meaning_of : M → Meaning World) (old new : SessionState D M World) (before after : Option (List ℕ)) where
+  pub commit_answered : (result : Result (Unit {0}) RunFault) (count : ℕ) → count ≡ (meaning_of old.machine).count old.world
+      → new ≡ record old { journal = committed old.journal new.journal.disk old.waiting; waiting = []; acknowledged = count }
+      → WritesSo result before after (committed_line count) → AnswersSo (meaning_of old.machine) result Commit [] (standing old) (standing new) before after
+  commit_answered result count is so writes =
+      subst (λ st. AnswersSo (meaning_of old.machine) result Commit [] (standing old) st before after) (sym (ap standing so))
+      (committed_answered (meaning_of old.machine) result (standing old) before after (subst (λ n. WritesSo result before after (committed_line n)) is writes))
+
+  pub commit_unanswered : (why : SessionFault) (m n : ℕ) → CommitFails old new m n why → after ≡ before
+      → AnswersSo (meaning_of old.machine) (Err (fault.Session why)) Commit [] (standing old) (standing new) before after
+  commit_unanswered session.Failed m n is same =
+      subst (λ s. AnswersSo (meaning_of old.machine) (Err (fault.Session session.Failed)) Commit [] (standing old) (standing s) before after) (sym is.1)
+      (not_answered (meaning_of old.machine) session.Failed Commit (standing old) before after same)
+  commit_unanswered session.Disk m n is same =
+      subst (λ st. AnswersSo (meaning_of old.machine) (Err (fault.Session session.Disk)) Commit [] (standing old) st before after) (sym (ap standing is.1))
+      (not_answered (meaning_of old.machine) session.Disk Commit (standing old) before after same)
+  commit_unanswered session.TooLarge m n is same = absurd is
+  commit_unanswered session.NoMemory m n is same = absurd is
+  commit_unanswered session.Damaged m n is same = absurd is
+  commit_unanswered session.OtherCommands m n is same = absurd is
+  commit_unanswered session.OtherGrid m n is same = absurd is
+  commit_unanswered session.SmallerLimits m n is same = absurd is
+  commit_unanswered session.Version m n is same = absurd is
 
 -- ---- one line
 
-module _ (input : List ℕ) (left : Option (List ℕ)) (old : World) (before after : Option (List ℕ)) where
+module _ (meaning : Meaning World) (input : List ℕ) (left : Option (List ℕ)) (old : Standing) (before : Option (List ℕ)) where
   -- reading failed
-  pub not_read : (why : RunFault) → (why ≡ fault.Write → ⊥) → before ≡ after → CutOff input old old before after why
-  not_read fault.Read h same = record { rest = Some (requests_of input); memory = []; answers = []; whole = λ later. refl; written = subst (λ a. Appends before a []) same (appends_nothing before) }
-  not_read fault.Memory h same = record { rest = Some (requests_of input); memory = []; answers = []; whole = λ later. refl; written = subst (λ a. Appends before a []) same (appends_nothing before) }
-  not_read fault.Write h same = absurd (h refl)
+  pub not_read : (why : RunFault) → InReading why → CutOff meaning input [] old old before before why
+  not_read fault.Read h = record { rest = Some (requests_of input); memory = []; answers = []; whole = λ later. refl; written = appends_nothing before }
+  not_read fault.Memory h = record { rest = Some (requests_of input); memory = []; answers = []; whole = λ later. refl; written = appends_nothing before }
+  not_read fault.Write h = absurd h
+  not_read (fault.Session why) h = absurd h
 
   -- nothing was left to read
-  pub nothing_left : before ≡ after → requests_of input ≡ [] → Answers input old old before after end.EndOfInput
-  nothing_left same none = record {
+  pub nothing_left : requests_of input ≡ [] → Answers meaning input [] old old before before end.EndOfInput
+  nothing_left none = record {
     memory = [];
-    whole = ap (λ rs. talk rs [] old) none ∙ ap (λ w. written_talk w old false) (ap (λ rs. (talk rs [] old).written) (sym none));
-    written = subst (λ w. Appends before after w) (ap (λ rs. (talk rs [] old).written) (sym none)) (subst (λ a. Appends before a []) same (appends_nothing before));
+    whole = ap (λ rs. talk meaning rs [] old) none ∙ ap (λ w. a_talk w [] old false) (ap (λ rs. (talk meaning rs [] old).written) (sym none));
+    written = subst (λ w. Appends before before w) (ap (λ rs. (talk meaning rs [] old).written) (sym none)) (appends_nothing before);
   }
 
-  -- a line that asks for nothing
-  pub bad_answered : ReadsRequest input (Some Bad) left → Appends before after bad_line → SoFar input left old old before after
-  bad_answered reads wrote = record {
-    rest = reads.0;
-    is = reads.1;
-    memory = [];
-    answers = bad_line;
-    whole = λ later. ap (λ rs. talk rs later old) reads.2;
-    written = wrote;
-  }
+  module _ (new : Standing) (after : Option (List ℕ)) (accepted : List Input) where
+    -- a request that doesn't end the run
+    goes_on : (request : Request) → ((rest : List Request) (later : List Memory) (st : Standing) → behind meaning request rest later st ≡ talk meaning rest later st)
+        → ReadsRequest input (Some request) left → Answered meaning (Ok tt) request accepted old new before after → SoFar meaning input left accepted old new before after
+    goes_on request on reads is = record {
+      rest = reads.0;
+      is = reads.1;
+      memory = is.memory;
+      answers = is.answer;
+      whole = λ later. ap (λ rs. talk meaning rs (is.memory ++ later) old) reads.2 ∙ is.goes (requests_of reads.0) later ∙ ap (said is.answer accepted) (on (requests_of reads.0) later new);
+      written = is.writes;
+    }
 
-  pub bad_cut_off : (why : RunFault) → ReadsRequest input (Some Bad) left → WritesSo (Err why) before after bad_line → CutOff input old old before after why
-  bad_cut_off why reads wrote = record {
-    rest = Some (requests_of reads.0);
-    memory = [];
-    answers = bad_line;
-    whole = λ later. ap (λ rs. talk rs later old) reads.2;
-    written = failed_up_to why before after bad_line wrote;
-  }
+    -- `quit`
+    quits_so : ReadsRequest input (Some Quit) left → Answered meaning (Ok tt) Quit accepted old new before after → Answers meaning input accepted old new before after end.Quit
+    quits_so reads is =
+        let whole : talk meaning (requests_of input) (is.memory ++ []) old ≡ a_talk (is.answer ++ []) (accepted ++ []) new true =
+        ap (λ rs. talk meaning rs (is.memory ++ []) old) reads.2 ∙ is.goes (requests_of reads.0) [] in
+        let text : answers_of meaning input (is.memory ++ []) old ≡ is.answer = ap (λ (t : Talk). t.written) whole ∙ append-nil is.answer in
+        record {
+          memory = is.memory ++ [];
+          whole = whole ∙ ap (λ w. a_talk w (accepted ++ []) new true) (sym (ap (λ (t : Talk). t.written) whole)) ∙ ap (λ i. a_talk (answers_of meaning input (is.memory ++ []) old) i new true) (append-nil accepted);
+          written = subst (λ w. Appends before after w) (sym text) is.writes;
+        }
 
-  -- the line `quit`
-  pub quit_answered : ReadsRequest input (Some Quit) left → Appends before after bye → Answers input old old before after end.Quit
-  quit_answered reads wrote = record {
-    memory = [];
-    whole = ap (λ rs. talk rs [] old) reads.2 ∙ ap (λ w. written_talk w old true) (sym (ap (λ rs. (talk rs [] old).written) reads.2 ∙ append-nil bye));
-    written = subst (λ w. Appends before after w) (sym (ap (λ rs. (talk rs [] old).written) reads.2 ∙ append-nil bye)) wrote;
-  }
+    -- a request is answered
+    pub turned_so : (request : Request) → ReadsRequest input (Some request) left → AnswersSo meaning (Ok tt) request accepted old new before after
+        → TurnsSo meaning (Ok (end_by request)) input left accepted old new before after
+    turned_so Quit reads is = quits_so reads is
+    turned_so Bad reads is = goes_on Bad (λ rest later st. refl) reads is
+    turned_so Unfit reads is = goes_on Unfit (λ rest later st. refl) reads is
+    turned_so (Drain turns) reads is = goes_on (Drain turns) (λ rest later st. refl) reads is
+    turned_so Screen reads is = goes_on Screen (λ rest later st. refl) reads is
+    turned_so Faults reads is = goes_on Faults (λ rest later st. refl) reads is
+    turned_so Commit reads is = goes_on Commit (λ rest later st. refl) reads is
+    turned_so (Post given) reads is = goes_on (Post given) (λ rest later st. refl) reads is
 
-  pub quit_cut_off : (why : RunFault) → ReadsRequest input (Some Quit) left → WritesSo (Err why) before after bye → CutOff input old old before after why
-  quit_cut_off why reads wrote = record {
-    rest = None;
-    memory = [];
-    answers = bye;
-    whole = λ later. ap (λ rs. talk rs later old) reads.2;
-    written = failed_up_to why before after bye wrote;
-  }
+    -- what stands behind a request, where the run is cut off in its answer
+    abbrev rest_behind : Request → List ℕ → Option (List Request)
+    rest_behind Quit bytes = None
+    rest_behind Bad bytes = Some (requests_of bytes)
+    rest_behind Unfit bytes = Some (requests_of bytes)
+    rest_behind (Drain turns) bytes = Some (requests_of bytes)
+    rest_behind Screen bytes = Some (requests_of bytes)
+    rest_behind Faults bytes = Some (requests_of bytes)
+    rest_behind Commit bytes = Some (requests_of bytes)
+    rest_behind (Post given) bytes = Some (requests_of bytes)
 
-  -- an input, or the screen
-  pub request_answered : (asked : Request) (new : World) → ReadsRequest input (Some asked) left → AnswersRequest (Ok tt) asked old new before after → SoFar input left old new before after
-  request_answered asked new reads is = record {
-    rest = reads.0;
-    is = reads.1;
-    memory = is.memory;
-    answers = is.answer;
-    whole = λ later. ap (λ rs. talk rs (is.memory ++ later) old) reads.2 ∙ is.goes (requests_of reads.0) later;
-    written = is.writes;
-  }
+    behind_so : (request : Request) (bytes : List ℕ) (later : List Memory) (st : Standing) → behind meaning request (requests_of bytes) later st ≡ resumed meaning (rest_behind request bytes) later st
+    behind_so Quit bytes later st = refl
+    behind_so Bad bytes later st = refl
+    behind_so Unfit bytes later st = refl
+    behind_so (Drain turns) bytes later st = refl
+    behind_so Screen bytes later st = refl
+    behind_so Faults bytes later st = refl
+    behind_so Commit bytes later st = refl
+    behind_so (Post given) bytes later st = refl
 
-  pub request_cut_off : (asked : Request) (new : World) (why : RunFault) → ReadsRequest input (Some asked) left → AnswersRequest (Err why) asked old new before after → CutOff input old new before after why
-  request_cut_off asked new why reads is = record {
-    rest = Some (requests_of reads.0);
-    memory = is.memory;
-    answers = is.answer;
-    whole = λ later. ap (λ rs. talk rs (is.memory ++ later) old) reads.2 ∙ is.goes (requests_of reads.0) later;
-    written = failed_up_to why before after is.answer is.writes;
-  }
+    -- an answer is cut off
+    pub cut_so : (request : Request) (why : RunFault) → ReadsRequest input (Some request) left → AnswersSo meaning (Err why) request accepted old new before after
+        → CutOff meaning input accepted old new before after why
+    cut_so request fault.Write reads is = record {
+      rest = rest_behind request reads.0;
+      memory = is.memory;
+      answers = is.answer;
+      whole = λ later. ap (λ rs. talk meaning rs (is.memory ++ later) old) reads.2 ∙ is.goes (requests_of reads.0) later ∙ ap (said is.answer accepted) (behind_so request reads.0 later new);
+      written = is.writes.1;
+    }
+    cut_so request fault.Read reads is = absurd is
+    cut_so request fault.Memory reads is = absurd is
+    cut_so request (fault.Session why) reads is = record {
+      rest = Some (requests_of input);
+      memory = [];
+      answers = [];
+      whole = λ later. ap (λ st. talk meaning (requests_of input) later st) (sym is.same) ∙ ap (λ i. said [] i (talk meaning (requests_of input) later new)) (sym is.none);
+      written = is.nothing;
+    }
 
 -- ---- a turn after others
 
-module _ (input : List ℕ) (left left' : Option (List ℕ)) (old mid new : World) (a b c : Option (List ℕ)) (first : SoFar input left old mid a b) where
-  after_line : SoFar first.rest left' mid new b c → SoFar input left' old new a c
+module _ (meaning : Meaning World) (input : List ℕ) (left left' : Option (List ℕ)) (x y : List Input) (old mid new : Standing) (a b c : Option (List ℕ)) (first : SoFar meaning input left x old mid a b) where
+  after_line : SoFar meaning first.rest left' y mid new b c → SoFar meaning input left' (x ++ y) old new a c
   after_line second = record {
     rest = second.rest;
     is = second.is;
     memory = first.memory ++ second.memory;
     answers = first.answers ++ second.answers;
     whole = λ later.
-        ap (λ m. talk (requests_of input) m old) (append_assoc first.memory second.memory later)
-        ∙ first.whole (second.memory ++ later) ∙ ap (said first.answers) (second.whole later)
-        ∙ said-said first.answers second.answers (talk (requests_of second.rest) later new);
+        ap (λ m. talk meaning (requests_of input) m old) (append_assoc first.memory second.memory later)
+        ∙ first.whole (second.memory ++ later) ∙ ap (said first.answers x) (second.whole later)
+        ∙ said-said first.answers second.answers x y (talk meaning (requests_of second.rest) later new);
     written = appends_then a b c first.answers second.answers first.written second.written;
   }
 
-  at_end : (by : RunEnd) → Answers first.rest mid new b c by → Answers input old new a c by
+  at_end : (by : RunEnd) → Answers meaning first.rest y mid new b c by → Answers meaning input (x ++ y) old new a c by
   at_end by last =
-      let whole : talk (requests_of input) (first.memory ++ last.memory) old ≡ written_talk (first.answers ++ answers_of first.rest last.memory mid) new (quits by) =
-      first.whole last.memory ∙ ap (said first.answers) last.whole in
-      let text : answers_of input (first.memory ++ last.memory) old ≡ first.answers ++ answers_of first.rest last.memory mid = ap (λ (t : Talk). t.written) whole in
+      let whole : talk meaning (requests_of input) (first.memory ++ last.memory) old ≡ a_talk (first.answers ++ answers_of meaning first.rest last.memory mid) (x ++ y) new (quits by) =
+      first.whole last.memory ∙ ap (said first.answers x) last.whole in
+      let text : answers_of meaning input (first.memory ++ last.memory) old ≡ first.answers ++ answers_of meaning first.rest last.memory mid = ap (λ (t : Talk). t.written) whole in
       record {
         memory = first.memory ++ last.memory;
-        whole = whole ∙ ap (λ w. written_talk w new (quits by)) (sym text);
-        written = subst (λ w. Appends a c w) (sym text) (appends_then a b c first.answers (answers_of first.rest last.memory mid) first.written last.written);
+        whole = whole ∙ ap (λ w. a_talk w (x ++ y) new (quits by)) (sym text);
+        written = subst (λ w. Appends a c w) (sym text) (appends_then a b c first.answers (answers_of meaning first.rest last.memory mid) first.written last.written);
       }
 
-  at_cut : (why : RunFault) → CutOff first.rest mid new b c why → CutOff input old new a c why
+  at_cut : (why : RunFault) → CutOff meaning first.rest y mid new b c why → CutOff meaning input (x ++ y) old new a c why
   at_cut why last = record {
     rest = last.rest;
     memory = first.memory ++ last.memory;
     answers = first.answers ++ last.answers;
     whole = λ later.
-        ap (λ m. talk (requests_of input) m old) (append_assoc first.memory last.memory later)
-        ∙ first.whole (last.memory ++ later) ∙ ap (said first.answers) (last.whole later)
-        ∙ said-said first.answers last.answers (resumed last.rest later new);
+        ap (λ m. talk meaning (requests_of input) m old) (append_assoc first.memory last.memory later)
+        ∙ first.whole (last.memory ++ later) ∙ ap (said first.answers x) (last.whole later)
+        ∙ said-said first.answers last.answers x y (resumed meaning last.rest later new);
     written = up_to_then why a b c first.answers last.answers first.written last.written;
   }
 
-  turned_known : (r : Result (Option RunEnd) RunFault) → TurnsSo r first.rest left' mid new b c → TurnsSo r input left' old new a c
+  turned_known : (r : Result (Option RunEnd) RunFault) → TurnsSo meaning r first.rest left' y mid new b c → TurnsSo meaning r input left' (x ++ y) old new a c
   turned_known (Ok None) h = after_line h
   turned_known (Ok (Some by)) h = at_end by h
   turned_known (Err why) h = at_cut why h
 
 -- one turn more
-pub turned : (o left left' : Option (List ℕ)) (old mid new : World) (a b c : Option (List ℕ)) (r : Result (Option RunEnd) RunFault)
-    → IfSome o (λ input. SoFar input left old mid a b) → IfSome left (λ rest. TurnsSo r rest left' mid new b c) → IfSome o (λ input. TurnsSo r input left' old new a c)
-turned None left left' old mid new a b c r so_far turn = tt
-turned (Some input) left left' old mid new a b c r so_far turn =
-    turned_known input left left' old mid new a b c so_far r (subst (λ l. IfSome l (λ rest. TurnsSo r rest left' mid new b c)) so_far.is turn)
+pub turned : (meaning : Meaning World) (o left left' : Option (List ℕ)) (x y : List Input) (old mid new : Standing) (a b c : Option (List ℕ)) (r : Result (Option RunEnd) RunFault)
+    → IfSome o (λ input. SoFar meaning input left x old mid a b) → IfSome left (λ rest. TurnsSo meaning r rest left' y mid new b c)
+    → IfSome o (λ input. TurnsSo meaning r input left' (x ++ y) old new a c)
+turned meaning None left left' x y old mid new a b c r so_far turn = tt
+turned meaning (Some input) left left' x y old mid new a b c r so_far turn =
+    turned_known meaning input left left' x y old mid new a b c so_far r (subst (λ l. IfSome l (λ rest. TurnsSo meaning r rest left' y mid new b c)) so_far.is turn)
 
 -- ---- where the input is known
 
@@ -240,6 +352,6 @@ where_known None P Q f h = tt
 where_known (Some xs) P Q f h = f xs h
 
 -- before any line
-pub so_far_known : (o : Option (List ℕ)) (world : World) (before : Option (List ℕ)) → IfSome o (λ input. SoFar input o world world before before)
-so_far_known None world before = tt
-so_far_known (Some input) world before = record { rest = input; is = refl; memory = []; answers = []; whole = λ later. refl; written = appends_nothing before }
+pub so_far_known : (meaning : Meaning World) (o : Option (List ℕ)) (st : Standing) (before : Option (List ℕ)) → IfSome o (λ input. SoFar meaning input o [] st st before before)
+so_far_known meaning None st before = tt
+so_far_known meaning (Some input) st before = record { rest = input; is = refl; memory = []; answers = []; whole = λ later. refl; written = appends_nothing before }

@@ -1,5 +1,10 @@
 pub mod Lines
 pub mod Reading
 pub mod Writing
+pub mod Words
 pub mod Requests
 pub mod Answers
+pub mod Draining
+pub mod Running
+pub mod Faults
+pub mod Own

@@ -3,6 +3,8 @@ use Rattle.std.specs.Prelude.{◌≡◌, ◌≢◌, ℕ, ◌+◌, ◌<◌, ◌�
 use Rattle.std.specs.Option.{option_map}
 use Rattle.std.specs.Io.KnownBytes.{Keeps, Consumes, IsAtEnd}
 use Rattle.tks_desk.specs.Lines.{first_line, after_line, past_newline}
+use Rattle.tks_desk.specs.declared.ending.RunFault.{RunFault}
+use Rattle.tks_desk.specs.declared.ending.RunFault.TheVariants.{Read, Write, Memory, Session}
 use Rattle.tks_desk.specs.declared.input.Line.{Line}
 use Rattle.tks_desk.specs.declared.input.Line.TheVariants.{Held, Overlong}
 use Rattle.tks_desk.specs.declared.input.Piece.{Piece}
@@ -37,6 +39,13 @@ abbrev pub piece_cost : Piece → ℕ
 piece_cost GoesOn = 0
 piece_cost EndsAtNewline = 1
 piece_cost EndsWithInput = 0
+
+-- a fault of reading: the reader's own, or want of memory
+abbrev pub InReading : RunFault → Type 0
+InReading Read = Unit {0}
+InReading Memory = Unit {0}
+InReading Write = ⊥
+InReading (Session why) = ⊥
 
 -- a reader loses no more bytes than this
 abbrev pub ReadsAtMost : ℕ → Option (List ℕ) → Option (List ℕ) → Type 0

@@ -1,14 +1,15 @@
 -- What the input asks for (this project's own rule).
-use Rattle.std.specs.Prelude.{◌≡◌, ℕ, zero, suc, ◌-◌, ◌==◌, nat_le, nat_lt, Bool, ◌&&◌, if◌then◌else◌, List, [], ◌∷◌, take, drop, length, codes, Option, Some, None}
-use Rattle.std.specs.Char.{is_digit}
-use Rattle.std.specs.List.{prefix_len}
-use Rattle.std.specs.Str.Parse.{digits_value}
+use Rattle.std.specs.Prelude.{◌≡◌, ℕ, zero, suc, ◌-◌, nat_le, nat_lt, if◌then◌else◌, List, [], ◌∷◌, take, drop, length, codes, Option, Some, None}
 use Rattle.tks_text.specs.Text.{is_text, same_text}
-use Rattle.tks_input.specs.declared.input.Input.TheVariants.{Script}
+use Rattle.tks_input.specs.declared.input.Input.{Input}
+use Rattle.tks_input.specs.declared.input.Input.TheVariants.{Script, KeyPress, KeyRelease, Press, Release, Clock, Turn}
 use Rattle.tks_desk.specs.Lines.{first_line, after_line, past_newline}
 use Rattle.tks_desk.specs.Reading.{max_line}
+use Rattle.tks_desk.specs.Words.{is_word, number_in, pointed_in, split_word}
+use Rattle.tks_desk.specs.declared.words.Pointed.{Pointed}
+use Rattle.tks_desk.specs.declared.words.Pointed.TheVariants.{Unread, Beyond, At}
 use Rattle.tks_desk.specs.declared.request.Request.{Request}
-use Rattle.tks_desk.specs.declared.request.Request.TheVariants.{Post, Screen, Quit, Bad}
+use Rattle.tks_desk.specs.declared.request.Request.TheVariants.{Post, Unfit, Drain, Screen, Faults, Commit, Quit, Bad}
 use Rattle.tks_desk.specs.declared.request.Asked.{Asked}
 use Rattle.tks_desk.specs.declared.request.Asked.TheVariants.{Alone, Load}
 
@@ -18,28 +19,66 @@ use Rattle.tks_desk.specs.declared.request.Asked.TheVariants.{Alone, Load}
 abbrev pub max_load : ℕ
 max_load = 1_048_576
 
--- a number: 1 to 19 decimal digits
-abbrev pub is_number : List ℕ → Bool
-is_number word = nat_lt 0 (length word) && nat_le (length word) 19 && (prefix_len (λ c. is_digit c 10) word == length word)
-
-abbrev pub number_in : List ℕ → Option ℕ
-number_in word = if is_number word then Some (digits_value 10 word) else None
+-- the most turns that are drained
+abbrev pub max_turns : ℕ
+max_turns = 10_000
 
 -- a script of so many bytes, where it may have so many
 abbrev pub loads : Option ℕ → Asked
 loads None = Alone Bad
 loads (Some n) = if nat_le n max_load then Load n else Alone Bad
 
--- a line that is a text: `quit`, `screen`, `cmd` for the empty script, `cmd` with a space and a script, `load` with a
--- space and a number, or another
-abbrev pub asked_of_text : List ℕ → Asked
-asked_of_text line =
+-- a key: one word
+abbrev pub key_asks : (List ℕ → Input) → List ℕ → Asked
+key_asks make name = if is_word name then Alone (Post (make name)) else Alone Bad
+
+-- a button and a cell
+abbrev pub button_asks : (ℕ → ℕ → ℕ → Input) → Pointed → Asked
+button_asks make Unread = Alone Bad
+button_asks make Beyond = Alone Unfit
+button_asks make (At button x y) = Alone (Post (make button x y))
+
+-- a time
+abbrev pub clock_asks : Option ℕ → Asked
+clock_asks None = Alone Bad
+clock_asks (Some time) = Alone (Post (Clock time))
+
+-- so many turns, where there may be so many
+abbrev pub drain_asks : Option ℕ → Asked
+drain_asks None = Alone Bad
+drain_asks (Some n) = if nat_le n max_turns then Alone (Drain n) else Alone Bad
+
+-- a line that is one word
+abbrev pub word_asks : List ℕ → Asked
+word_asks line =
     if same_text line (codes "quit") then Alone Quit
     else (if same_text line (codes "screen") then Alone Screen
+    else (if same_text line (codes "faults") then Alone Faults
+    else (if same_text line (codes "commit") then Alone Commit
+    else (if same_text line (codes "turn") then Alone (Post Turn)
     else (if same_text line (codes "cmd") then Alone (Post (Script []))
-    else (if same_text (take 4 line) (codes "cmd ") then Alone (Post (Script (drop 4 line)))
-    else (if same_text (take 5 line) (codes "load ") then loads (number_in (drop 5 line))
-    else Alone Bad))))
+    else Alone Bad)))))
+
+-- a line of a first word and what stands behind the space
+abbrev pub words_ask : List ℕ → List ℕ → Asked
+words_ask name rest =
+    if same_text name (codes "cmd") then Alone (Post (Script rest))
+    else (if same_text name (codes "load") then loads (number_in rest)
+    else (if same_text name (codes "key") then key_asks (λ key. KeyPress key) rest
+    else (if same_text name (codes "keyup") then key_asks (λ key. KeyRelease key) rest
+    else (if same_text name (codes "press") then button_asks (λ button x y. Press button x y) (pointed_in rest)
+    else (if same_text name (codes "release") then button_asks (λ button x y. Release button x y) (pointed_in rest)
+    else (if same_text name (codes "clock") then clock_asks (number_in rest)
+    else (if same_text name (codes "drain") then drain_asks (number_in rest)
+    else Alone Bad)))))))
+
+abbrev pub asked_by : Option (List ℕ × List ℕ) → List ℕ → Asked
+asked_by None line = word_asks line
+asked_by (Some words) line = words_ask words.0 words.1
+
+-- a line that is a text
+abbrev pub asked_of_text : List ℕ → Asked
+asked_of_text line = asked_by (split_word line) line
 
 -- a line over the limit, or with a byte that stands in no text, asks for nothing
 abbrev pub asked_of : List ℕ → Asked

@@ -1,6 +1,7 @@
-ghost use Rattle.std.specs.Prelude.{◌≡◌, codes};
+ghost use Rattle.std.specs.Prelude.{◌≡◌, codes, decimal};
 ghost use Rattle.tks_desk.specs.Writing.{WritesSo};
-ghost use Rattle.tks_desk.specs.Answers.{after_space, refusal_line, refusal_name, reply_line, row_line, rows_lines, verdict};
+ghost use Rattle.tks_desk.specs.Answers.{after_space, committed_line, drain_ended, drained_line, fault_told, faults_lines, faults_told, refusal_line, refusal_name, reply_line, row_line, rows_lines, turn_refused, verdict};
+ghost use Rattle.tks_desk.specs.Draining.{WritesOn};
 
 use crate::ending::RunFault;
 use crate::output::{put, put_escaped, put_last};
@@ -8,7 +9,7 @@ use itoa::Buffer;
 use std::io::Write;
 use tks_input::{Refused, Reply};
 use tks_screen::Grid;
-use tks_text::Seq;
+use tks_text::{Seq, Txt};
 
 #[tactic(auto, using(crate::proofs::Writes::joined_writes))]
 /// Writes the line of a reply: `ok` or `error`, the number, and the text where it isn't empty.
@@ -17,8 +18,7 @@ pub fn put_reply<W: Write>(writer: &mut W, reply: &Reply) -> Result<(), RunFault
 {
     let verdict = if reply.code == 0 { "ok " } else { "error " };
     put(writer, verdict.as_bytes())?;
-    let mut digits = Buffer::new();
-    put(writer, digits.format(reply.number).as_bytes())?;
+    put_number(writer, reply.number)?;
     put_after_space(writer, reply.text.as_bytes())?;
     put_last(writer, b"\n")
 }
@@ -33,6 +33,86 @@ fn put_after_space<W: Write>(writer: &mut W, text: &[u8]) -> Result<(), RunFault
     }
     put(writer, b" ")?;
     put_escaped(writer, text)
+}
+
+#[tactic(auto, using(crate::proofs::Writes::joined_writes))]
+/// Writes the line of a commit by which so many inputs are acknowledged.
+pub fn put_committed<W: Write>(writer: &mut W, count: u64) -> Result<(), RunFault>
+    ensures { WritesSo result (W.contents writer.old) (W.contents writer.new) (committed_line count) }
+{
+    put(writer, b"committed ")?;
+    put_number(writer, count)?;
+    put_last(writer, b"\n")
+}
+
+/// Writes more of what answers turns, unless writing failed before: the line of a reply.
+pub fn tell_reply<W: Write>(writer: &mut W, writing: &mut Result<(), RunFault>, reply: &Reply)
+    ensures { WritesOn writing.old writing.new (W.contents writer.old) (W.contents writer.new) (reply_line reply.now) }
+{
+    match *writing {
+        Ok(()) => *writing = put_reply(writer, reply),
+        Err(_) => {}
+    }
+}
+
+/// Writes the end of what answers turns, unless writing failed before: the refusal that ended them, if it says that something
+/// was to be done, and how many were run.
+pub fn end_drain<W: Write>(
+    writer: &mut W,
+    writing: Result<(), RunFault>,
+    why: Option<Refused>,
+    done: u64,
+) -> Result<(), RunFault>
+    ensures { WritesOn writing result (W.contents writer.old) (W.contents writer.new) (drain_ended why done) }
+{
+    match writing {
+        Ok(()) => put_drain_ended(writer, why, done),
+        Err(fault) => Err(fault),
+    }
+}
+
+// Writes the same.
+#[tactic(auto, using(crate::proofs::Writes::writes))]
+fn put_drain_ended<W: Write>(
+    writer: &mut W,
+    why: Option<Refused>,
+    done: u64,
+) -> Result<(), RunFault>
+    ensures { WritesSo result (W.contents writer.old) (W.contents writer.new) (drain_ended why done) }
+{
+    let Some(why) = why else {
+        return put_drained(writer, done);
+    };
+    put_turn_refused(writer, why)?;
+    put_drained(writer, done)
+}
+
+// Writes the line of a refusal that ended turns, where something was to be done.
+fn put_turn_refused<W: Write>(writer: &mut W, why: Refused) -> Result<(), RunFault>
+    ensures { WritesSo result (W.contents writer.old) (W.contents writer.new) (turn_refused why) }
+{
+    match why {
+        Refused::Quiet => put(writer, b""),
+        _ => put_refusal(writer, why),
+    }
+}
+
+#[tactic(auto, using(crate::proofs::Writes::joined_writes))]
+// Writes how many turns were run.
+fn put_drained<W: Write>(writer: &mut W, done: u64) -> Result<(), RunFault>
+    ensures { WritesSo result (W.contents writer.old) (W.contents writer.new) (drained_line done) }
+{
+    put(writer, b"drained ")?;
+    put_number(writer, done)?;
+    put_last(writer, b"\n")
+}
+
+// Writes a number in decimal.
+fn put_number<W: Write>(writer: &mut W, number: u64) -> Result<(), RunFault>
+    ensures { WritesSo result (W.contents writer.old) (W.contents writer.new) (decimal number) }
+{
+    let mut digits = Buffer::new();
+    put(writer, digits.format(number).as_bytes())
 }
 
 #[tactic(auto, using(crate::proofs::Writes::joined_writes))]
@@ -59,6 +139,35 @@ fn name_of(why: Refused) -> &'static str
         Refused::Quiet => "quiet",
         Refused::Failed => "refused failed",
     }
+}
+
+/// Writes errors that no script was there to see, a line each, and the end of them.
+#[tactic(auto, using(crate::proofs::Writes::joined_writes))]
+pub fn put_faults<W: Write>(writer: &mut W, faults: &[Txt]) -> Result<(), RunFault>
+    ensures { WritesSo result (W.contents writer.old) (W.contents writer.new) (faults_lines faults.now) }
+{
+    put_told_faults(writer, faults)?;
+    put_last(writer, b"end\n")
+}
+
+// Writes errors that no script was there to see, a line each.
+fn put_told_faults<W: Write>(writer: &mut W, faults: &[Txt]) -> Result<(), RunFault>
+    ensures { WritesSo result (W.contents writer.old) (W.contents writer.new) (faults_told faults.now) }
+{
+    for fault in faults {
+        put_told_fault(writer, fault)?;
+    }
+    Ok(())
+}
+
+// Writes one of them.
+#[tactic(auto, using(crate::proofs::Writes::joined_writes))]
+fn put_told_fault<W: Write>(writer: &mut W, fault: &Txt) -> Result<(), RunFault>
+    ensures { WritesSo result (W.contents writer.old) (W.contents writer.new) (fault_told fault.now) }
+{
+    put(writer, b"fault ")?;
+    put_escaped(writer, fault.as_bytes())?;
+    put(writer, b"\n")
 }
 
 /// Writes the rows of the screen, each between bars.

@@ -1,7 +1,7 @@
 //! The words that the program is started with.
 
 use clap::error::ErrorKind;
-use clap::{Arg, Command, Error, value_parser};
+use clap::{Arg, ArgMatches, Command, Error, value_parser};
 use std::alloc::{AllocError, Global};
 use std::env::args;
 use std::io;
@@ -21,22 +21,35 @@ Lines that it reads, and answers one by one:
   cmd SCRIPT    runs a script: what stands behind one space
   load N        runs a script with newlines: the next N bytes
   screen        shows the rows of the grid, each between bars
+  faults        shows the errors of scripts that ran by themselves
+  commit        puts what was accepted on the disk
   quit          ends the session
 
 For example the lines
   cmd label .title -text \"Order 7\"; pack .title
   cmd foo
+  commit
 are answered
   ok 1
   error 2 E09 foo
+  committed 2
 ";
 
-/// The grid's size that the command line asks for. Where it asks for help, or for what there is not,
-/// that is told, and the answer is the status to end with.
-pub fn grid_size<R: Env + AllocGlobal + Print + Eprint>(
+/// What the command line asks for.
+#[derive(Drop)]
+pub struct CommandLine {
+    /// The path of the store, without the endings of its two files.
+    pub store: String,
+    /// The size of the grid.
+    pub grid: Size,
+}
+
+/// What the command line asks for. Where it asks for help, or for what there is not, that is told, and the answer is
+/// the status to end with.
+pub fn command_line<R: Env + AllocGlobal + Print + Eprint>(
     rt: &R,
     alloc: Global,
-) -> Result<Size, ExitCode> {
+) -> Result<CommandLine, ExitCode> {
     let words = match args(rt) {
         Ok(words) => words,
         Err(error) if error.kind() == io::ErrorKind::OutOfMemory => {
@@ -51,12 +64,25 @@ pub fn grid_size<R: Env + AllocGlobal + Print + Eprint>(
         return Err(ExitCode::from(NO_MEMORY));
     };
     match command.try_get_matches_from(words.as_slice()) {
-        Ok(matches) => {
-            let width = matches.get_one::<u16>("width").unwrap_or(0);
-            let height = matches.get_one::<u16>("height").unwrap_or(0);
-            Size::new(width, height).ok_or(ExitCode::from(BAD_USE))
-        }
+        Ok(matches) => asked(alloc, &matches),
         Err(error) => Err(told(rt, error)),
+    }
+}
+
+// What these words of the command line ask for.
+fn asked(alloc: Global, matches: &ArgMatches<'_>) -> Result<CommandLine, ExitCode> {
+    let width = matches.get_one::<u16>("width").unwrap_or(0);
+    let height = matches.get_one::<u16>("height").unwrap_or(0);
+    let Some(grid) = Size::new(width, height) else {
+        return Err(ExitCode::from(BAD_USE));
+    };
+    let Some(path) = matches.get_str("store") else {
+        return Err(ExitCode::from(BAD_USE));
+    };
+    let mut store = String::new(alloc);
+    match store.push_str(path) {
+        Ok(()) => Ok(CommandLine { store, grid }),
+        Err(_) => Err(ExitCode::from(NO_MEMORY)),
     }
 }
 
@@ -74,8 +100,14 @@ fn desk_command<'a>(alloc: Global) -> Result<Command<'a>, AllocError> {
         .help("How many rows the grid has: 1 to 100")
         .value_parser(value_parser!(u16).range(1..=100))
         .default_value("12");
+    let store = Arg::new(alloc, "store")
+        .long("store")
+        .value_name("PATH")
+        .help("Where the state is kept: in the files PATH.a and PATH.b")
+        .required(true);
     Command::new(alloc, "tks_desk")
-        .about("A headless Tk session: reads lines and answers them")
+        .about("A headless Tk session that keeps its state: reads lines and answers them")
+        .arg(store)?
         .arg(width)?
         .arg(height)
 }

@@ -2,6 +2,7 @@ ghost use Rattle.std.specs.Prelude.{◌≡◌};
 
 use std::alloc::AllocError;
 use thiserror::Error;
+use tks_session::SessionFault;
 
 /// How a run ended that met no fault.
 #[derive(Clone, Copy, Debug)]
@@ -24,6 +25,9 @@ pub enum RunFault {
     /// A line could not be held.
     #[error("out of memory")]
     Memory,
+    /// The session failed: the device did in the last call, or had before.
+    #[error("the session failed")]
+    Session(SessionFault),
 }
 
 impl From<AllocError> for RunFault {

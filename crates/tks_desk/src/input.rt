@@ -1,5 +1,5 @@
 ghost use Rattle.std.specs.Prelude.{◌≡◌, ◌≢◌, ◌==◌, ◌+◌, ◌<◌, ◌≤◌, ℕ, List, true, All, IfOk, IfSome, IfErr, OnOk, OnSome, length, slice_index, take};
-ghost use Rattle.tks_desk.specs.Reading.{ReadsLine, IsLine, LineGrows, TakesPiece, piece_cost, Pays};
+ghost use Rattle.tks_desk.specs.Reading.{InReading, ReadsLine, IsLine, LineGrows, TakesPiece, piece_cost, Pays};
 
 use crate::ending::RunFault;
 use std::alloc::Global;
@@ -62,7 +62,7 @@ pub fn next_line<R: BufRead>(
     ensures line { IfOk result (λ line. IfSome (R.remaining reader.old) (λ bytes. ReadsLine bytes line (R.remaining reader.new))) }
     ensures spends { IfOk result (λ line. OnSome line (left.new < left.old)) }
     ensures pays { Pays (R.remaining reader.old) (R.remaining reader.new) left.old left.new }
-    ensures fault { IfErr result (λ e. e ≢ RunFault.Write) }
+    ensures fault { IfErr result (λ e. InReading e) }
 {
     let mut line = Line::Held(Vec::new(alloc));
     while *left > 0 {
@@ -90,7 +90,7 @@ fn take_piece<R: BufRead>(
         × (length part + piece_cost piece + left.new ≤ left.old)) }
     ensures pays { IfErr result (λ _. Pays (R.remaining reader.old) (R.remaining reader.new) left.old left.new) }
     ensures falls { result ≡ Ok Piece.GoesOn → left.new < left.old }
-    ensures fault { IfErr result (λ e. e ≢ RunFault.Write) }
+    ensures fault { IfErr result (λ e. InReading e) }
 {
     let shown = match reader.fill_buf() {
         Ok(shown) => shown,

@@ -5,15 +5,17 @@
 mod answer;
 mod arguments;
 mod ending;
+mod faults;
 mod input;
 mod loading;
 mod output;
-mod plain;
+mod own;
 mod request;
 mod running;
+mod words;
 
-pub use arguments::grid_size;
+pub use arguments::{CommandLine, command_line};
 pub use ending::{RunEnd, RunFault};
-pub use output::put_last;
-pub use plain::Plain;
+pub use faults::{name_of, put_fault, status_of};
+pub use own::{Own, next_number, own_apps, swap_word};
 pub use running::run;

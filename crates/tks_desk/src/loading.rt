@@ -1,6 +1,6 @@
-ghost use Rattle.std.specs.Prelude.{◌≡◌, ◌≢◌, ◌<◌, ◌≤◌, true, false, length, Ok, Some, IfOk, IfErr, IfSome, OnOk};
+ghost use Rattle.std.specs.Prelude.{◌≡◌, ◌<◌, ◌≤◌, true, false, length, Ok, Some, IfOk, IfErr, IfSome, OnOk};
 ghost use Rattle.std.specs.Option.{option_map};
-ghost use Rattle.tks_desk.specs.Reading.{HoldsBytes, PassesSo, Pays, TakesBytes, unread};
+ghost use Rattle.tks_desk.specs.Reading.{HoldsBytes, InReading, PassesSo, Pays, TakesBytes, unread};
 
 use crate::ending::RunFault;
 use std::alloc::Global;
@@ -73,7 +73,7 @@ pub fn read_bytes<R: BufRead>(
 ) -> Result<Option<Vec<u8>>, RunFault>
     ensures held { IfOk result (λ held. IfSome (R.remaining reader.old) (λ bytes. HoldsBytes length bytes (option_map (λ v. v.items) held) (R.remaining reader.new))) }
     ensures pays { Pays (R.remaining reader.old) (R.remaining reader.new) left.old left.new }
-    ensures fault { IfErr result (λ e. e ≢ RunFault.Write) }
+    ensures fault { IfErr result (λ e. InReading e) }
 {
     let mut held = Vec::new(alloc);
     while held.len() < length {
@@ -101,7 +101,7 @@ fn take_bytes<R: BufRead>(
     ensures within { OnOk result (length held.new.items ≤ wanted) }
     ensures pays { Pays (R.remaining reader.old) (R.remaining reader.new) left.old left.new }
     ensures falls { result ≡ Ok true → left.new < left.old }
-    ensures fault { IfErr result (λ e. e ≢ RunFault.Write) }
+    ensures fault { IfErr result (λ e. InReading e) }
 {
     let shown = match reader.fill_buf() {
         Ok(shown) => shown,

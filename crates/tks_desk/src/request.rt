@@ -1,23 +1,33 @@
-ghost use Rattle.std.specs.Prelude.{ℕ, List, ◌≡◌, ◌≢◌, ◌<◌, ◌≤◌, IfOk, IfSome, IfErr, OnSome, length};
+ghost use Rattle.std.specs.Prelude.{ℕ, List, ◌≡◌, ◌<◌, ◌≤◌, IfOk, IfSome, IfErr, OnSome, length};
+ghost use Rattle.tks_input.specs.declared.input.Input.TheVariants.{KeyPress, KeyRelease, Press, Release};
 ghost use Rattle.tks_text.specs.Text.{IsText};
-ghost use Rattle.tks_desk.specs.Reading.{max_line, IsLine, Pays, unread};
-ghost use Rattle.tks_desk.specs.Requests.{asked_of, asked_of_text, is_number, loads, number_in, script_in, LoadsSo, ReadsRequest};
+ghost use Rattle.tks_desk.specs.Reading.{max_line, InReading, IsLine, Pays, unread};
+ghost use Rattle.tks_desk.specs.Requests.{asked_of, asked_of_text, button_asks, clock_asks, drain_asks, key_asks, loads, script_in, word_asks, words_ask, LoadsSo, ReadsRequest};
 
 use crate::ending::RunFault;
 use crate::input::{Line, next_line};
 use crate::loading::{Intake, pass_newline, read_bytes};
+use crate::words::{Pointed, is_word, number_in, pointed_in, split_word};
 use std::alloc::{AllocError, Global};
 use std::io::BufRead;
 use tks_input::Input;
-use tks_text::{Txt, digits_len, is_text, value_of};
+use tks_text::{Txt, is_text};
 
 /// What is asked for.
 #[derive(Drop)]
 pub enum Request {
     /// An input for the world.
     Post(Input),
+    /// A button or a cell that no input can hold.
+    Unfit,
+    /// So many turns, or as many as find something to do.
+    Drain(u64),
     /// What the screen shows.
     Screen,
+    /// The errors that no script was there to see.
+    Faults,
+    /// To put what was accepted on the disk.
+    Commit,
     /// The end.
     Quit,
     /// Nothing that is known.
@@ -36,8 +46,8 @@ pub enum Asked {
 /// The most bytes that a script has which is loaded.
 const MAX_LOAD: u64 = 1_048_576;
 
-/// The most digits of a number.
-const MAX_DIGITS: usize = 19;
+/// The most turns that are drained.
+const MAX_TURNS: u64 = 10_000;
 
 /// Reads the next request, or `None` at the end of the input. The fault is `Read` where the reader fails or no
 /// more may be read, and `Memory` where a line or a script can't be held.
@@ -49,7 +59,7 @@ pub fn next_request<R: BufRead>(
     ensures request { IfOk result (λ request. IfSome (unread intake.old.skips_newline (R.remaining reader.old)) (λ bytes. ReadsRequest bytes request (unread intake.new.skips_newline (R.remaining reader.new)))) }
     ensures spends { IfOk result (λ request. OnSome request (intake.new.left < intake.old.left)) }
     ensures pays { Pays (R.remaining reader.old) (R.remaining reader.new) intake.old.left intake.new.left }
-    ensures fault { IfErr result (λ e. e ≢ RunFault.Write) }
+    ensures fault { IfErr result (λ e. InReading e) }
 {
     pass_newline(reader, intake)?;
     let Some(line) = next_line(alloc, reader, &mut intake.left)? else {
@@ -73,7 +83,7 @@ fn load<R: BufRead>(
 ) -> Result<Request, RunFault>
     ensures request { IfOk result (λ request. IfSome (R.remaining reader.old) (λ bytes. LoadsSo length bytes request (unread intake.new.skips_newline (R.remaining reader.new)))) }
     ensures pays { Pays (R.remaining reader.old) (R.remaining reader.new) intake.old.left intake.new.left }
-    ensures fault { IfErr result (λ e. e ≢ RunFault.Write) }
+    ensures fault { IfErr result (λ e. InReading e) }
 {
     let held = read_bytes(alloc, reader, length as usize, &mut intake.left)?;
     intake.skips_newline = true;
@@ -130,41 +140,132 @@ fn text_asks(alloc: Global, line: &[u8]) -> Result<Asked, AllocError>
     requires { IsText line.now }
     ensures { IfOk result (λ asked. asked ≡ asked_of_text line.now) }
 {
-    if line == b"quit".as_slice() {
-        return Ok(Asked::Alone(Request::Quit));
-    }
-    if line == b"screen".as_slice() {
-        return Ok(Asked::Alone(Request::Screen));
-    }
-    if line == b"cmd".as_slice() {
-        return Ok(Asked::Alone(Request::Post(Input::Script(Txt::new(alloc)))));
-    }
-    if let Some(script) = line.strip_prefix(b"cmd ".as_slice()) {
-        let script = Txt::from_text(alloc, script)?;
-        return Ok(Asked::Alone(Request::Post(Input::Script(script))));
-    }
-    match line.strip_prefix(b"load ".as_slice()) {
-        Some(word) => Ok(loads(word)),
-        None => Ok(Asked::Alone(Request::Bad)),
+    match split_word(line) {
+        Some((name, rest)) => words_ask(alloc, name, rest),
+        None => Ok(word_asks(alloc, line)),
     }
 }
 
-// What a `load` with this word asks for.
-fn loads(word: &[u8]) -> Asked
-    ensures { result ≡ loads (number_in word.now) }
+// What a line asks for that is one word.
+fn word_asks(alloc: Global, line: &[u8]) -> Asked
+    ensures { result ≡ word_asks line.now }
 {
-    if !is_number(word) {
-        return Asked::Alone(Request::Bad);
+    if line == b"quit".as_slice() {
+        Asked::Alone(Request::Quit)
+    } else if line == b"screen".as_slice() {
+        Asked::Alone(Request::Screen)
+    } else if line == b"faults".as_slice() {
+        Asked::Alone(Request::Faults)
+    } else if line == b"commit".as_slice() {
+        Asked::Alone(Request::Commit)
+    } else if line == b"turn".as_slice() {
+        Asked::Alone(Request::Post(Input::Turn))
+    } else if line == b"cmd".as_slice() {
+        Asked::Alone(Request::Post(Input::Script(Txt::new(alloc))))
+    } else {
+        Asked::Alone(Request::Bad)
     }
-    match value_of(10, word) {
+}
+
+// What a line asks for by its first word and what stands behind the space.
+fn words_ask(alloc: Global, name: &[u8], rest: &[u8]) -> Result<Asked, AllocError>
+    requires { IsText rest.now }
+    ensures { IfOk result (λ asked. asked ≡ words_ask name.now rest.now) }
+{
+    if name == b"cmd".as_slice() {
+        let script = Txt::from_text(alloc, rest)?;
+        Ok(Asked::Alone(Request::Post(Input::Script(script))))
+    } else if name == b"load".as_slice() {
+        Ok(loads(number_in(rest)))
+    } else if name == b"key".as_slice() {
+        key_asks(alloc, rest)
+    } else if name == b"keyup".as_slice() {
+        keyup_asks(alloc, rest)
+    } else if name == b"press".as_slice() {
+        Ok(press_asks(pointed_in(rest)))
+    } else if name == b"release".as_slice() {
+        Ok(release_asks(pointed_in(rest)))
+    } else if name == b"clock".as_slice() {
+        Ok(clock_asks(number_in(rest)))
+    } else if name == b"drain".as_slice() {
+        Ok(drain_asks(number_in(rest)))
+    } else {
+        Ok(Asked::Alone(Request::Bad))
+    }
+}
+
+// What a `load` of so many bytes asks for.
+fn loads(length: Option<u64>) -> Asked
+    ensures { result ≡ loads length }
+{
+    match length {
         Some(length) if length <= MAX_LOAD => Asked::Load(length as u32),
         _ => Asked::Alone(Request::Bad),
     }
 }
 
-// Whether a word is a number.
-fn is_number(word: &[u8]) -> bool
-    ensures { result ≡ is_number word.now }
+// What the press of a key asks for.
+fn key_asks(alloc: Global, name: &[u8]) -> Result<Asked, AllocError>
+    requires { IsText name.now }
+    ensures { IfOk result (λ asked. asked ≡ key_asks (λ key. KeyPress key) name.now) }
 {
-    !word.is_empty() && word.len() <= MAX_DIGITS && digits_len(10, word) == word.len()
+    if !is_word(name) {
+        return Ok(Asked::Alone(Request::Bad));
+    }
+    let key = Txt::from_text(alloc, name)?;
+    Ok(Asked::Alone(Request::Post(Input::KeyPress(key))))
+}
+
+// What the release of a key asks for.
+fn keyup_asks(alloc: Global, name: &[u8]) -> Result<Asked, AllocError>
+    requires { IsText name.now }
+    ensures { IfOk result (λ asked. asked ≡ key_asks (λ key. KeyRelease key) name.now) }
+{
+    if !is_word(name) {
+        return Ok(Asked::Alone(Request::Bad));
+    }
+    let key = Txt::from_text(alloc, name)?;
+    Ok(Asked::Alone(Request::Post(Input::KeyRelease(key))))
+}
+
+// What the press of a button asks for.
+fn press_asks(pointed: Pointed) -> Asked
+    ensures { result ≡ button_asks (λ button x y. Press button x y) pointed }
+{
+    match pointed {
+        Pointed::Unread => Asked::Alone(Request::Bad),
+        Pointed::Beyond => Asked::Alone(Request::Unfit),
+        Pointed::At(button, x, y) => Asked::Alone(Request::Post(Input::Press { button, x, y })),
+    }
+}
+
+// What the release of a button asks for.
+fn release_asks(pointed: Pointed) -> Asked
+    ensures { result ≡ button_asks (λ button x y. Release button x y) pointed }
+{
+    match pointed {
+        Pointed::Unread => Asked::Alone(Request::Bad),
+        Pointed::Beyond => Asked::Alone(Request::Unfit),
+        Pointed::At(button, x, y) => Asked::Alone(Request::Post(Input::Release { button, x, y })),
+    }
+}
+
+// What a time asks for.
+fn clock_asks(time: Option<u64>) -> Asked
+    ensures { result ≡ clock_asks time }
+{
+    match time {
+        Some(time) => Asked::Alone(Request::Post(Input::Clock(time))),
+        None => Asked::Alone(Request::Bad),
+    }
+}
+
+// What a `drain` of so many turns asks for.
+fn drain_asks(turns: Option<u64>) -> Asked
+    ensures { result ≡ drain_asks turns }
+{
+    match turns {
+        Some(turns) if turns <= MAX_TURNS => Asked::Alone(Request::Drain(turns)),
+        _ => Asked::Alone(Request::Bad),
+    }
 }

@@ -1,36 +1,41 @@
-ghost use Rattle.std.specs.Prelude.{◌≡◌, ◌<◌, ◌^◌, IfOk, IfErr, IfSome};
+ghost use Rattle.std.specs.Prelude.{◌≡◌, ◌<◌, ◌^◌, [], IfOk, IfSome};
 ghost use Rattle.tks_screen.specs.Screen.{shown};
-ghost use Rattle.tks_desk.specs.declared.request.Request.TheVariants.{Post, Screen};
+ghost use Rattle.tks_desk.specs.declared.request.Request.TheVariants.{Commit, Drain, Post, Screen};
+ghost use Rattle.tks_desk.specs.Answers.{Answered, AnswersSo, RefusalSo, Told, TurnsSo, end_by, standing};
 ghost use Rattle.tks_desk.specs.Reading.{ReadsAtMost, Pays, unread};
-ghost use Rattle.tks_desk.specs.Answers.{Answers, CutOff, AnswersRequest, TurnsSo};
+ghost use Rattle.tks_desk.specs.Running.{Runs};
 
-use crate::answer::{put_refusal, put_reply, put_screen};
+use crate::answer::{
+    end_drain, put_committed, put_faults, put_refusal, put_reply, put_screen, tell_reply,
+};
 use crate::ending::{RunEnd, RunFault};
 use crate::loading::Intake;
 use crate::output::put_last;
-use crate::plain::Plain;
 use crate::request::{Request, next_request};
 use std::alloc::{AllocError, Global};
 use std::io::{BufRead, Write};
-use tks_input::Input;
+use tks_disk::Disk;
+use tks_input::{Input, Refused};
 use tks_screen::{Grid, dump};
+use tks_session::{Machine, Session, SessionFault};
 use tks_state::World;
 
 /// The most bytes that a run reads.
 const MAX_READ: u64 = 1 << 40;
 
 /// Answers the lines of the reader, one by one, up to `quit` or the end of the input. It reads no
-/// more than 2^40 bytes, and each answer is flushed.
-pub fn run<R: BufRead, W: Write>(
+/// more than 2^40 bytes, and each answer is flushed. What was accepted since the last commit is not on the disk when it ends.
+pub fn run<D: Disk, M: Machine<World = World>, R: BufRead, W: Write>(
     alloc: Global,
     reader: &mut R,
     writer: &mut W,
-    session: &mut Plain,
+    session: &mut Session<D, M>,
 ) -> Result<RunEnd, RunFault>
-    ensures ended { IfOk result (λ by. IfSome (R.remaining reader.old) (λ input. Answers input session.old session.new (W.contents writer.old) (W.contents writer.new) by)) }
-    ensures cut_off { IfErr result (λ why. IfSome (R.remaining reader.old) (λ input. CutOff input session.old session.new (W.contents writer.old) (W.contents writer.new) why)) }
+    ensures runs { Runs M.meaning D.honest D.view D.failures result session.old session.new (λ accepted. IfSome (R.remaining reader.old)
+        (λ input. Told (M.meaning session.old.machine) result input accepted (standing session.old) (standing session.new) (W.contents writer.old) (W.contents writer.new))) }
     ensures bound { ReadsAtMost (2 ^ 40) (R.remaining reader.old) (R.remaining reader.new) }
 {
+    session.stands();
     let mut intake = Intake {
         left: MAX_READ,
         skips_newline: false,
@@ -43,43 +48,66 @@ pub fn run<R: BufRead, W: Write>(
 }
 
 // Reads a line and answers it, or says how the run ends.
-fn answer_line<R: BufRead, W: Write>(
+fn answer_line<D: Disk, M: Machine<World = World>, R: BufRead, W: Write>(
     alloc: Global,
     reader: &mut R,
     writer: &mut W,
-    session: &mut Plain,
+    session: &mut Session<D, M>,
     intake: &mut Intake,
 ) -> Result<Option<RunEnd>, RunFault>
-    ensures turn { IfSome (unread intake.old.skips_newline (R.remaining reader.old)) (λ input. TurnsSo result input (unread intake.new.skips_newline (R.remaining reader.new)) session.old session.new (W.contents writer.old) (W.contents writer.new)) }
+    ensures turn { Runs M.meaning D.honest D.view D.failures result session.old session.new (λ accepted. IfSome (unread intake.old.skips_newline (R.remaining reader.old))
+        (λ input. TurnsSo (M.meaning session.old.machine) result input (unread intake.new.skips_newline (R.remaining reader.new)) accepted (standing session.old) (standing session.new) (W.contents writer.old) (W.contents writer.new))) }
     ensures spends { result ≡ Ok None → intake.new.left < intake.old.left }
     ensures pays { Pays (R.remaining reader.old) (R.remaining reader.new) intake.old.left intake.new.left }
 {
+    session.stands();
     let Some(request) = next_request(alloc, reader, intake)? else {
         return Ok(Some(RunEnd::EndOfInput));
     };
+    answer(alloc, writer, session, &request)?;
+    Ok(end_by(&request))
+}
+
+// Whether a request ends the run.
+fn end_by(request: &Request) -> Option<RunEnd>
+    ensures { result ≡ end_by request.now }
+{
     match request {
-        Request::Quit => {
-            put_last(writer, b"bye\n")?;
-            Ok(Some(RunEnd::Quit))
-        }
-        Request::Bad => {
-            put_last(writer, b"bad line\n")?;
-            Ok(None)
-        }
-        Request::Screen => {
-            answer_screen(alloc, writer, session)?;
-            Ok(None)
-        }
-        Request::Post(input) => {
-            answer_input(writer, session, &input)?;
-            Ok(None)
-        }
+        Request::Quit => Some(RunEnd::Quit),
+        _ => None,
+    }
+}
+
+// Answers a request.
+fn answer<D: Disk, M: Machine<World = World>, W: Write>(
+    alloc: Global,
+    writer: &mut W,
+    session: &mut Session<D, M>,
+    request: &Request,
+) -> Result<(), RunFault>
+    ensures { Runs M.meaning D.honest D.view D.failures result session.old session.new
+        (λ accepted. AnswersSo (M.meaning session.old.machine) result request.now accepted (standing session.old) (standing session.new) (W.contents writer.old) (W.contents writer.new)) }
+{
+    session.stands();
+    match request {
+        Request::Quit => put_last(writer, b"bye\n"),
+        Request::Bad => put_last(writer, b"bad line\n"),
+        Request::Unfit => put_refusal(writer, Refused::BadInput),
+        Request::Screen => answer_screen(alloc, writer, session),
+        Request::Faults => put_faults(writer, session.world().faults()),
+        Request::Commit => answer_commit(writer, session),
+        Request::Post(input) => answer_input(writer, session, input),
+        Request::Drain(turns) => answer_drain(writer, session, *turns),
     }
 }
 
 // Writes what the screen shows, or that memory was refused.
-fn answer_screen<W: Write>(alloc: Global, writer: &mut W, session: &Plain) -> Result<(), RunFault>
-    ensures { AnswersRequest result Screen session.now session.now (W.contents writer.old) (W.contents writer.new) }
+fn answer_screen<D: Disk, M: Machine<World = World>, W: Write>(
+    alloc: Global,
+    writer: &mut W,
+    session: &Session<D, M>,
+) -> Result<(), RunFault>
+    ensures { Answered (M.meaning session.now.machine) result Screen [] (standing session.now) (standing session.now) (W.contents writer.old) (W.contents writer.new) }
 {
     match picture(alloc, session.world()) {
         Ok(grid) => put_screen(writer, &grid),
@@ -96,16 +124,72 @@ fn picture(alloc: Global, world: &World) -> Result<Grid, AllocError>
     Ok(grid)
 }
 
-// Gives an input to the session and writes its answer.
-fn answer_input<W: Write>(
+// Commits, and writes how many inputs are acknowledged.
+fn answer_commit<D: Disk, M: Machine<World = World>, W: Write>(
     writer: &mut W,
-    session: &mut Plain,
+    session: &mut Session<D, M>,
+) -> Result<(), RunFault>
+    ensures { Runs M.meaning D.honest D.view D.failures result session.old session.new
+        (λ accepted. AnswersSo (M.meaning session.old.machine) result Commit accepted (standing session.old) (standing session.new) (W.contents writer.old) (W.contents writer.new)) }
+{
+    session.stands();
+    match session.commit() {
+        Ok(count) => put_committed(writer, count),
+        Err(fault) => Err(RunFault::Session(fault)),
+    }
+}
+
+// Gives an input to the session and writes its answer.
+fn answer_input<D: Disk, M: Machine<World = World>, W: Write>(
+    writer: &mut W,
+    session: &mut Session<D, M>,
     input: &Input,
 ) -> Result<(), RunFault>
-    ensures { AnswersRequest result (Post input.now) session.old session.new (W.contents writer.old) (W.contents writer.new) }
+    ensures { Runs M.meaning D.honest D.view D.failures result session.old session.new
+        (λ accepted. AnswersSo (M.meaning session.old.machine) result (Post input.now) accepted (standing session.old) (standing session.new) (W.contents writer.old) (W.contents writer.new)) }
 {
+    session.stands();
     match session.post(input) {
         Ok(reply) => put_reply(writer, &reply),
-        Err(why) => put_refusal(writer, why),
+        Err(why) => answer_refusal(writer, why),
+    }
+}
+
+// Runs so many turns, up to one that is refused, and writes their answers. Where writing fails, nothing more is written, and
+// the turns go on.
+fn answer_drain<D: Disk, M: Machine<World = World>, W: Write>(
+    writer: &mut W,
+    session: &mut Session<D, M>,
+    turns: u64,
+) -> Result<(), RunFault>
+    ensures { Runs M.meaning D.honest D.view D.failures result session.old session.new
+        (λ accepted. AnswersSo (M.meaning session.old.machine) result (Drain turns) accepted (standing session.old) (standing session.new) (W.contents writer.old) (W.contents writer.new)) }
+{
+    session.stands();
+    if session.has_failed() {
+        return Err(RunFault::Session(SessionFault::Failed));
+    }
+    let mut writing = Ok(());
+    let mut done = 0;
+    'turns: while done < turns {
+        session.stands();
+        match session.post(&Input::Turn) {
+            Ok(reply) => {
+                tell_reply(writer, &mut writing, &reply);
+                done += 1;
+            }
+            Err(why) => return end_drain(writer, writing, Some(why), done),
+        }
+    }
+    end_drain(writer, writing, None, done)
+}
+
+// Writes the line of a refusal. That of a session that had failed ends the run.
+fn answer_refusal<W: Write>(writer: &mut W, why: Refused) -> Result<(), RunFault>
+    ensures { RefusalSo why result (W.contents writer.old) (W.contents writer.new) }
+{
+    match why {
+        Refused::Failed => Err(RunFault::Session(SessionFault::Failed)),
+        _ => put_refusal(writer, why),
     }
 }

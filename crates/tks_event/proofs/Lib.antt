@@ -11,3 +11,4 @@ pub mod Answering
 pub mod Bits
 pub mod SpelledBack
 pub mod Equal
+pub mod Short

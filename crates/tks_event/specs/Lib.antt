@@ -7,3 +7,5 @@ pub mod Reading
 pub mod View
 pub mod Canonical
 pub mod Equality
+pub mod Held
+pub mod Numbers

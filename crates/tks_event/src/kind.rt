@@ -1,6 +1,7 @@
 //! Kinds of events.
 ghost use Rattle.std.specs.Prelude.{◌≡◌};
 ghost use Rattle.tks_event.specs.Kinds.{kind_named, kind_name, same_kind, is_button, is_detail};
+ghost use Rattle.tks_event.specs.Numbers.{kind_number, kind_numbered};
 
 use crate::keysym::is_keysym;
 
@@ -88,6 +89,37 @@ impl Kind {
             Kind::KeyPress | Kind::KeyRelease => is_keysym(text),
             Kind::ButtonPress | Kind::ButtonRelease => is_button(text),
             Kind::FocusIn | Kind::FocusOut | Kind::Virtual => false,
+        }
+    }
+
+    /// The number by which bytes tell it.
+    pub fn number(self) -> u8
+        ensures { result ≡ kind_number self }
+    {
+        match self {
+            Kind::KeyPress => 1,
+            Kind::KeyRelease => 2,
+            Kind::ButtonPress => 3,
+            Kind::ButtonRelease => 4,
+            Kind::FocusIn => 5,
+            Kind::FocusOut => 6,
+            Kind::Virtual => 7,
+        }
+    }
+
+    /// The kind of a number.
+    pub fn numbered(number: u8) -> Option<Kind>
+        ensures { result ≡ kind_numbered number }
+    {
+        match number {
+            1 => Some(Kind::KeyPress),
+            2 => Some(Kind::KeyRelease),
+            3 => Some(Kind::ButtonPress),
+            4 => Some(Kind::ButtonRelease),
+            5 => Some(Kind::FocusIn),
+            6 => Some(Kind::FocusOut),
+            7 => Some(Kind::Virtual),
+            _ => None,
         }
     }
 }

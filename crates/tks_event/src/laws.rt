@@ -1,6 +1,8 @@
 ghost use Rattle.std.specs.Prelude.{◌≡◌, ◌↔◌, List, ℕ, Some, Ok, true};
 ghost use Rattle.tks_event.specs.Canonical.{canonical};
 ghost use Rattle.tks_event.specs.Sequences.{is_sequence};
+ghost use Rattle.tks_event.specs.Numbers.{kind_number, kind_numbered};
+ghost use Rattle.tks_event.specs.declared.kind.Kind.{Kind};
 ghost use Rattle.tks_event.specs.declared.pattern.Pattern.{Pattern};
 ghost use Rattle.tks_event.specs.declared.pattern.Repeated.{Repeated};
 ghost use Rattle.tks_event.specs.Reading.{pattern_of, spelled_list, sequence_of};
@@ -24,4 +26,10 @@ pub fn canonical_spells()
 /// The canonical spelling of each sequence is read as that sequence.
 pub fn canonical_reads_back()
     ensures { (ps : List Pattern) → is_sequence ps ≡ true → sequence_of (canonical ps) ≡ Ok ps }
+{}
+
+/// Each kind has a number of its own, and is the one of that number.
+pub fn kinds_have_numbers()
+    ensures kept { (k : Kind) → kind_numbered (kind_number k) ≡ Some k }
+    ensures made { (n : ℕ) (k : Kind) → kind_numbered n ≡ Some k → kind_number k ≡ n }
 {}

@@ -4,6 +4,7 @@
 mod collected;
 mod equality;
 mod event;
+mod held;
 mod keysym;
 mod kind;
 mod laws;
@@ -14,15 +15,20 @@ mod pattern;
 mod reading;
 mod sequence;
 mod spelling;
+mod validity;
 mod words;
 
 pub use collected::MAX_EVENTS;
 pub use equality::are_equal;
 pub use event::Event;
+pub use held::Held;
 pub use keysym::{is_keysym, is_modifier_key, keysym_char};
 pub use kind::{Kind, is_button};
-pub use laws::{canonical_reads_back, canonical_spells, one_pattern, one_sequence};
+pub use laws::{
+    canonical_reads_back, canonical_spells, kinds_have_numbers, one_pattern, one_sequence,
+};
 pub use modifiers::{Modifier, Modifiers};
 pub use parsing::{parse_pattern, parse_sequence};
 pub use pattern::{Pattern, Repeated};
 pub use sequence::Sequence;
+pub use validity::{is_name, is_sequence};

@@ -182,7 +182,7 @@ pub(crate) fn read_pattern(text: &[u8]) -> Option<(Written<'_>, &[u8])>
 }
 
 // Whether a character may stand in the name of a virtual event.
-fn is_name_char(c: u8) -> bool
+pub(crate) fn is_name_char(c: u8) -> bool
     ensures { result ≡ is_name_char c }
 {
     (33..=126).contains(&c) && c != b'<' && c != b'>'

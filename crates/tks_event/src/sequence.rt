@@ -1,8 +1,9 @@
 //! Sequences of events.
-ghost use Rattle.std.specs.Prelude.{◌≡◌, IfOk};
+ghost use Rattle.std.specs.Prelude.{◌≡◌, ◌≤◌, true, length, IfOk, Some, None, if◌then◌else◌};
 
 use crate::pattern::Pattern;
 use crate::spelling::canonical;
+use crate::validity::is_sequence;
 use smallvec::SmallVec;
 use std::alloc::{AllocError, Global};
 use std::marker::Model;
@@ -30,10 +31,21 @@ impl Model for Sequence {
 impl Sequence {
     ghost use Rattle.tks_event.specs.Canonical.{canonical};
     ghost use Rattle.tks_event.specs.Spelling.{Spells};
+    ghost use Rattle.tks_event.specs.Sequences.{is_sequence};
 
     /// The patterns, in order.
     pub fn as_slice(&self) -> &[Pattern]
         ensures { result.now ≡ self.now }
+    {
+        self.patterns.as_slice()
+    }
+
+    /// The patterns, which are a sequence.
+    #[tactic(auto, using(crate::proofs::Short::is_short))]
+    pub fn patterns(&self) -> &[Pattern]
+        ensures value { result.now ≡ self.now }
+        ensures legal { is_sequence self.now ≡ true }
+        ensures few { length self.now ≤ 8 }
     {
         self.patterns.as_slice()
     }
@@ -46,6 +58,17 @@ impl Sequence {
         ensures spells { IfOk result (λ t. Spells t self.now) }
     {
         canonical(alloc, self.patterns.as_slice())
+    }
+
+    /// The sequence of these patterns, so that one is made again from what it had; `None` where they are none.
+    pub fn restore(patterns: Vec<Pattern>) -> Option<Sequence>
+        ensures { result ≡ (if is_sequence patterns.items then Some patterns.items else None) }
+    {
+        if !is_sequence(&patterns) {
+            return None;
+        }
+        let patterns = SmallVec::from_vec(patterns);
+        Some(Sequence { patterns })
     }
 
     /// An equal sequence.

@@ -10,3 +10,5 @@ pub mod Round
 pub mod Returning
 pub mod Spelling
 pub mod Characters
+pub mod Ends
+pub mod Restored

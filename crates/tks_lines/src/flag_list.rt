@@ -1,8 +1,11 @@
-ghost use Rattle.std.specs.Prelude.{◌≡◌, ◌++◌, ◌<◌, ◌^◌, length, take, drop, replicate, false, IfOk, slice_get};
+ghost use Rattle.std.specs.Prelude.{◌≡◌, ◌++◌, ◌<◌, ◌^◌, length, take, drop, replicate, false, ◌-◌, ◌≤◌, None, IfOk, OnOk, slice_get};
 ghost use Rattle.tks_lines.specs.Lines.{spliced, cut, painted, is_true};
+ghost use Rattle.tks_lines.specs.Ranges.{ranges_of, flags_of, AreRanges};
 
+use crate::range::Range;
 use std::alloc::{AllocError, Global};
 use std::marker::Model;
+use tks_text::Seq;
 
 /// Which of the characters of a text have a tag, in order.
 #[derive(Drop)]
@@ -18,6 +21,15 @@ impl Model for Flags {
     ghost view = { λ f. f.items.items };
 }
 
+// Adds flags that are all the same, so that there are so many.
+fn fill(flags: &mut Vec<bool>, len: usize, value: bool) -> Result<(), AllocError>
+    requires { (length flags.old.items ≤ len) × (len < 2 ^ 63) }
+    ensures { OnOk result (flags.new.items ≡ flags.old.items ++ replicate (len - length flags.old.items) value) }
+{
+    flags.resize(len, value)?;
+    Ok(())
+}
+
 impl Flags {
     /// None of so many characters.
     pub(crate) fn none(alloc: Global, len: usize) -> Result<Flags, AllocError>
@@ -26,6 +38,45 @@ impl Flags {
         Ok(Flags {
             items: vec![in alloc; false; len]?,
         })
+    }
+
+    /// Those of so many characters, where these ranges have the tag.
+    pub fn of_ranges(alloc: Global, len: usize, ranges: &[Range]) -> Result<Flags, AllocError>
+        requires { (len < 2 ^ 63) × AreRanges len None ranges.now }
+        ensures { IfOk result (λ f. f ≡ flags_of len ranges.now) }
+    {
+        let mut items = Vec::new(alloc);
+        for range in ranges {
+            fill(&mut items, range.first, false)?;
+            fill(&mut items, range.last, true)?;
+        }
+        fill(&mut items, len, false)?;
+        Ok(Flags { items })
+    }
+
+    /// The ranges of the characters that have the tag: they rise, none is empty, and none touches another.
+    pub fn ranges(&self, alloc: Global) -> Result<Seq<Range>, AllocError>
+        ensures { IfOk result (λ all. all ≡ ranges_of self.now) }
+    {
+        let mut all = Seq::new(alloc);
+        let mut begun = None;
+        for (place, flag) in self.items.iter().enumerate() {
+            match (begun, *flag) {
+                (None, true) => begun = Some(place),
+                (Some(first), false) => {
+                    all.push(Range { first, last: place })?;
+                    begun = None;
+                }
+                _ => {}
+            }
+        }
+        if let Some(first) = begun {
+            all.push(Range {
+                first,
+                last: self.items.len(),
+            })?;
+        }
+        Ok(all)
     }
 
     /// How many characters there are.

@@ -1,10 +1,14 @@
-ghost use Rattle.std.specs.Prelude.{◌≡◌, ℕ, Bool, true, false, ◌+◌, ◌^◌, ◌<◌, ◌≤◌, List, length, take, Some};
+ghost use Rattle.std.specs.Prelude.{◌≡◌, ℕ, Bool, true, false, ◌+◌, ◌^◌, ◌<◌, ◌≤◌, List, length, take, Some, None};
 ghost use Rattle.tks_lines.specs.declared.parts.Mark.{Mark};
 ghost use Rattle.tks_lines.specs.declared.parts.Tag.{Tag};
 ghost use Rattle.tks_lines.specs.Places.{end_place};
 ghost use Rattle.tks_lines.specs.Indices.{index_place};
 ghost use Rattle.tks_lines.specs.Commands.{spelled};
 ghost use Rattle.tks_lines.specs.Lines.{Lines, Formed, is_editable, put_in, deleted, moved_on};
+ghost use Rattle.tks_opt.specs.Options.{Options};
+ghost use Rattle.tks_lines.specs.Ranges.{ranges_of, flags_of, AreRanges};
+ghost use Rattle.tks_lines.specs.Restoring.{restored};
+ghost use Rattle.tks_lines.specs.declared.range.Range.{Range};
 ghost use Rattle.tks_lines.specs.Laws.{in_and_out, GoesBefore, RangesOf, PutsIn, TakesOut};
 
 /// Characters that are inserted and then deleted leave all as it was: the text, its tags and its marks.
@@ -44,4 +48,19 @@ pub fn insertion_keeps_the_others()
 /// Character by character: where some go out, those before and behind are what they were, tags and all.
 pub fn deletion_keeps_the_others()
     ensures { (t : Lines) (first last : ℕ) → Formed t → is_editable t ≡ true → first ≤ last → last ≤ length t.text → TakesOut first last t (deleted first last t) }
+{}
+
+/// Flags and ranges say the same: ranges have the flags that have them, flags the ranges that have them, and what has
+/// ranges is of ranges that rise, of which none is empty and none touches another.
+pub fn ranges_say_flags()
+    ensures ranges { (len : ℕ) (ranges : List Range) → AreRanges len None ranges → ranges_of (flags_of len ranges) ≡ ranges }
+    ensures flags { (on : List Bool) → flags_of (length on) (ranges_of on) ≡ on }
+    ensures lawful { (on : List Bool) → AreRanges (length on) None (ranges_of on) }
+    ensures long { (len : ℕ) (ranges : List Range) → AreRanges len None ranges → length (flags_of len ranges) ≡ len }
+{}
+
+/// A text widget is made again from what it has, and one that is made again has just what it is made from.
+pub fn texts_are_restored()
+    ensures kept { (t : Lines) → Formed t → restored t.options t.text t.tags t.marks ≡ Some t }
+    ensures made { (options : Options) (text : List ℕ) (tags : List Tag) (marks : List Mark) (t : Lines) → restored options text tags marks ≡ Some t → (t ≡ record { options = options; text = text; tags = tags; marks = marks }) × Formed t }
 {}

@@ -14,6 +14,8 @@ mod modifier;
 mod numbers;
 mod parts;
 mod places;
+mod range;
+mod restoring;
 mod shown;
 mod tag_calls;
 mod tags;
@@ -21,7 +23,9 @@ mod tags;
 pub use flag_list::Flags;
 pub use laws::{
     deletion_keeps_the_others, deletion_undoes_insertion, insertion_keeps_the_others,
-    last_newline_stays, marks_stay_in_order, ranges_are_the_tagged, told_index_names_its_place,
+    last_newline_stays, marks_stay_in_order, ranges_are_the_tagged, ranges_say_flags,
+    texts_are_restored, told_index_names_its_place,
 };
 pub use lines::TextWidget;
 pub use parts::{Mark, Tag};
+pub use range::Range;

@@ -5,6 +5,7 @@ use Rattle.tks_text.specs.Text.{same_text}
 use Rattle.tks_text.specs.Integer.{integer_of}
 use Rattle.tks_text.specs.Fault.{fault_about}
 use Rattle.tks_text.specs.declared.integer.Range.{Range}
+use Rattle.tks_text.specs.declared.class.Class.{Class}
 use Rattle.tks_text.specs.declared.class.Class.TheVariants as class
 use Rattle.tks_text.specs.declared.fault.ErrorNumber.TheVariants.{BadIndex, OutOfRange}
 use Rattle.tks_text.specs.declared.fault.ScriptFault.{ScriptFault}
@@ -27,6 +28,21 @@ first_listbox path = record { options = first_options class.Listbox path; items 
 -- there is an item in the active place, unless there is none at all
 abbrev pub HasActive : List Item → ℕ → Type 0
 HasActive items active = active < max 1 (length items)
+
+-- ---- making it again
+
+abbrev pub is_listbox : Class → Bool
+is_listbox class.Listbox = true
+is_listbox c = false
+
+-- whether there is an item in a place, unless there is none at all
+abbrev pub has_active : List Item → ℕ → Bool
+has_active items active = nat_lt active (max 1 (length items))
+
+-- the listbox that has these, where the place may be that of the active item
+abbrev pub restored : Options → List Item → ℕ → Option Listbox
+restored options items active =
+    if is_listbox options.class && has_active items active then Some (record { options = options; items = items; active = active }) else None
 
 -- ---- indices
 

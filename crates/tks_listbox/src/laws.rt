@@ -1,5 +1,7 @@
-ghost use Rattle.std.specs.Prelude.{ℕ, true, ◌≡◌, ◌+◌, ◌≤◌, ◌<◌, List, length};
-ghost use Rattle.tks_listbox.specs.Listbox.{Listbox, HasActive, is_editable, inserted, deleted, selected_from};
+ghost use Rattle.std.specs.Prelude.{ℕ, true, ◌≡◌, ◌+◌, ◌≤◌, ◌<◌, List, length, Some};
+ghost use Rattle.tks_text.specs.declared.class.Class.TheVariants as class;
+ghost use Rattle.tks_opt.specs.Options.{Options};
+ghost use Rattle.tks_listbox.specs.Listbox.{Listbox, HasActive, restored, is_editable, inserted, deleted, selected_from};
 ghost use Rattle.tks_listbox.specs.Laws.{SameActive, in_and_out, TakesOut, Rises};
 ghost use Rattle.tks_listbox.specs.declared.item.Item.{Item};
 
@@ -27,4 +29,10 @@ pub fn deletion_keeps_the_others()
 /// The places of selected items rise, so none is told twice.
 pub fn selected_places_rise()
     ensures { (items : List Item) (place : ℕ) → Rises place (selected_from place items) }
+{}
+
+/// A listbox is made again from what it has, and one that is made again has just what it is made from.
+pub fn listboxes_are_restored()
+    ensures kept { (l : Listbox) → l.options.class ≡ class.Listbox → HasActive l.items l.active → restored l.options l.items l.active ≡ Some l }
+    ensures made { (options : Options) (items : List Item) (active : ℕ) (l : Listbox) → restored options items active ≡ Some l → (l ≡ record { options = options; items = items; active = active }) × (options.class ≡ class.Listbox) × HasActive items active }
 {}

@@ -11,6 +11,6 @@ mod shown;
 pub use item::Item;
 pub use laws::{
     active_stays_by_deletion, active_stays_by_insertion, deletion_keeps_the_others,
-    deletion_undoes_insertion, selected_places_rise,
+    deletion_undoes_insertion, listboxes_are_restored, selected_places_rise,
 };
 pub use listbox::ListWidget;

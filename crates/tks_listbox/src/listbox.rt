@@ -2,7 +2,7 @@ ghost use Rattle.std.specs.Prelude.{◌≡◌, ◌≤◌, ◌<◌, ◌^◌, leng
 ghost use Rattle.tks_text.specs.Fault.{Gives};
 ghost use Rattle.tks_text.specs.declared.class.Class.TheVariants as class;
 ghost use Rattle.tks_opt.specs.Options.{configured};
-ghost use Rattle.tks_listbox.specs.Listbox.{first_listbox, index_in, last_of, rounded, front_of, behind_of, is_editable, moved_on, moved_back, inserted, deleted, activated, selected};
+ghost use Rattle.tks_listbox.specs.Listbox.{first_listbox, HasActive, has_active, restored, index_in, last_of, rounded, front_of, behind_of, is_editable, moved_on, moved_back, inserted, deleted, activated, selected};
 ghost use Rattle.tks_listbox.specs.Commands.{behind_index, item_index};
 
 use crate::item::Item;
@@ -31,6 +31,13 @@ impl Model for ListWidget {
     ghost view = { λ l. record { options = l.options; items = l.items; active = l.active } };
 
     ghost invariant = { λ l. (l.options.class ≡ class.Listbox) × HasActive l.items l.active };
+}
+
+// Whether the active item may be the one in a place.
+fn has_active(items: &Seq<Item>, active: usize) -> bool
+    ensures { result ≡ has_active items.now active }
+{
+    active < items.len().max(1)
 }
 
 // The nearest place from 0 up to another.
@@ -113,6 +120,31 @@ impl ListWidget {
         })
     }
 
+    /// The listbox that has these options, these items and the active one in this place, so that one is made again from
+    /// what it had: none where the options aren't those of a listbox, or there is no item in the place. Where there is
+    /// no item at all, the place is 0.
+    pub fn restore(
+        alloc: Global,
+        options: Options,
+        items: Seq<Item>,
+        active: usize,
+    ) -> Option<ListWidget>
+        ensures { result ≡ restored options items active }
+    {
+        if !has_active(&items, active) {
+            return None;
+        }
+        match options.class() {
+            Class::Listbox => Some(ListWidget {
+                alloc,
+                options,
+                items,
+                active,
+            }),
+            _ => None,
+        }
+    }
+
     /// Its options.
     pub fn options(&self) -> &Options
         ensures value { result.now ≡ self.now.options }
@@ -132,6 +164,7 @@ impl ListWidget {
     pub fn active(&self) -> usize
         ensures value { result ≡ self.now.active }
         ensures bound { result < 2 ^ 63 }
+        ensures one { HasActive self.now.items self.now.active }
     {
         self.active.min(self.len())
     }

@@ -28,6 +28,13 @@ impl<'a, T> Items<'a, T> {
     {
         Items { slots }
     }
+
+    /// Those that are still to come, once more.
+    pub fn rest(&self) -> Items<'a, T>
+        ensures { result ≡ self.now }
+    {
+        Items { slots: self.slots }
+    }
 }
 
 impl<'a, T> Iterator for Items<'a, T> {

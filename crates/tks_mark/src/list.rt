@@ -1,4 +1,4 @@
-ghost use Rattle.std.specs.Prelude.{◌≡◌, ◌++◌, [], ◌∷◌, ◌==◌, ◌&&◌, ◌||◌, not, length, Some, None, IsSome, is_some, IfSome, OnOk, OnErr, IfErr};
+ghost use Rattle.std.specs.Prelude.{◌≡◌, ◌++◌, [], ◌∷◌, ◌==◌, ◌&&◌, ◌||◌, not, length, Some, None, IsSome, is_some, IfSome, IfOk, OnOk, OnErr, IfErr};
 ghost use Rattle.std.specs.Prelude.{ℕ, ◌+◌, ◌<◌, ◌≤◌, slice_set};
 ghost use Rattle.std.specs.List.{filter, insert, remove};
 ghost use Rattle.tks_mark.specs.Views.{Views, present_of, new_slot, place_in, without_place, gone_back, gone_on, kept, restored, settled, stays_without, struck};
@@ -82,6 +82,17 @@ impl<T> Marked<T> {
 }
 
 impl<T: Drop> Marked<T> {
+    /// The list of these items, with no mark.
+    pub fn of(alloc: Global, items: Vec<T>) -> Result<Marked<T>, AllocError>
+        ensures { IfOk result (λ list. list ≡ record { present = items.items; at_mark = None }) }
+    {
+        let mut list = Marked::new(alloc);
+        for item in items {
+            list.push(item)?;
+        }
+        Ok(list)
+    }
+
     /// Adds an item at the end.
     pub fn push(&mut self, item: T) -> Result<(), AllocError>
         ensures ok { OnOk result (self.new ≡ record self.old { present = self.old.present ++ item ∷ [] }) }

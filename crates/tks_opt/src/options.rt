@@ -1,4 +1,4 @@
-ghost use Rattle.std.specs.Prelude.{◌≡◌, IfOk, OnErr, [], true, Some, option_map, option_and_then, slice_get};
+ghost use Rattle.std.specs.Prelude.{◌≡◌, ◌<◌, ◌^◌, length, IfOk, OnErr, [], true, Some, option_map, option_and_then, slice_get};
 ghost use Rattle.std.specs.List.{zip};
 ghost use Rattle.indexmap.specs.IndexMap.{insert_all};
 ghost use Rattle.tks_text.specs.Fault.{Gives};
@@ -135,6 +135,15 @@ impl Options {
             Some(value) => value,
             None => unreachable!(),
         }
+    }
+
+    /// How many options the class has.
+    pub fn len(&self) -> usize
+        ensures value { result ≡ length (values_in_order self.now) }
+        ensures few { result < 2 ^ 32 }
+        ensures legal { Legal self.now }
+    {
+        self.values.len()
     }
 
     /// The value that stands behind so many others, in the order in which the class's options are kept.

@@ -1,4 +1,5 @@
-ghost use Rattle.std.specs.Prelude.{◌≡◌, length, Some, None, [], IsSome, is_some, IfSome, IfOk, IfErr, OnOk, OnErr};
+ghost use Rattle.std.specs.Prelude.{◌≡◌, ◌<◌, length, Some, None, [], IsSome, is_some, IfSome, IfOk, IfErr, OnOk, OnErr};
+ghost use Rattle.std.specs.List.{remove};
 ghost use Rattle.tks_queue.specs.EventQueue.{queued, put, first, without_first, without_window};
 ghost use Rattle.tks_queue.specs.Index.{up_to_mark, is_mark, index_for};
 
@@ -34,6 +35,16 @@ impl Queue {
             alloc,
             events: Marked::new(alloc),
         }
+    }
+
+    /// The queue of these events, the next one first, with no mark, so that one is made again from what it had.
+    pub fn restore(alloc: Global, events: Vec<Queued>) -> Result<Queue, AllocError>
+        ensures { IfOk result (λ made. made ≡ record { present = events.items; at_mark = None }) }
+    {
+        Ok(Queue {
+            alloc,
+            events: Marked::of(alloc, events)?,
+        })
     }
 
     /// The events that wait, the next one first.
@@ -82,6 +93,14 @@ impl Queue {
         };
         self.events.remove(0);
         Ok(Some(event))
+    }
+
+    /// Takes out the event in this place, counted from 0. It takes no memory.
+    pub fn remove(&mut self, index: usize)
+        requires { index < length self.old.present }
+        ensures { self.new ≡ record self.old { present = remove self.old.present index } }
+    {
+        self.events.remove(index);
     }
 
     /// Takes out all events of a window. It takes no memory.

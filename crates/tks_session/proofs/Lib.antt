@@ -6,3 +6,4 @@ pub mod Runs
 mod Starts
 mod Crashes
 pub mod Lives
+pub mod Drains

@@ -6,3 +6,4 @@ pub mod Opening
 pub mod Refusing
 pub mod Session
 pub mod Starting
+pub mod Draining

@@ -1,6 +1,7 @@
 //! A session on a disk: what a power cut leaves.
 #![tactic(auto)]
 
+mod draining;
 mod fault;
 mod first;
 mod laws;
@@ -10,6 +11,7 @@ mod replay;
 mod restore;
 mod session;
 
+pub use draining::Drained;
 pub use fault::SessionFault;
 pub use laws::{a_crash_leaves_a_prefix, runs_join};
 pub use machine::Machine;

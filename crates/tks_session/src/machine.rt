@@ -2,6 +2,7 @@ ghost use Rattle.std.specs.Prelude.{◌≡◌, List, ℕ, IfOk, IfErr, OnErr, So
 ghost use Rattle.tks_codec.specs.Header.{AreNames, header};
 ghost use Rattle.tks_codec.specs.declared.header.Header.{Header};
 ghost use Rattle.tks_session.specs.Machine.{Meaning, accepts};
+ghost use Rattle.tks_session.specs.Opening.{same_names};
 ghost use Rattle.tks_session.specs.Refusing.{RefusedAs};
 
 use std::alloc::{AllocError, Global};
@@ -65,9 +66,9 @@ pub trait Machine {
     fn grid(&self) -> Size
         ensures { result ≡ (meaning self.now).grid };
 
-    /// The application commands' names.
-    fn names(&self) -> &[Txt]
-        ensures { result.now ≡ (meaning self.now).names };
+    /// Whether these are the application commands' names.
+    fn has_names(&self, names: &[Txt]) -> bool
+        ensures { result ≡ same_names names.now (meaning self.now).names };
 
     /// How many inputs may wait for a commit.
     fn pending(&self) -> usize

@@ -29,7 +29,7 @@ fn admit<M: Machine>(
     if header.grid.width() != grid.width() || header.grid.height() != grid.height() {
         return Err(SessionFault::OtherGrid);
     }
-    if header.names.as_slice() != machine.names() {
+    if !machine.has_names(header.names.as_slice()) {
         return Err(SessionFault::OtherCommands);
     }
     if !machine.is_within(&world) {

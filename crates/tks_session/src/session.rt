@@ -89,6 +89,13 @@ impl<D: Disk, M: Machine> Session<D, M> {
         &self.world
     }
 
+    /// Whether a call of the disk failed. From then on nothing more is taken or put on the disk.
+    pub fn has_failed(&self) -> bool
+        ensures { result ≡ self.now.journal.failed }
+    {
+        self.journal.has_failed()
+    }
+
     /// How many inputs were accepted.
     pub fn posted(&self) -> u64
         ensures { result ≡ (M.meaning self.now.machine).count self.now.world }
@@ -175,6 +182,7 @@ impl<D: Disk, M: Machine> Session<D, M> {
             (OpensToPrefix (M.meaning self.old.machine) (opens (M.meaning self.old.machine) (D.view self.old.journal.disk).reads) self.old.waiting) }
 
         ensures err { IfErr result (CommitFails self.old self.new (D.failures self.old.journal.disk) (D.failures self.new.journal.disk)) }
+        ensures steady { OnOk result (D.failures self.new.journal.disk ≡ D.failures self.old.journal.disk) }
         ensures honesty { D.honest self.old.journal.disk ↔ D.honest self.new.journal.disk }
     {
         if self.journal.has_failed() {

@@ -18,7 +18,7 @@ use Rattle.tks_tree.specs.WellFormed.{Rise, Rises}
 use Rattle.tks_tree.proofs.Parents.{Destroyed, destroyed_so, turned}
 use Rattle.tks_state.specs.declared.kept.Kept.{Kept}
 use Rattle.tks_state.specs.declared.widget.Widget.{Widget}
-use Rattle.tks_state.specs.Windows.{kept_of, replaced, on_kept, with_widget, with_packing, new_kept, with_widget_at, packed_at, forgotten_at, propagating, still_there}
+use Rattle.tks_state.specs.Windows.{kept_of, replaced, on_kept, with_widget, with_tags, with_packing, new_kept, with_widget_at, with_tags_at, packed_at, forgotten_at, propagating, still_there}
 use Rattle.tks_state.specs.WellFormed.{InStep, packed_windows, PacksChildren, AllPackChildren, WellFormedWindows}
 
 abbrev windows_of : List Content → List ℕ
@@ -116,6 +116,15 @@ module _ (t : Windows) where
       by (Some k) e =
           let p = (kept_found n ks k t e all).1 in
           all_replaced (PacksChildren t) n (with_widget k v) ks (record { distinct = p.distinct; children = p.children }) all
+
+  pub tagged_packs : (ks : List Kept) (n : ℕ) (tags : Option (List (List ℕ))) → AllPackChildren t ks → AllPackChildren t (with_tags_at ks n tags)
+  tagged_packs ks n tags all = by (kept_of ks n) refl
+    where
+      by : (o : Option Kept) → kept_of ks n ≡ o → AllPackChildren t (on_kept o ks (λ k. replaced n (with_tags k tags) ks))
+      by None e = all
+      by (Some k) e =
+          let p = (kept_found n ks k t e all).1 in
+          all_replaced (PacksChildren t) n (with_tags k tags) ks (record { distinct = p.distinct; children = p.children }) all
 
   pub packed_packs : (ks : List Kept) (n : ℕ) (words : List (List ℕ)) → AllPackChildren t ks → IfOk (packed_at ks (parent t n) n words) (AllPackChildren t)
   packed_packs ks n words all = by (parent t n) refl

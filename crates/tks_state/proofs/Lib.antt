@@ -4,3 +4,4 @@ mod Layouts
 mod Marks
 mod Children
 mod Linked
+mod Holding

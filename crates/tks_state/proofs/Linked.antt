@@ -25,6 +25,8 @@ unfolding text_of with_text
 another_text text (widget.Frame t) there = absurd (true≢false (sym there))
 another_text text (widget.Caption t) there = ap (or_else []) (value_replaced name.Text text t.values there)
 another_text text (widget.Entry e) there = refl
+another_text text (widget.Listbox l) there = absurd (true≢false (sym there))
+another_text text (widget.Text t) there = absurd (true≢false (sym there))
 
 pub shows : (variables : Variables) (global : List ℕ) (w : Widget) → has_text w ≡ true → link_of w ≡ Some global → Shows variables global w
 unfolding seen

@@ -7,11 +7,13 @@ use Rattle.tks_state.specs.Links.{text_of, seen, global_if, or_empty}
 use Rattle.tks_state.specs.declared.widget.Widget.{Widget}
 use Rattle.tks_state.specs.declared.widget.Widget.TheVariants as widget
 
--- whether a widget has a text at all
+-- whether a widget has a text that may be a global's
 abbrev pub has_text : Widget → Bool
 has_text (widget.Frame t) = false
 has_text (widget.Caption t) = is_some (value_in t.values name.Text)
 has_text (widget.Entry e) = true
+has_text (widget.Listbox l) = false
+has_text (widget.Text t) = false
 
 -- a widget's text, as it is seen, is the value of a global, empty where that can't be read
 abbrev pub Shows : Variables → List ℕ → Widget → Type 0

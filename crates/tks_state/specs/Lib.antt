@@ -1,5 +1,9 @@
 pub mod Widget
 pub mod Links
+pub mod Events
+pub mod Lost
+pub mod ClassBindings
+pub mod EventLoop
 pub mod Windows
 pub mod World
 pub mod ByWindow

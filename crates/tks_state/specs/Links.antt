@@ -24,17 +24,21 @@ some_name (c ∷ rest) = Some (c ∷ rest)
 unfoldable pub link_of : Widget → Option (List ℕ)
 link_of w = option_and_then some_name (value_in (options_of w).values name.TextVariable)
 
--- the widget's text; a frame has none
+-- the text of a widget that may show a global; the others have none
 unfoldable pub text_of : Widget → List ℕ
 text_of (widget.Frame t) = []
 text_of (widget.Caption t) = sizes.text_of t
 text_of (widget.Entry e) = e.text
+text_of (widget.Listbox l) = []
+text_of (widget.Text t) = []
 
--- the widget with another text
+-- the widget with another text, where it may show a global
 unfoldable pub with_text : List ℕ → Widget → Widget
 with_text text (widget.Frame t) = widget.Frame t
 with_text text (widget.Caption t) = widget.Caption (record t { values = replaced t.values name.Text text })
 with_text text (widget.Entry e) = widget.Entry (record e { text = text })
+with_text text (widget.Listbox l) = widget.Listbox l
+with_text text (widget.Text t) = widget.Text t
 
 abbrev pub value_if : Result (List ℕ) ScriptFault → Option (List ℕ)
 value_if (Ok value) = Some value

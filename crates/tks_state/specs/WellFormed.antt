@@ -1,12 +1,14 @@
 -- What holds of all worlds (this project's own rules; that what is packed stands in its container, pack(n)).
-use Rattle.std.specs.Prelude.{ℕ, ◌≡◌, ◌==◌, ◌≤◌, ◌^◌, List, map, Some}
+use Rattle.std.specs.Prelude.{ℕ, ◌≡◌, ◌==◌, ◌≤◌, ◌^◌, List, length, map, Some}
 use Rattle.std.specs.List.{AllByRecursion, IsDistinct}
 use Rattle.tks_text.specs.declared.class.Class.{Class}
 use Rattle.tks_tree.specs.Windows as tree
 use Rattle.tks_tree.specs.WellFormed as trees
+use Rattle.tks_bind.specs.History.{max_history}
+use Rattle.tks_state.specs.Events.{Events, max_faults}
 use Rattle.tks_state.specs.Widget.{class_of}
 use Rattle.tks_state.specs.Windows.{Windows}
-use Rattle.tks_state.specs.World.{World, windows_of}
+use Rattle.tks_state.specs.World.{World, windows_of, events_of}
 use Rattle.tks_state.specs.declared.kept.Kept.{Kept}
 
 -- whose something is: the number of the window, and its class
@@ -39,6 +41,12 @@ pub record WellFormedWindows (x : Windows) : Type 0 where
   pub in_step : InStep x.tree.windows x.kept
   pub packs : AllPackChildren x.tree x.kept
 
+-- what holds of what scripts bound to events rest on
+pub record WellFormedEvents (x : Events) : Type 0 where
+  pub history : length x.history ≤ max_history
+  pub faults : length x.faults ≤ max_faults
+
 pub record WellFormed (w : World) : Type 0 where
   pub counted : w.accepted ≤ 2 ^ 62
   pub windows : WellFormedWindows (windows_of w)
+  pub events : WellFormedEvents (events_of w)

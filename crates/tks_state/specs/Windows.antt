@@ -39,18 +39,26 @@ on_kept (Some k) none some = some k
 
 -- with another widget, or other contents
 abbrev pub with_widget : Kept → Widget → Kept
-with_widget k w = record { window = k.window; widget = w; packing = k.packing }
+with_widget k w = record k { widget = w }
 
 abbrev pub with_packing : Kept → Packed → Kept
-with_packing k p = record { window = k.window; widget = k.widget; packing = p }
+with_packing k p = record k { packing = p }
 
--- a new window holds nothing
+-- with other tags, or with those that windows have where none were set
+abbrev pub with_tags : Kept → Option (List (List ℕ)) → Kept
+with_tags k tags = record k { tags = tags }
+
+-- a new window holds nothing, and no tags were set
 abbrev pub new_kept : ℕ → Widget → Kept
-new_kept number w = record { window = number; widget = w; packing = nothing_packed }
+new_kept number w = record { window = number; widget = w; tags = None; packing = nothing_packed }
 
 -- another widget in the place of a window's
 abbrev pub with_widget_at : List Kept → ℕ → Widget → List Kept
 with_widget_at kept number v = on_kept (kept_of kept number) kept (λ k. replaced number (with_widget k v) kept)
+
+-- other tags of a window
+abbrev pub with_tags_at : List Kept → ℕ → Option (List (List ℕ)) → List Kept
+with_tags_at kept number tags = on_kept (kept_of kept number) kept (λ k. replaced number (with_tags k tags) kept)
 
 -- a window packed in its container, with options and values
 abbrev pub packed_in : List Kept → ℕ → ℕ → List (List ℕ) → Result (List Kept) ScriptFault
@@ -108,6 +116,10 @@ destroyed x number = after (tree.destroyed x.tree number) (λ _. Ok (without x n
 -- a window that is another widget
 abbrev pub changed : Windows → ℕ → Widget → Windows
 changed x number v = record x { kept = with_widget_at x.kept number v }
+
+-- a window with other tags (bindtags(n))
+abbrev pub tagged : Windows → ℕ → Option (List (List ℕ)) → Windows
+tagged x number tags = record x { kept = with_tags_at x.kept number tags }
 
 -- a window packed in the one that it stands in (pack(n))
 abbrev pub packed : Windows → ℕ → List (List ℕ) → Result Windows ScriptFault

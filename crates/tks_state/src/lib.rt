@@ -2,6 +2,9 @@
 #![tactic(auto)]
 
 mod by_window;
+mod class_bindings;
+mod event_loop;
+mod events;
 mod kept;
 mod laws;
 mod layout;

@@ -44,19 +44,19 @@ impl Widget {
         }
     }
 
-    // Its text; a frame has none.
+    // The text of one that may show a global; the others have none.
     #[tactic(auto, unfolding(crate::specs::Links::text_of))]
     fn text(&self) -> Option<&Txt>
         ensures { or_empty (option_map (λ t. t.now) result) ≡ text_of self.now }
     {
         match self {
-            Widget::Frame(_) => None,
+            Widget::Frame(_) | Widget::Listbox(_) | Widget::Text(_) => None,
             Widget::Caption(caption) => Some(caption.text()),
             Widget::Entry(entry) => Some(entry.text()),
         }
     }
 
-    /// A copy of its text; that of a frame is empty.
+    /// A copy of the text of one that may show a global; that of another is empty.
     pub fn copied_text(&self, alloc: Global) -> Result<Txt, AllocError>
         ensures { IfOk result (λ t. t ≡ text_of self.now) }
     {
@@ -76,7 +76,7 @@ impl Widget {
         }
     }
 
-    /// The same widget with another text.
+    /// The same widget with another text, where it may show a global.
     #[tactic(auto, unfolding(crate::specs::Links::with_text))]
     pub fn with_text(&self, text: &Txt) -> Result<Widget, AllocError>
         ensures value { IfOk result (λ w. w ≡ with_text text.now self.now) }
@@ -86,6 +86,8 @@ impl Widget {
             Widget::Frame(frame) => Ok(Widget::Frame(frame.try_clone()?)),
             Widget::Caption(caption) => Ok(Widget::Caption(caption.with_text(text)?)),
             Widget::Entry(entry) => Ok(Widget::Entry(entry.with_text(text)?)),
+            Widget::Listbox(listbox) => Ok(Widget::Listbox(listbox.try_clone()?)),
+            Widget::Text(lines) => Ok(Widget::Text(lines.try_clone()?)),
         }
     }
 

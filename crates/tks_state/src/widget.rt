@@ -6,6 +6,8 @@ ghost use Rattle.tks_state.specs.Widget.{options_of, class_of, configured, calle
 use std::alloc::AllocError;
 use tks_button::{Caption, Frame};
 use tks_entry::EntryWidget;
+use tks_lines::TextWidget;
+use tks_listbox::ListWidget;
 use tks_opt::{Options, Said};
 use tks_pack::Extent;
 use tks_text::{Failure, Seq, Txt};
@@ -18,6 +20,8 @@ pub enum Widget {
     /// A label, a button or a checkbutton.
     Caption(Caption),
     Entry(EntryWidget),
+    Listbox(ListWidget),
+    Text(TextWidget),
 }
 
 // So many cells, as far as they are told of.
@@ -36,6 +40,8 @@ impl Widget {
             Widget::Frame(frame) => frame.options(),
             Widget::Caption(caption) => caption.options(),
             Widget::Entry(entry) => entry.options(),
+            Widget::Listbox(listbox) => listbox.options(),
+            Widget::Text(text) => text.options(),
         }
     }
 
@@ -57,6 +63,14 @@ impl Widget {
             }
             Widget::Entry(entry) => {
                 entry.configure(pairs)?;
+                Ok(())
+            }
+            Widget::Listbox(listbox) => {
+                listbox.configure(pairs)?;
+                Ok(())
+            }
+            Widget::Text(text) => {
+                text.configure(pairs)?;
                 Ok(())
             }
         }
@@ -81,6 +95,14 @@ impl Widget {
                 let said = entry.call(words)?;
                 Ok(said)
             }
+            Widget::Listbox(listbox) => {
+                let said = listbox.call(words)?;
+                Ok(said)
+            }
+            Widget::Text(text) => {
+                let said = text.call(words)?;
+                Ok(said)
+            }
         }
     }
 
@@ -100,6 +122,14 @@ impl Widget {
             Widget::Entry(entry) => Extent {
                 width: capped(entry.requested_width()),
                 height: capped(entry.requested_height()),
+            },
+            Widget::Listbox(listbox) => Extent {
+                width: capped(listbox.requested_width()),
+                height: capped(listbox.requested_height()),
+            },
+            Widget::Text(text) => Extent {
+                width: capped(text.requested_width()),
+                height: capped(text.requested_height()),
             },
         }
     }
@@ -121,6 +151,14 @@ impl Widget {
                 let cells = entry.shown(width, height)?;
                 Ok(cells)
             }
+            Widget::Listbox(listbox) => {
+                let cells = listbox.shown(width, height)?;
+                Ok(cells)
+            }
+            Widget::Text(text) => {
+                let cells = text.shown(width, height)?;
+                Ok(cells)
+            }
         }
     }
 
@@ -132,6 +170,8 @@ impl Widget {
             Widget::Frame(frame) => Ok(Widget::Frame(frame.try_clone()?)),
             Widget::Caption(caption) => Ok(Widget::Caption(caption.try_clone()?)),
             Widget::Entry(entry) => Ok(Widget::Entry(entry.try_clone()?)),
+            Widget::Listbox(listbox) => Ok(Widget::Listbox(listbox.try_clone()?)),
+            Widget::Text(text) => Ok(Widget::Text(text.try_clone()?)),
         }
     }
 }

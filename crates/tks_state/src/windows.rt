@@ -6,7 +6,7 @@ ghost use Rattle.tks_tree.specs.Meets.{MakesSo, AnswersSo};
 ghost use Rattle.tks_tree.specs.WellFormed as trees;
 ghost use Rattle.tks_tree.specs.WellFormed.{Rises};
 ghost use Rattle.tks_state.specs.Widget.{class_of};
-ghost use Rattle.tks_state.specs.Windows.{kept_of, with_widget_at, packed_at, forgotten_at, propagating, still_there, first_windows, created, destroyed, changed, packed, unpacked, with_propagation};
+ghost use Rattle.tks_state.specs.Windows.{kept_of, with_widget_at, with_tags_at, packed_at, forgotten_at, propagating, still_there, first_windows, created, destroyed, changed, tagged, packed, unpacked, with_propagation};
 ghost use Rattle.tks_state.specs.WellFormed.{WellFormedWindows, mark_of};
 
 use crate::kept::Kept;
@@ -15,7 +15,7 @@ use std::alloc::{AllocError, Global};
 use std::marker::Model;
 use tks_button::Frame;
 use tks_pack::Packing;
-use tks_text::{ErrorNumber, Failure, ScriptFault, Txt};
+use tks_text::{ErrorNumber, Failure, ScriptFault, Seq, Txt};
 use tks_tree::{CreateFault, Tree, WindowId};
 
 /// The windows of a world.
@@ -60,6 +60,18 @@ fn set_widget_at(kept: &mut Vec<Kept>, window: WindowId, widget: Widget)
         return;
     };
     kept[place].widget = widget;
+}
+
+// Sets the tags of a window, or takes away those that were set.
+fn set_tags_at(kept: &mut Vec<Kept>, window: WindowId, tags: Option<Seq<Txt>>)
+    requires { Rises (λ k. k.window) 0 kept.old.items }
+    ensures value { kept.new.items ≡ with_tags_at kept.old.items window tags }
+    ensures marks { map mark_of kept.new.items ≡ map mark_of kept.old.items }
+{
+    let Some(place) = place_of(kept, window) else {
+        return;
+    };
+    kept[place].tags = tags;
 }
 
 // Packs a window in a container.
@@ -131,7 +143,7 @@ fn copies_of(alloc: Global, kept: &[Kept]) -> Result<Vec<Kept>, AllocError>
 {
     let mut copies = Vec::with_capacity(alloc, kept.len())?;
     for one in kept {
-        copies.push(one.try_clone()?)?;
+        copies.push(one.try_clone(alloc)?)?;
     }
     Ok(copies)
 }
@@ -147,6 +159,7 @@ impl Windows {
         kept.push(Kept {
             window: WindowId::root(),
             widget,
+            tags: None,
             packing: Packing::new(alloc),
         })?;
         Ok(Windows {
@@ -192,6 +205,7 @@ impl Windows {
         self.kept.push(Kept {
             window,
             widget,
+            tags: None,
             packing: Packing::new(self.alloc),
         })?;
         Ok(window)
@@ -216,6 +230,13 @@ impl Windows {
         ensures { self.new ≡ changed self.old window widget }
     {
         set_widget_at(&mut self.kept, window, widget);
+    }
+
+    /// Sets the tags of a window, or takes away those that were set. Where no window has the number, nothing is done.
+    pub fn set_tags(&mut self, window: WindowId, tags: Option<Seq<Txt>>)
+        ensures { self.new ≡ tagged self.old window tags }
+    {
+        set_tags_at(&mut self.kept, window, tags);
     }
 
     /// Packs a window in the one that it stands in, with options and values in turn. `.` is never packed.

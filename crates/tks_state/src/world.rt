@@ -1,19 +1,30 @@
-ghost use Rattle.std.specs.Prelude.{◌≡◌, ◌+◌, ◌<◌, ◌^◌, option_map, IfOk, IfSome, OnErr};
+ghost use Rattle.std.specs.Prelude.{◌≡◌, ◌≢◌, ◌↔◌, ◌≤◌, ◌+◌, ◌<◌, ◌^◌, [], Err, option_map, option_copied, IfOk, IfErr, IfSome, OnOk, OnErr};
 ghost use Rattle.tks_text.specs.Fault.{Gives};
+ghost use Rattle.tks_bind.specs.Choosing.{chosen};
 ghost use Rattle.tks_tree.specs.Meets.{MakesSo, AnswersSo};
 ghost use Rattle.tks_tree.specs.WellFormed as trees;
 ghost use Rattle.tks_state.specs.Widget.{class_of};
 ghost use Rattle.tks_state.specs.Windows.{kept_of};
 ghost use Rattle.tks_state.specs.WellFormed.{WellFormed};
-ghost use Rattle.tks_state.specs.World.{first_world, with_window, with_widget, unpacked, destroyed, packed, with_propagation};
+ghost use Rattle.tks_queue.specs.EventQueue.{first};
+ghost use Rattle.tks_timer.specs.After.{script_in, kept_under};
+ghost use Rattle.tks_state.specs.World.{with_virtual, without_virtual, without_virtual_sequence, with_clock, queued, without_event, with_timer, with_idle, without_id, without_script, focused, holding, pressed_in};
+ghost use Rattle.tks_state.specs.World.{first_world, with_window, with_widget, unpacked, destroyed, tagged, packed, with_propagation, bound_to, with_event, with_fault, scene};
 
+use crate::event_loop::{EventLoop, is_there, left_pressed};
+use crate::events::Events;
 use crate::kept::Kept;
 use crate::widget::Widget;
 use crate::windows::Windows;
-use std::alloc::{AllocError, Global};
+use std::alloc::{AllocError, AllocFailed, Global};
 use std::marker::Model;
 use std::mem;
-use tks_text::{Failure, ScriptFault, Size, Txt};
+use tks_app::Memories;
+use tks_bind::{BindFault, Binding, Bindings, Virtuals};
+use tks_event::{Event, Held, Sequence};
+use tks_queue::{Place, Queue};
+use tks_text::{Failure, ScriptFault, Seq, Size, Txt};
+use tks_timer::{AfterFault, Timers};
 use tks_tree::{CreateFault, Tree, WindowId};
 use tks_vars::Vars;
 
@@ -24,6 +35,9 @@ pub struct World {
     accepted: u64,
     windows: Windows,
     variables: Vars,
+    events: Events,
+    event_loop: EventLoop,
+    memories: Memories,
     grid: Size,
 }
 
@@ -37,21 +51,24 @@ impl Model for World {
 
     ghost coded = { Prim.hlevel (codes, variables_code) };
 
-    ghost view = { λ w. record { accepted = w.accepted; tree = w.windows.tree; kept = w.windows.kept; variables = w.variables; grid = w.grid } };
+    ghost view = { λ w. record { accepted = w.accepted; clock = w.event_loop.clock; tree = w.windows.tree; kept = w.windows.kept; variables = w.variables; bindings = w.events.bindings; virtuals = w.events.virtuals; history = w.events.history; queue = w.event_loop.queue; timers = w.event_loop.timers; focus = w.event_loop.focus; held = w.event_loop.held; pressed = w.event_loop.pressed; memories = w.memories; faults = w.events.faults; grid = w.grid } };
 
     ghost invariant = { λ w. w.accepted ≤ 2 ^ 62 };
 }
 
 impl World {
-    /// The world before any input, with a grid of this size.
-    pub fn first(alloc: Global, grid: Size) -> Result<World, AllocError>
-        ensures { IfOk result (λ w. w ≡ first_world grid) }
+    /// The world before any input, with a grid of this size, for an application whose commands have these names.
+    pub fn first(alloc: Global, grid: Size, names: &[Txt]) -> Result<World, AllocError>
+        ensures { IfOk result (λ w. w ≡ first_world grid names.now) }
     {
         Ok(World {
             alloc,
             accepted: 0,
             windows: Windows::first(alloc)?,
             variables: Vars::new(alloc),
+            events: Events::first(alloc)?,
+            event_loop: EventLoop::new(alloc),
+            memories: Memories::first(alloc, names)?,
             grid,
         })
     }
@@ -67,6 +84,7 @@ impl World {
         ensures formed { WellFormed self.now }
     {
         let _ = self.windows.tree();
+        let _ = self.events.faults();
         self.accepted
     }
 
@@ -131,13 +149,15 @@ impl World {
         Ok(window)
     }
 
-    /// Destroys a window, with all that stand in it. `.` stays: that is an error. Where no window has the number,
-    /// nothing is done.
+    /// Destroys a window, with all that stand in it, the bindings of their paths and the events that wait for them. `.`
+    /// stays, that is an error, and gets the focus of one that is gone. Where no window has the number, none is destroyed.
     pub fn remove_window(&mut self, window: WindowId) -> Result<(), ScriptFault>
         ensures value { AnswersSo (λ _. self.new) result (destroyed self.old window) }
         ensures err { OnErr result (self.new ≡ self.old) }
     {
         self.windows.remove(window)?;
+        self.events.drop_lost(self.windows.tree());
+        self.event_loop.drop_lost(self.windows.tree());
         Ok(())
     }
 
@@ -147,6 +167,13 @@ impl World {
         ensures { self.new ≡ with_widget self.old window widget }
     {
         self.windows.set_widget(window, widget);
+    }
+
+    /// Sets the tags of a window, or takes away those that were set. Where no window has the number, nothing is done.
+    pub fn set_tags(&mut self, window: WindowId, tags: Option<Seq<Txt>>)
+        ensures { self.new ≡ tagged self.old window tags }
+    {
+        self.windows.set_tags(window, tags);
     }
 
     /// Packs a window in the one that it stands in, with options and values in turn. `.` is never packed.
@@ -172,6 +199,238 @@ impl World {
         self.windows.set_propagates(window, propagates);
     }
 
+    /// The bindings, in the order in which they were made.
+    pub fn bindings(&self) -> &Bindings
+        ensures { result.now.present ≡ self.now.bindings }
+    {
+        self.events.bindings()
+    }
+
+    /// The texts of the last errors, at most 32, of scripts that no script was there to see; the oldest first.
+    pub fn faults(&self) -> &[Txt]
+        ensures { result.now ≡ self.now.faults }
+    {
+        self.events.faults()
+    }
+
+    /// The binding of a tag that an event fires, where the event is the last one of the history, or a virtual one.
+    pub fn chosen<'a>(&'a self, tag: &'a Txt, event: &'a Event) -> Option<&'a Binding>
+        ensures { option_copied result ≡ chosen (scene self.now tag.now event.now) }
+    {
+        self.events.chosen(tag, event)
+    }
+
+    /// Sets the script that a tag has for a sequence, as `Bindings::bind` does.
+    pub fn bind(&mut self, tag: Txt, sequence: Sequence, script: &Txt) -> Result<(), BindFault>
+        ensures ok { OnOk result (self.new ≡ bound_to tag sequence script.now self.old) }
+        ensures full { (result ≡ Err BindFault.OutOfNumbers) ↔ ((script.now ≢ []) × (2 ^ 62 ≤ self.old.bindings.next)) }
+        ensures err { OnErr result (self.new ≡ self.old) }
+    {
+        self.events.bind(tag, sequence, script)
+    }
+
+    /// The virtual events, in the order in which they were added.
+    pub fn virtuals(&self) -> &Virtuals
+        ensures { result.now.present ≡ self.now.virtuals }
+    {
+        self.events.virtuals()
+    }
+
+    /// Adds a sequence to a virtual event. One that is there stays where it is.
+    pub fn add_virtual(&mut self, name: &Txt, sequence: &Sequence) -> Result<(), AllocError>
+        ensures ok { OnOk result (self.new ≡ with_virtual name.now sequence.now self.old) }
+        ensures err { OnErr result (self.new ≡ self.old) }
+    {
+        self.events.add_virtual(name, sequence)
+    }
+
+    /// Takes a virtual event's sequences away.
+    pub fn remove_virtual(&mut self, name: &Txt)
+        ensures { self.new ≡ without_virtual name.now self.old }
+    {
+        self.events.remove_virtual(name);
+    }
+
+    /// Takes a sequence of a virtual event away. Where none is left, the name goes too.
+    pub fn remove_virtual_sequence(
+        &mut self,
+        name: &Txt,
+        sequence: &Sequence,
+    ) -> Result<(), AllocError>
+        ensures ok { OnOk result (self.new ≡ without_virtual_sequence name.now sequence.now self.old) }
+        ensures err { OnErr result (self.new ≡ self.old) }
+    {
+        self.events.remove_virtual_sequence(name, sequence)
+    }
+
+    /// Adds an event that is delivered to the history. Where memory is refused, it hands the event back.
+    pub fn add_event(&mut self, event: Event) -> Result<(), AllocFailed<Event>>
+        ensures ok { OnOk result (self.new ≡ with_event event self.old) }
+        ensures err { OnErr result (self.new ≡ self.old) }
+        ensures handed_back { IfErr result (λ refused. refused.value ≡ event) }
+    {
+        self.events.add_event(event)
+    }
+
+    /// Adds an error's text to the faults; where there were 32, the oldest goes.
+    pub fn add_fault(&mut self, text: Txt) -> Result<(), AllocError>
+        ensures ok { OnOk result (self.new ≡ with_fault text self.old) }
+        ensures err { OnErr result (self.new ≡ self.old) }
+    {
+        self.events.add_fault(text)
+    }
+
+    /// The time, in milliseconds.
+    pub fn clock(&self) -> u64
+        ensures { result ≡ self.now.clock }
+    {
+        self.event_loop.clock()
+    }
+
+    /// Sets the clock.
+    pub fn set_clock(&mut self, time: u64)
+        ensures { self.new ≡ with_clock time self.old }
+    {
+        self.event_loop.set_clock(time);
+    }
+
+    /// The events that wait to be delivered, the next one first.
+    pub fn queue(&self) -> &Queue
+        ensures { result.now.present ≡ self.now.queue }
+    {
+        self.event_loop.queue()
+    }
+
+    /// Puts an event into its place. Where no window has its number, nothing is done.
+    pub fn put_event(&mut self, place: Place, event: Event) -> Result<(), AllocError>
+        ensures ok { OnOk result (self.new ≡ queued place event self.old) }
+        ensures err { OnErr result (self.new ≡ self.old) }
+    {
+        if is_there(self.windows.tree(), WindowId::of(event.window)) {
+            self.event_loop.put_event(place, event)?;
+        }
+        Ok(())
+    }
+
+    /// Takes out the event that is delivered next.
+    pub fn take_event(&mut self) -> Result<Option<Event>, AllocError>
+        ensures value { IfOk result (λ event. event ≡ first self.old.queue) }
+        ensures ok { OnOk result (self.new ≡ without_event self.old) }
+        ensures err { OnErr result (self.new ≡ self.old) }
+    {
+        self.event_loop.take_event()
+    }
+
+    /// The scripts that wait to be run.
+    pub fn timers(&self) -> &Timers
+        ensures { result.now.present ≡ self.now.timers }
+    {
+        self.event_loop.timers()
+    }
+
+    /// Keeps a script that is due at a time, in milliseconds. It answers the script's id.
+    pub fn keep_timer(&mut self, due: u64, script: Txt) -> Result<u64, AfterFault>
+        ensures id { IfOk result (λ id. id ≡ self.old.timers.next) }
+        ensures ok { OnOk result (self.new ≡ with_timer due script self.old) }
+        ensures full { (result ≡ Err AfterFault.OutOfNumbers) ↔ (2 ^ 62 ≤ self.old.timers.next) }
+        ensures err { OnErr result (self.new ≡ self.old) }
+    {
+        self.event_loop.keep_timer(due, script)
+    }
+
+    /// Keeps a script that runs when nothing else is to be done. It answers the script's id.
+    pub fn keep_idle(&mut self, script: Txt) -> Result<u64, AfterFault>
+        ensures id { IfOk result (λ id. id ≡ self.old.timers.next) }
+        ensures ok { OnOk result (self.new ≡ with_idle script self.old) }
+        ensures full { (result ≡ Err AfterFault.OutOfNumbers) ↔ (2 ^ 62 ≤ self.old.timers.next) }
+        ensures err { OnErr result (self.new ≡ self.old) }
+    {
+        self.event_loop.keep_idle(script)
+    }
+
+    /// Takes out the script of an id; where there is none, nothing is done.
+    pub fn cancel(&mut self, id: u64)
+        ensures { self.new ≡ without_id id self.old }
+    {
+        self.event_loop.cancel(id);
+    }
+
+    /// Takes out the script with the least id of those that are equal to this one; where there is none, nothing is done.
+    pub fn cancel_script(&mut self, script: &Txt)
+        ensures { self.new ≡ without_script script.now self.old }
+    {
+        self.event_loop.cancel_script(script);
+    }
+
+    /// Takes out the script of an id, to be run.
+    pub fn take_script(&mut self, id: u64) -> Result<Option<Txt>, AllocError>
+        ensures value { IfOk result (λ script. script ≡ script_in (kept_under id self.old.timers)) }
+        ensures ok { OnOk result (self.new ≡ without_id id self.old) }
+        ensures err { OnErr result (self.new ≡ self.old) }
+    {
+        self.event_loop.take_script(id)
+    }
+
+    /// The window that has the focus.
+    pub fn focus(&self) -> WindowId
+        ensures { result ≡ self.now.focus }
+    {
+        self.event_loop.focus()
+    }
+
+    /// Gives a window the focus. Where no window has the number, nothing is done.
+    pub fn set_focus(&mut self, window: WindowId)
+        ensures { self.new ≡ focused window self.old }
+    {
+        if is_there(self.windows.tree(), window) {
+            self.event_loop.set_focus(window);
+        }
+    }
+
+    /// What is held down.
+    pub fn held(&self) -> Held
+        ensures { result ≡ self.now.held }
+    {
+        self.event_loop.held()
+    }
+
+    /// Says what is held down.
+    pub fn set_held(&mut self, held: Held)
+        ensures { self.new ≡ holding held self.old }
+    {
+        self.event_loop.set_held(held);
+    }
+
+    /// The window that took the last press, if it is there.
+    pub fn pressed(&self) -> Option<WindowId>
+        ensures { result ≡ self.now.pressed }
+    {
+        self.event_loop.pressed()
+    }
+
+    /// Says which window took the last press; one that is not there takes none.
+    pub fn set_pressed(&mut self, window: Option<WindowId>)
+        ensures { self.new ≡ pressed_in window self.old }
+    {
+        self.event_loop
+            .set_pressed(left_pressed(self.windows.tree(), window));
+    }
+
+    /// What the commands of an application keep.
+    pub fn memories(&self) -> &Memories
+        ensures { result.now ≡ self.now.memories }
+    {
+        &self.memories
+    }
+
+    /// Puts other memories in the place of the present ones, which it returns.
+    pub fn replace_memories(&mut self, memories: Memories) -> Memories
+        ensures before { result ≡ self.old.memories }
+        ensures after { self.new ≡ record self.old { memories = memories } }
+    {
+        mem::replace(&mut self.memories, memories)
+    }
+
     /// An equal world.
     pub fn try_clone(&self) -> Result<World, AllocError>
         ensures { IfOk result (λ w. w ≡ self.now) }
@@ -181,6 +440,9 @@ impl World {
             accepted: self.accepted,
             windows: self.windows.try_clone()?,
             variables: self.variables.try_clone()?,
+            events: self.events.try_clone()?,
+            event_loop: self.event_loop.try_clone()?,
+            memories: self.memories.try_clone(self.alloc)?,
             grid: self.grid,
         })
     }

@@ -10,6 +10,7 @@ use Rattle.tks_session.specs.Crash.{OpensToPrefix}
 use Rattle.tks_session.specs.Opening.{opens, run, reached, fault_of}
 use Rattle.tks_session.specs.declared.fault.SessionFault.{SessionFault}
 use Rattle.tks_session.proofs.Runs.{run_fault}
+use Rattle.tks_app.specs.Applications.{Application}
 use Rattle.tks_state.specs.World.{World}
 use Rattle.tks_world.specs.Step.{Stepped, Accepts, Refuses, step}
 use Rattle.tks_terminal.specs.Crash.{Leads, LeadsByFirst}
@@ -20,22 +21,22 @@ abbrev world_of : World → Result World SessionFault → World
 world_of other (Ok world) = world
 world_of other (Err fault) = other
 
-module _ (limits : Limits) (grid : Extent) where
+module _ (app : Application) (limits : Limits) (grid : Extent) where
   -- what a run ends with leads there
-  pub runs_lead : (inputs : List Input) (old new : World) → run (terminal limits grid) (Ok old) inputs ≡ Ok new → Leads limits old inputs new
+  pub runs_lead : (inputs : List Input) (old new : World) → run (terminal app limits grid) (Ok old) inputs ≡ Ok new → Leads app limits old inputs new
   runs_lead [] old new is = ap (world_of old) is
-  runs_lead (input ∷ inputs) old new is = by (step old input limits) refl is (λ mid. runs_lead inputs mid new)
+  runs_lead (input ∷ inputs) old new is = by (step app old input limits) refl is (λ mid. runs_lead inputs mid new)
     where
-      by : (stepped : Stepped) → step old input limits ≡ stepped → run (terminal limits grid) (reached input (as_machine stepped)) inputs ≡ Ok new
-          → ((mid : World) → run (terminal limits grid) (Ok mid) inputs ≡ Ok new → Leads limits mid inputs new) → Leads limits old (input ∷ inputs) new
+      by : (stepped : Stepped) → step app old input limits ≡ stepped → run (terminal app limits grid) (reached input (as_machine stepped)) inputs ≡ Ok new
+          → ((mid : World) → run (terminal app limits grid) (Ok mid) inputs ≡ Ok new → Leads app limits mid inputs new) → Leads app limits old (input ∷ inputs) new
       by (Accepts mid reply) first rest others = (mid, reply, first, others mid rest)
-      by (Refuses why) first rest others = absurd (no_world (sym (run_fault (terminal limits grid) (fault_of input why) inputs) ∙ rest))
+      by (Refuses why) first rest others = absurd (no_world (sym (run_fault (terminal app limits grid) (fault_of input why) inputs) ∙ rest))
         where
           no_world : Err (fault_of input why) ≡ Ok new → ⊥
           no_world e = absurd cc
 
   pub by_first : (start : World) (inputs : List Input) (images : Images) (world : World)
-      → OpensToPrefix (terminal limits grid) (Ok start) inputs images → opens (terminal limits grid) images ≡ Ok world → LeadsByFirst limits start inputs world
+      → OpensToPrefix (terminal app limits grid) (Ok start) inputs images → opens (terminal app limits grid) images ≡ Ok world → LeadsByFirst app limits start inputs world
   by_first start inputs images world some is = record {
     prefix = some.prefix;
     others = some.others;

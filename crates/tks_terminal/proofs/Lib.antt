@@ -1,3 +1,5 @@
 pub mod Steps
 pub mod Leads
 pub mod Wider
+mod Names
+mod Stored

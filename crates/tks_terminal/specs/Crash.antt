@@ -3,17 +3,18 @@ use Rattle.std.specs.Prelude.{◌≡◌, List, [], ◌∷◌, ◌++◌}
 use Rattle.tks_text.specs.declared.limits.Limits.{Limits}
 use Rattle.tks_input.specs.declared.input.Input.{Input}
 use Rattle.tks_input.specs.declared.reply.Reply.{Reply}
+use Rattle.tks_app.specs.Applications.{Application}
 use Rattle.tks_state.specs.World.{World}
 use Rattle.tks_world.specs.Step.{Accepts, step}
 
 -- the inputs, one after the other, are each accepted whole, and lead from the one world to the other
-abbrev pub Leads : Limits → World → List Input → World → Type 0
-Leads limits old [] new = old ≡ new
-Leads limits old (input ∷ inputs) new = (mid : World) × (reply : Reply) × (step old input limits ≡ Accepts mid reply) × Leads limits mid inputs new
+abbrev pub Leads : Application → Limits → World → List Input → World → Type 0
+Leads app limits old [] new = old ≡ new
+Leads app limits old (input ∷ inputs) new = (mid : World) × (reply : Reply) × (step app old input limits ≡ Accepts mid reply) × Leads app limits mid inputs new
 
 -- the first of these inputs lead to this world
-pub record LeadsByFirst (limits : Limits) (start : World) (inputs : List Input) (world : World) : Type 0 where
+pub record LeadsByFirst (app : Application) (limits : Limits) (start : World) (inputs : List Input) (world : World) : Type 0 where
   pub prefix : List Input
   pub others : List Input
   pub parts : inputs ≡ prefix ++ others
-  pub leads : Leads limits start prefix world
+  pub leads : Leads app limits start prefix world

@@ -3,6 +3,7 @@ ghost use Rattle.std.specs.Prelude.{◌≡◌, List, Ok};
 ghost use Rattle.tks_text.specs.Limits.{Wider};
 ghost use Rattle.tks_text.specs.Size.{Extent};
 ghost use Rattle.tks_text.specs.declared.limits.Limits.{Limits};
+ghost use Rattle.tks_app.specs.Applications.{Application};
 ghost use Rattle.tks_disk.specs.DiskModel.{Images};
 ghost use Rattle.tks_input.specs.declared.input.Input.{Input};
 ghost use Rattle.tks_session.specs.Crash.{OpensToPrefix};
@@ -14,13 +15,13 @@ ghost use Rattle.tks_terminal.specs.Terminals.{terminal};
 /// What opening gives after a crash: where inputs waited behind a world, the world that is opened is the one that the first
 /// of them lead to, each accepted whole, with all its scripts.
 pub fn a_crash_leaves_whole_inputs()
-    ensures { (limits : Limits) (grid : Extent) (start : World) (inputs : List Input) (images : Images) (world : World)
-        → OpensToPrefix (terminal limits grid) (Ok start) inputs images → opens (terminal limits grid) images ≡ Ok world
-        → LeadsByFirst limits start inputs world }
+    ensures { (app : Application) (limits : Limits) (grid : Extent) (start : World) (inputs : List Input) (images : Images) (world : World)
+        → OpensToPrefix (terminal app limits grid) (Ok start) inputs images → opens (terminal app limits grid) images ≡ Ok world
+        → LeadsByFirst app limits start inputs world }
 {}
 
 /// What opens within limits opens within wider ones, to the same world.
 pub fn wider_limits_open()
-    ensures { (limits wider : Limits) (grid : Extent) (images : Images) (world : World)
-        → Wider limits wider → opens (terminal limits grid) images ≡ Ok world → opens (terminal wider grid) images ≡ Ok world }
+    ensures { (app : Application) (limits wider : Limits) (grid : Extent) (images : Images) (world : World)
+        → Wider limits wider → opens (terminal app limits grid) images ≡ Ok world → opens (terminal app wider grid) images ≡ Ok world }
 {}

@@ -6,6 +6,7 @@ mod fault;
 mod laws;
 mod timers;
 
+pub use entry::{Idle, Timer};
 pub use fault::AfterFault;
 pub use laws::ids_are_given_out_once;
 pub use timers::{Timers, Waiting};

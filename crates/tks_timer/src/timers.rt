@@ -9,7 +9,7 @@ use crate::entry::{Idle, Timer};
 use crate::fault::AfterFault;
 use std::alloc::{AllocError, Global};
 use std::marker::Model;
-use tks_mark::Marked;
+use tks_mark::{Items, Marked};
 use tks_text::{ErrorNumber, Failure, Txt};
 
 /// The id that none reaches.
@@ -57,6 +57,48 @@ impl Timers {
             next: 0,
             next_at_mark: 0,
         }
+    }
+
+    /// These timers and idle scripts, in order, and this next id, with no mark, so that they are made again from what
+    /// there was.
+    pub fn restore(
+        alloc: Global,
+        timers: Vec<Timer>,
+        idles: Vec<Idle>,
+        next: u64,
+    ) -> Result<Timers, AllocError>
+        ensures { IfOk result (λ made. made ≡ record { present = record { timers = timers.items; idles = idles.items; next = next }; at_mark = None }) }
+    {
+        let timers = Marked::of(alloc, timers)?;
+        let idles = Marked::of(alloc, idles)?;
+        Ok(Timers {
+            alloc,
+            timers,
+            idles,
+            next,
+            next_at_mark: 0,
+        })
+    }
+
+    /// The timers, in the order in which they came.
+    pub fn timers(&self) -> Items<'_, Timer>
+        ensures { result ≡ self.now.present.timers }
+    {
+        self.timers.items()
+    }
+
+    /// The idle scripts, in the order in which they came.
+    pub fn idles(&self) -> Items<'_, Idle>
+        ensures { result ≡ self.now.present.idles }
+    {
+        self.idles.items()
+    }
+
+    /// The id that the next script gets.
+    pub fn next(&self) -> u64
+        ensures { result ≡ self.now.present.next }
+    {
+        self.next
     }
 
     /// How many timers there are.

@@ -1,2 +1,6 @@
 pub mod Answers
+pub mod Counts
+pub mod Joining
+pub mod Names
 pub mod Wider
+pub mod Stepping

@@ -1,28 +1,77 @@
 -- What the world is to its scripts (this project's own rule): the host of the commands that the language
--- doesn't have.
-use Rattle.std.specs.Prelude.{false, is_some}
+-- doesn't have. The commands of an application are found before the windows.
+use Rattle.std.specs.Prelude.{ℕ, ◌&&◌, if◌then◌else◌, List, [], ◌∷◌, is_some}
 use Rattle.tks_text.specs.declared.limits.Limits.{Limits}
-use Rattle.tks_vars.specs.Variables.{no_variables}
-use Rattle.tks_state.specs.World.{World}
+use Rattle.tks_vars.specs.Variables.{Variables, no_variables}
+use Rattle.tks_tcl.specs.Cause.{fits}
+use Rattle.tks_app.specs.Applications as app
+use Rattle.tks_app.specs.Applications.{has}
+use Rattle.tks_app.specs.Memories.{memory_of, remembering}
+use Rattle.tks_app.specs.declared.answer.AppAnswer.{AppAnswer}
+use Rattle.tks_app.specs.declared.answer.AppCode.{AppCode}
+use Rattle.tks_app.specs.declared.answer.AppCode.TheVariants as code
+use Rattle.tks_app.specs.declared.memories.Memory.{Memory}
+use Rattle.tks_state.specs.World.{World, with_fault}
 use Rattle.tks_state.specs.Windows.{kept_of}
 use Rattle.tks_cmd.specs.Commands.{does}
 use Rattle.tks_eval.specs.Outcome.{Answer, Unknown, Comes, PassesLimit, Meaning}
-use Rattle.tks_world.specs.declared.host.Setting.{Setting}
+use Rattle.tks_eval.specs.declared.host.Plan.TheVariants as plan
 
--- a command's answer, within the same limits
-abbrev pub within_limits : Limits → Answer World → Answer Setting
-within_limits limits Unknown = Unknown
-within_limits limits (Comes plan world variables) = Comes plan (record { world = world; limits = limits }) variables
-within_limits limits PassesLimit = PassesLimit
+-- what scripts change and look at beside variables
+pub record Setting : Type 0 where
+  -- the world, in which there are neither variables nor memories meanwhile
+  pub world : World
+  -- what the application's commands keep
+  pub memories : List Memory
+  -- the limits that commands keep
+  pub limits : Limits
+  -- the names of the application's commands
+  pub names : List (List ℕ)
 
-abbrev pub hosting : Meaning Setting
-hosting = record {
-  commands = λ s variables words. within_limits s.limits (does s.limits s.world variables words);
-  owns = λ s name. false;
-  alive = λ s window. is_some (kept_of s.world.kept window);
-  faulted = λ s text. s;
-}
+-- the world while a script runs in it: variables and memories go beside it
+abbrev pub stripped : World → World
+stripped world = record world { variables = no_variables; memories = [] }
 
--- the world while a script runs in it: the variables go beside it
-abbrev pub without_variables : World → World
-without_variables world = record world { variables = no_variables }
+-- ---- commands on windows, bindings and events
+
+-- a command's answer, in the setting in which it was called
+abbrev pub in_setting : Setting → Answer World → Answer Setting
+in_setting s Unknown = Unknown
+in_setting s (Comes plan world variables) = Comes plan (record s { world = world }) variables
+in_setting s PassesLimit = PassesLimit
+
+abbrev pub world_does : Setting → Variables → List (List ℕ) → Answer Setting
+world_does s variables words = in_setting s (does s.limits s.world variables words)
+
+-- ---- commands of the application
+
+-- the code that an end of such a command is
+abbrev pub code_of : AppCode → ℕ
+code_of code.Value = 0
+code_of code.Error = 1
+
+-- what is answered, where neither its text nor the memory passes the limit; the memory is kept behind an error too
+abbrev pub answered : Setting → Variables → List ℕ → AppAnswer → Answer Setting
+answered s variables name a =
+    if fits s.limits a.text && fits s.limits a.memory
+    then Comes (plan.Answer (code_of a.code) a.text) (record s { memories = remembering name a.memory s.memories }) variables
+    else PassesLimit
+
+-- ---- both
+
+-- these are what the application's commands mean
+module _ (m : app.Meaning) where
+  abbrev pub application_does : Setting → Variables → List ℕ → List (List ℕ) → Answer Setting
+  application_does s variables name words = answered s variables name (m name (memory_of s.memories name) words)
+
+  abbrev pub command_does : Setting → Variables → List (List ℕ) → Answer Setting
+  command_does s variables [] = world_does s variables []
+  command_does s variables (name ∷ words) = if has s.names name then application_does s variables name words else world_does s variables (name ∷ words)
+
+  abbrev pub hosting : Meaning Setting
+  hosting = record {
+    commands = command_does;
+    owns = λ s name. has s.names name;
+    alive = λ s window. is_some (kept_of s.world.kept window);
+    faulted = λ s text. record s { world = with_fault text s.world };
+  }

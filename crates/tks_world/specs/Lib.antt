@@ -1,4 +1,13 @@
 pub mod Hosting
+pub mod Stepped
+pub mod Scripts
+pub mod Gestures
+pub mod Keys
+pub mod Buttons
+pub mod Things
+pub mod Telling
+pub mod Turns
 pub mod Step
+pub mod Run
 pub mod Meets
 pub mod Laws

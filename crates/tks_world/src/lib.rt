@@ -1,12 +1,21 @@
 //! The world, and what an input does to it.
 #![tactic(auto)]
 
+mod applications;
+mod buttons;
+mod counting;
+mod gestures;
 mod host;
+mod keys;
 mod laws;
 mod refusal;
+mod scripts;
 mod steps;
+mod telling;
+mod things;
+mod turns;
 
-pub use laws::wider_limits_keep_steps;
+pub use laws::{refused_inputs_leave_runs, runs_join, wider_limits_keep_steps};
 pub use steps::step;
 pub use tks_input::{Input, Refused, Reply};
 pub use tks_state::World;

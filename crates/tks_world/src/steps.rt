@@ -1,116 +1,63 @@
 ghost use Rattle.std.specs.Prelude.{◌≡◌, IfOk, IfErr, OnErr};
-ghost use Rattle.tks_text.specs.declared.fault.ErrorNumber.TheVariants.{OutsideLoop};
-ghost use Rattle.tks_tcl.specs.Cause.{bare};
-ghost use Rattle.tks_input.specs.declared.input.Input.TheVariants as inputs;
-ghost use Rattle.tks_eval.specs.Meets.{EndsSo};
-ghost use Rattle.tks_world.specs.Step.{script_ends, step, Accepts};
-ghost use Rattle.tks_world.specs.Meets.{FailsSo, RefusedSo};
+ghost use Rattle.tks_world.specs.Step.{clock_step, step, Accepts};
+ghost use Rattle.tks_world.specs.Meets.{RefusedSo};
 
-use crate::host::{Setting, WorldHost};
-use crate::refusal::refused_by;
+use crate::buttons::{press_button, release_button};
+use crate::counting::{is_full, keep};
+use crate::keys::{press_key, release_key};
+use crate::scripts::step_script;
+use crate::turns::step_turn;
 use std::alloc::Global;
-use tks_eval::{Ended, eval};
+use tks_app::{AppBody, AppMeaning, Apps};
 use tks_input::{Input, Refused, Reply};
-use tks_parse::{Script, parse};
 use tks_state::World;
-use tks_tcl::{Stop, fits};
-use tks_text::{ErrorNumber, Limits, ScriptFault, Txt};
-use tks_vars::Vars;
+use tks_text::Limits;
 
-/// The greatest count of inputs.
-const MAX_COUNT: u64 = 1 << 62;
+/// The last time, in milliseconds.
+const MAX_CLOCK: u64 = (1 << 62) - 1;
 
-/// What an input does to the world: it is accepted as a whole, with a reply, or refused, and then the
-/// world is as it was. A world takes scripts so far: a turn finds nothing to do, and other inputs are bad.
-pub fn step(
+/// What an input does to the world: it is accepted as a whole, with a reply, or refused, and then the world is as it was.
+/// A script runs at once. A key or a button is put behind the events that wait, with what is held down just before it. A
+/// turn does one thing that waits: it delivers an event, or else runs a script that is due, or else an idle one. Scripts
+/// know the commands of the application.
+#[tactic(auto, unfolding(crate::specs::Step::step))]
+pub fn step<T: AppMeaning, B: AppBody>(
     alloc: Global,
     world: &mut World,
+    apps: &Apps<T, B>,
     input: &Input,
     limits: &Limits,
 ) -> Result<Reply, Refused>
-    ensures accepted { IfOk result (λ reply. step world.old input.now limits.now ≡ Accepts world.new reply) }
-    ensures refused { IfErr result (λ why. RefusedSo why (step world.old input.now limits.now)) }
+    ensures accepted { IfOk result (λ reply. step (record { names = apps.now; meaning = T.meaning }) world.old input.now limits.now ≡ Accepts world.new reply) }
+    ensures refused { IfErr result (λ why. RefusedSo why (step (record { names = apps.now; meaning = T.meaning }) world.old input.now limits.now)) }
     ensures unchanged { OnErr result (world.new ≡ world.old) }
 {
     match input {
-        Input::Script(text) => step_script(alloc, world, text, limits),
-        Input::Turn => Err(Refused::Quiet),
-        _ => Err(Refused::BadInput),
+        Input::Script(text) => step_script(alloc, world, apps, text, limits),
+        Input::KeyPress(key) => press_key(alloc, world, key, limits),
+        Input::KeyRelease(key) => release_key(alloc, world, key, limits),
+        Input::Press { button, x, y } => press_button(alloc, world, *button, *x, *y, limits),
+        Input::Release { button, x, y } => release_button(alloc, world, *button, *x, *y, limits),
+        Input::Clock(time) => set_clock(alloc, world, *time),
+        Input::Turn => step_turn(alloc, world, apps, limits),
     }
 }
 
-// What a script does to the world, run in a copy of it.
-fn step_script(
-    alloc: Global,
-    world: &mut World,
-    text: &Txt,
-    limits: &Limits,
-) -> Result<Reply, Refused>
-    ensures accepted { IfOk result (λ reply. step world.old (inputs.Script text.now) limits.now ≡ Accepts world.new reply) }
-    ensures refused { IfErr result (λ why. RefusedSo why (step world.old (inputs.Script text.now) limits.now)) }
+// The clock goes on to a time.
+fn set_clock(alloc: Global, world: &mut World, time: u64) -> Result<Reply, Refused>
+    ensures accepted { IfOk result (λ reply. clock_step time world.old ≡ Accepts world.new reply) }
+    ensures refused { IfErr result (λ why. RefusedSo why (clock_step time world.old)) }
     ensures unchanged { OnErr result (world.new ≡ world.old) }
 {
-    if text.len() > limits.text as usize {
+    if time > MAX_CLOCK {
         return Err(Refused::BadInput);
     }
-    let script = parse(alloc, text)?;
-    let mut copy = world.try_clone()?;
-    let mut variables = copy.replace_variables(Vars::new(alloc));
-    let mut host = WorldHost {
-        alloc,
-        setting: Setting {
-            world: copy,
-            limits: *limits,
-        },
-    };
-    let ended = run_script(alloc, &mut host, &mut variables, script, limits).map_err(refused_by)?;
-    let mut next = host.setting.world;
-    if next.accepted() == MAX_COUNT {
+    if time < world.clock() {
+        return Err(Refused::ClockBack);
+    }
+    if is_full(world) {
         return Err(Refused::TooLarge);
     }
-    next.count_input();
-    next.replace_variables(variables);
-    *world = next;
-    Ok(Reply {
-        number: world.accepted(),
-        code: ended.code,
-        text: ended.text,
-    })
-}
-
-// Runs the script of an input. `return` ends it well; `break` and `continue` are errors.
-fn run_script(
-    alloc: Global,
-    host: &mut WorldHost,
-    variables: &mut Vars,
-    script: Script,
-    limits: &Limits,
-) -> Result<Ended, Stop>
-    ensures { EndsSo (script_ends limits.now script host.old.setting variables.old) result host.new.setting variables.new }
-{
-    let ended = eval(alloc, host, variables, script, limits)?;
-    match ended.code {
-        2 => Ok(Ended { code: 0, ..ended }),
-        3 | 4 => outside_loop(alloc, ended.fuel, limits),
-        _ => Ok(ended),
-    }
-}
-
-// The end of a script by a `break` or `continue` outside a loop, with so many steps left.
-fn outside_loop(alloc: Global, fuel: u64, limits: &Limits) -> Result<Ended, Stop>
-    ensures { FailsSo limits.now (bare OutsideLoop) fuel result }
-{
-    let fault = ScriptFault {
-        number: ErrorNumber::OutsideLoop,
-        subject: None,
-    };
-    let text = fault.text(alloc)?;
-    if !fits(&text, limits) {
-        return Err(Stop::TooLarge);
-    }
-    Ok(Ended {
-        code: 1,
-        text,
-        fuel,
-    })
+    world.set_clock(time);
+    Ok(keep(alloc, world))
 }

@@ -107,3 +107,11 @@ returns-in-Err-clause-any_moment g c =
     subst (λ t. t.journal.failed ≡ false → g.D.Disk.honest t.journal.disk → LeavesOnly (g.D.Disk.view t.journal.disk) new (OpensToPrefix (g.M.Machine.meaning t.machine) (opens (g.M.Machine.meaning t.machine) (g.D.Disk.view t.journal.disk).reads) t.waiting)) c.self.view_is
     (λ works h. any_moment m v.reads _ c.deref.result.now (or_none (inputs_in body)) (c.stands.ensures works h).1 (still_read c.deref.result.now body s.waiting c.deref.ensures.value c.self.invariant.0)
     v new (c.append.ensures.any_moment h))
+
+pub returns-then-self-eq0-clause-steady : goal.returns-then-self-eq0-clause-steady
+returns-then-self-eq0-clause-steady g c =
+    subst (λ t. g.D.Disk.failures c.self.inside.journal.disk ≡ g.D.Disk.failures t.journal.disk) c.self.view_is refl
+
+pub returns-in-Ok-clause-steady : goal.returns-in-Ok-clause-steady
+returns-in-Ok-clause-steady g c =
+    subst (λ t. g.D.Disk.failures c.append.new.self.disk ≡ g.D.Disk.failures t.journal.disk) c.self.view_is c.in-Ok.ensures.counts

@@ -1,4 +1,4 @@
-use Rattle.std.proofs.Common.{◌≡◌, rules, [], ◌∷◌, sym, subst}
+use Rattle.std.proofs.Common.{◌≡◌, rules, [], ◌∷◌, None, sym, subst}
 use Rattle.tks_tree.specs.WellFormed as trees
 use Rattle.tks_state.specs.WellFormed.{AllPackChildren}
 use Rattle.tks_state.specs.declared.kept.Kept.{Kept}
@@ -8,7 +8,7 @@ use Rattle.tks_state.proofs.windows.Windows.first.Goals as goal
 
 pub invariant_of-result : goal.invariant_of-result
 invariant_of-result c =
-    let root : Kept = record { window = c.root-2.result; widget = widget.Frame c.in_ok-root.field-0; packing = c.new.result } in
+    let root : Kept = record { window = c.root-2.result; widget = widget.Frame c.in_ok-root.field-0; tags = None; packing = c.new.result } in
     let kept : c.push.new.self.items ≡ root ∷ [] = search rules in
     record {
       windows = subst trees.WellFormed (sym c.in_ok-new.ensures) first_well;

@@ -1,0 +1,49 @@
+"""Times scripts in the proved program and in wish.
+
+Both read requests from standard input and answer each, wish by bench/host.tcl. A time is the least of so many runs, less
+that of a run which only makes what the scripts work on. The answers must be the same.
+"""
+import os
+import subprocess
+import sys
+import time
+
+HERE = os.path.dirname(os.path.realpath(__file__))
+PROGRAM = [os.path.join(os.path.dirname(HERE), 'tools/fresh_desk')]
+WISH = ['wish', os.path.join(HERE, 'host.tcl')]
+
+
+def request(script):
+    return b'load %d\n%s\n' % (len(script), script.encode())
+
+
+def run(command, scripts):
+    given = b''.join(map(request, scripts))
+    begun = time.perf_counter()
+    done = subprocess.run(command, input=given, stdout=subprocess.PIPE, stderr=subprocess.DEVNULL, check=True)
+    return time.perf_counter() - begun, done.stdout.splitlines()
+
+
+def timed(command, made, scripts, rounds):
+    """The time of one of the scripts, in microseconds, and the answers."""
+    begun = min(run(command, made)[0] for _ in range(rounds))
+    runs = [run(command, made + scripts) for _ in range(rounds)]
+    return (min(seconds for seconds, _ in runs) - begun) / len(scripts) * 1e6, runs[0][1]
+
+
+def side(scripts, place):
+    """The scripts of one side: where one is a pair, the program takes the first, wish the second."""
+    return [script if isinstance(script, str) else script[place] for script in scripts]
+
+
+def print_table(work):
+    """Prints a line for each of the work: its name, the scripts that make what it works on, and those that are timed."""
+    rounds = int(sys.argv[1]) if len(sys.argv) > 1 else 5
+    print('| Command | program, µs | wish, µs |')
+    print('|---|---|---|')
+    for name, made, scripts in work:
+        ours, answers = timed(PROGRAM, side(made, 0), scripts, rounds)
+        theirs, expected = timed(WISH, side(made, 1), scripts, rounds)
+        if answers != expected or any(answer.startswith(b'error') for answer in answers):
+            raise SystemExit('other answers: %s: %r, %r' % (name, answers[-1], expected[-1]))
+        print(f'| {name} | {ours:.1f} | {theirs:.1f} |')

@@ -1,0 +1,172 @@
+//! Keys, buttons, the clock and turns: what limits and want of memory leave of them.
+
+use crate::nothing::Nothing;
+use crate::worlds::{first_world, shown};
+use std::alloc::Global;
+use std::str::Split;
+use tks_app::Apps;
+use tks_desk::Own;
+use tks_text::{Limits, Txt};
+use tks_world::{Input, Refused, World, step};
+
+// The text of the next word.
+fn next_text(alloc: Global, words: &mut Split<'_, char>) -> Option<Txt> {
+    Txt::from_bytes(alloc, words.next()?.as_bytes()).ok()
+}
+
+// The number that the next word spells.
+fn next_number(words: &mut Split<'_, char>) -> Option<u64> {
+    words.next()?.parse::<u64>().ok()
+}
+
+// A button, and a cell of the grid.
+fn next_press(words: &mut Split<'_, char>) -> Option<(u8, u16, u16)> {
+    let button = u8::try_from(next_number(words)?).ok()?;
+    let x = u16::try_from(next_number(words)?).ok()?;
+    let y = u16::try_from(next_number(words)?).ok()?;
+    Some((button, x, y))
+}
+
+// The input that a row tells by words with a space between them; one that names no other kind is a script.
+fn input_of(alloc: Global, row: &str) -> Option<Input> {
+    let mut words = row.split(' ');
+    let kind = words.next()?;
+    if kind == "key" {
+        return Some(Input::KeyPress(next_text(alloc, &mut words)?));
+    }
+    if kind == "keyup" {
+        return Some(Input::KeyRelease(next_text(alloc, &mut words)?));
+    }
+    if kind == "press" {
+        let (button, x, y) = next_press(&mut words)?;
+        return Some(Input::Press { button, x, y });
+    }
+    if kind == "release" {
+        let (button, x, y) = next_press(&mut words)?;
+        return Some(Input::Release { button, x, y });
+    }
+    if kind == "clock" {
+        return Some(Input::Clock(next_number(&mut words)?));
+    }
+    if kind == "turn" {
+        return Some(Input::Turn);
+    }
+    Some(Input::Script(Txt::from_bytes(alloc, row.as_bytes()).ok()?))
+}
+
+// The word for a refusal.
+fn refusal(refused: Refused) -> &'static [u8] {
+    match refused {
+        Refused::BadInput => b"bad",
+        Refused::ClockBack => b"clock",
+        Refused::Budget => b"budget",
+        Refused::TooLarge => b"large",
+        Refused::NoMemory => b"memory",
+        Refused::Quiet => b"quiet",
+        _ => b"other",
+    }
+}
+
+// What an input does to a world: its reply, or why it is refused.
+fn answer(alloc: Global, world: &mut World, limits: &Limits, input: &Input) -> Option<Vec<u8>> {
+    let apps: Apps<Own, Nothing> = Apps::new(alloc);
+    match step(alloc, world, &apps, input, limits) {
+        Ok(reply) => shown(alloc, &reply),
+        Err(refused) => Vec::from_slice(alloc, refusal(refused)).ok(),
+    }
+}
+
+// The same; where memory was refused, the world is as it was, so the input is tried again.
+fn answer_in_the_end(
+    alloc: Global,
+    world: &mut World,
+    limits: &Limits,
+    row: &str,
+) -> Option<Vec<u8>> {
+    let input = input_of(alloc, row)?;
+    let first = answer(alloc, world, limits, &input)?;
+    if first.as_slice() == b"memory".as_slice() {
+        return answer(alloc, world, limits, &input);
+    }
+    Some(first)
+}
+
+// The first row that isn't answered as it says, of rows for one world.
+fn differing<'a>(alloc: Global, limits: &Limits, rows: &[(&'a str, &str)]) -> &'a str {
+    let Some(mut world) = first_world(alloc, 20, 3) else {
+        return "no world";
+    };
+    for (row, want) in rows {
+        match answer_in_the_end(alloc, &mut world, limits, row) {
+            Some(told) if told.as_slice() == want.as_bytes() => {}
+            _ => return row,
+        }
+    }
+    "none"
+}
+
+// A session of keys, timers, buttons and turns, with an error that joins the faults and a turn that is refused.
+const SESSION: [(&str, &str); 30] = [
+    ("turn", "quiet"),
+    ("bind . <Control-a> {set r a%s; after 2 {incr n}}", "1 0 "),
+    ("key Control_L", "2 0 "),
+    ("key a", "3 0 "),
+    ("keyup Control_L", "4 0 "),
+    ("key nosuch", "bad"),
+    ("turn", "5 0 event KeyPress ."),
+    ("turn", "6 0 event KeyPress ."),
+    ("set r", "7 0 a4"),
+    ("turn", "8 0 event KeyRelease ."),
+    ("turn", "quiet"),
+    ("clock 2", "9 0 "),
+    ("clock 1", "clock"),
+    ("clock 2", "10 0 "),
+    ("clock 4611686018427387904", "bad"),
+    ("turn", "11 0 timer after#0"),
+    ("set n", "12 0 1"),
+    ("frame .f -width 3 -height 1; pack .f -side left", "13 0 "),
+    (
+        "bind .f <1> {set r %x,%y,%X,%Y}; bind .f <ButtonRelease> {set u %x,%s}",
+        "14 0 ",
+    ),
+    ("press 1 2 1", "15 0 "),
+    ("release 1 5 2", "16 0 "),
+    ("press 9 0 0", "bad"),
+    ("press 1 20 0", "bad"),
+    ("turn", "17 0 event ButtonPress .f"),
+    ("turn", "18 0 event ButtonRelease .f"),
+    ("list $r $u", "19 0 2,0,2,1 5,256"),
+    (
+        "after idle {incr n; while 1 {}}; after 0 {break}",
+        "20 0 after#2",
+    ),
+    ("turn", "21 0 timer after#2"),
+    ("turn", "budget"),
+    ("set n", "22 0 1"),
+];
+
+#[test]
+fn a_session_of_turns(rt: HostRuntime) {
+    let limits = Limits::format1();
+    assert_eq!(rt; differing(rt.alloc(), &limits, &SESSION), "none");
+}
+
+#[test]
+fn limits_of_events_are_kept(rt: HostRuntime) {
+    let limits = Limits {
+        items: 2,
+        text: 9,
+        ..Limits::format1()
+    };
+    let rows = [
+        ("key asciitilde", "large"),
+        ("key backslash", "1 0 "),
+        ("key a", "2 0 "),
+        ("key b", "large"),
+        ("press 1 0 0", "large"),
+        ("turn", "3 0 event KeyPress ."),
+        ("press 1 0 0", "4 0 "),
+        ("keyup a", "large"),
+    ];
+    assert_eq!(rt; differing(rt.alloc(), &limits, &rows), "none");
+}

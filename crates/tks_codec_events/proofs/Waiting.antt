@@ -1,0 +1,40 @@
+-- What holds of the spellings of histories, queues and timers.
+use Rattle.std.proofs.Common.{ℕ, refl, ap, arith}
+use Rattle.std.specs.Int.{w64}
+use Rattle.tks_queue.specs.declared.queued.Queued.{Queued}
+use Rattle.tks_timer.specs.declared.entry.Timer.{Timer}
+use Rattle.tks_timer.specs.declared.entry.Idle.{Idle}
+use Rattle.tks_timer.specs.After.{Content}
+use Rattle.tks_codec.specs.Spelling.{Lawful, list}
+use Rattle.tks_codec.proofs.EachKind.{wide64, number_lawful, test_lawful, field_lawful, through_lawful, flag_lawful, list_lawful, text_lawful}
+use Rattle.tks_codec_events.specs.Event.{event}
+use Rattle.tks_codec_events.specs.History.{is_history, history}
+use Rattle.tks_codec_events.specs.Queue.{queued, queue}
+use Rattle.tks_codec_events.specs.Timers.{timer, idle, are_waiting, lists, waiting}
+use Rattle.tks_codec_events.proofs.Eventful.{event_lawful}
+
+pub history_lawful : Lawful history
+history_lawful = test_lawful is_history (list event) (λ v h. omega arith) (list_lawful (λ before. event) (λ before. event_lawful))
+
+queued_lawful : Lawful queued
+queued_lawful = field_lawful (λ q. q.event) _ _ (λ e q k h. ap (λ (q : Queued). q.event) h.1) event_lawful (λ e. through_lawful (λ q. q.with_mark) _ _ (λ with_mark k. refl) flag_lawful)
+
+pub queue_lawful : Lawful queue
+queue_lawful = list_lawful (λ before. queued) (λ before. queued_lawful)
+
+timer_lawful : Lawful timer
+timer_lawful =
+    field_lawful (λ t. t.id) _ _ (λ id t k h. ap (λ (t : Timer). t.id) h.1.1) (number_lawful w64 wide64) (λ id.
+    field_lawful (λ t. t.due) _ _ (λ due t k h. ap (λ (t : Timer). t.due) h.1) (number_lawful w64 wide64) (λ due.
+    through_lawful (λ t. t.script) _ _ (λ script k. refl) text_lawful))
+
+idle_lawful : Lawful idle
+idle_lawful = field_lawful (λ i. i.id) _ _ (λ id i k h. ap (λ (i : Idle). i.id) h.1) (number_lawful w64 wide64) (λ id. through_lawful (λ i. i.script) _ _ (λ script k. refl) text_lawful)
+
+lists_lawful : (next : ℕ) → Lawful (lists next)
+lists_lawful next =
+    field_lawful (λ c. c.timers) _ _ (λ timers c k h. ap (λ (c : Content). c.timers) h.1) (list_lawful (λ before. timer) (λ before. timer_lawful)) (λ timers.
+    through_lawful (λ c. c.idles) _ _ (λ idles k. refl) (list_lawful (λ before. idle) (λ before. idle_lawful)))
+
+pub waiting_lawful : (next : ℕ) → Lawful (waiting next)
+waiting_lawful next = test_lawful are_waiting (lists next) (λ v h. omega arith) (lists_lawful next)

@@ -1,0 +1,47 @@
+-- Bindings as bytes (this project's own format).
+use Rattle.std.specs.Prelude.{ℕ, ◌<◌, ◌^◌, Bool, ◌&&◌, ◌==◌, not, nat_lt, List, [], ◌∷◌, length}
+use Rattle.std.specs.Int.{w64}
+use Rattle.std.specs.List.{list_all, AllByRecursion}
+use Rattle.tks_bind.specs.declared.binding.Binding.{Binding}
+use Rattle.tks_bind.specs.Binding.{is_for}
+use Rattle.tks_codec.specs.Spelling.{Read, Spelling, number, such_that, field, through, list, text}
+use Rattle.tks_codec_events.specs.Distinct.{all_differ}
+use Rattle.tks_codec_events.specs.Sequence.{sequence, HasShortDetail}
+
+-- a binding: its number, its tag, its sequence, its script
+abbrev pub binding : Spelling Binding
+binding =
+    field (λ b. b.number) (number w64) (λ n.
+    field (λ b. b.tag) text (λ tag.
+    field (λ b. b.sequence) sequence (λ s.
+    through (λ b. b.script) (λ script. record { number = n; tag = tag; sequence = s; script = script }) text)))
+
+-- the spellings of its parts
+abbrev pub binding_parts : Binding → List (List ℕ)
+binding_parts b = (number w64).write b.number ∷ text.write b.tag ∷ sequence.write b.sequence ∷ text.write b.script ∷ []
+
+-- the binding at the front of bytes, and what stands behind it
+unfoldable pub binding_at : List ℕ → Read Binding
+binding_at bytes = binding.read bytes
+
+-- whether two bindings have other numbers, and other tags or other sequences
+abbrev pub differ : Binding → Binding → Bool
+differ b c = not (b.number == c.number) && not (is_for b.tag b.sequence c)
+
+-- whether numbers are below the next one, and bindings differ
+abbrev pub are_bindings : ℕ → List Binding → Bool
+are_bindings next bs = list_all (λ b. nat_lt b.number next) bs && all_differ differ bs
+
+-- bindings in the order in which they were made, given the next number
+abbrev pub bindings : ℕ → Spelling (List Binding)
+bindings next = such_that (are_bindings next) (list binding)
+
+-- those at the front of bytes, and what stands behind them
+unfoldable pub bindings_at : ℕ → List ℕ → Read (List Binding)
+bindings_at next bytes = (bindings next).read bytes
+
+-- its texts are short enough for their lengths to be told
+pub record IsShortBinding (b : Binding) : Type 0 where
+  pub tag : length b.tag < 2 ^ 32
+  pub details : AllByRecursion HasShortDetail b.sequence
+  pub script : length b.script < 2 ^ 32

@@ -1,0 +1,10 @@
+pub mod Kind
+pub mod Sequence
+pub mod Event
+pub mod Distinct
+pub mod Bindings
+pub mod Virtuals
+pub mod History
+pub mod Queue
+pub mod Timers
+pub mod Held

@@ -1,0 +1,21 @@
+-- The queue of events as bytes (this project's own format).
+use Rattle.std.specs.Prelude.{ℕ, List}
+use Rattle.tks_queue.specs.declared.queued.Queued.{Queued}
+use Rattle.tks_codec.specs.Spelling.{Read, Spelling, field, through, flag, list}
+use Rattle.tks_codec_events.specs.Event.{event, HasShortTexts}
+
+-- an event that waits: the event, whether it was put with a mark
+abbrev pub queued : Spelling Queued
+queued = field (λ q. q.event) event (λ e. through (λ q. q.with_mark) (λ with_mark. record { event = e; with_mark = with_mark }) flag)
+
+-- the one at the front of bytes, and what stands behind it
+unfoldable pub queued_at : List ℕ → Read Queued
+queued_at bytes = queued.read bytes
+
+-- the events that wait, the next one first
+abbrev pub queue : Spelling (List Queued)
+queue = list queued
+
+-- its texts are short enough for their lengths to be told
+abbrev pub IsShort : Queued → Type 0
+IsShort q = HasShortTexts q.event

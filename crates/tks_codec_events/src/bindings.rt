@@ -1,0 +1,130 @@
+//! Bindings.
+ghost use Rattle.std.specs.Prelude.{◌≡◌, ◌<◌, ◌^◌, length, nat_lt, true, None, IfOk, OnOk};
+ghost use Rattle.std.specs.List.{AllByRecursion, list_all};
+ghost use Rattle.tks_codec.specs.Reading.{Gives};
+ghost use Rattle.tks_codec.specs.Writing.{PutsSo, joined};
+ghost use Rattle.tks_codec_events.specs.Bindings as tables;
+ghost use Rattle.tks_codec_events.specs.Bindings.{binding_at, binding_parts, are_bindings, bindings_at, IsShortBinding};
+
+use crate::distinct::{Distinct, items_differ};
+use crate::member::{Member, is_short, list_of, put_items};
+use crate::sequence::{put_sequence, sequence_of};
+use std::alloc::{AllocError, Global};
+use tks_bind::{Binding, Bindings};
+use tks_codec::Unread;
+use tks_codec::reading::{text_of, u64_of};
+use tks_codec::writing::{put_text, put_u64};
+use tks_event::are_equal;
+use tks_mark::Items;
+
+// A binding.
+#[tactic(auto, unfolding(crate::specs::Bindings::binding_at, crate::specs::Sequence::sequence_at))]
+fn binding_of(alloc: Global, bytes: &[u8]) -> Result<(Binding, &[u8]), Unread>
+    ensures { Gives (λ x. (x.0, x.1.now)) result (binding_at bytes.now) }
+{
+    let (number, rest) = u64_of(bytes)?;
+    let (tag, rest) = text_of(alloc, rest)?;
+    let (sequence, rest) = sequence_of(alloc, rest)?;
+    let (script, rest) = text_of(alloc, rest)?;
+    let binding = Binding {
+        number,
+        tag,
+        sequence,
+        script,
+    };
+    Ok((binding, rest))
+}
+
+// Adds the parts of a binding.
+#[tactic(auto, using(tks_codec::proofs::Puts::joined_puts))]
+fn put_parts(out: &mut Vec<u8>, binding: &Binding) -> Result<(), AllocError>
+    requires { IsShortBinding binding.now }
+    ensures puts { PutsSo result out.old.items out.new.items (joined (binding_parts binding.now)) }
+    ensures legal { OnOk result (tables.binding.Legal binding.now) }
+{
+    put_u64(out, binding.number)?;
+    put_text(out, &binding.tag)?;
+    put_sequence(out, &binding.sequence)?;
+    put_text(out, &binding.script)
+}
+
+impl Member for Binding {
+    ghost use Rattle.tks_codec_events.specs.Bindings.{binding, IsShortBinding};
+
+    ghost spelling = { binding };
+
+    ghost IsShort = { IsShortBinding };
+
+    ghost IsSound = { λ b. Unit {0} };
+
+    fn has_spelling(&self) -> bool {
+        is_short(&self.tag) && self.sequence.has_spelling() && is_short(&self.script)
+    }
+
+    #[tactic(auto, unfolding(crate::specs::Bindings::binding_at))]
+    fn read(alloc: Global, bytes: &[u8]) -> Result<(Binding, &[u8]), Unread> {
+        binding_of(alloc, bytes)
+    }
+
+    #[tactic(auto, unfolding(tks_codec::specs::Writing::joined))]
+    fn put(&self, out: &mut Vec<u8>) -> Result<(), AllocError> {
+        put_parts(out, self)
+    }
+}
+
+impl Distinct for Binding {
+    ghost use Rattle.tks_codec_events.specs.Bindings.{differ};
+
+    ghost differs = { differ };
+
+    fn differs(&self, other: &Binding) -> bool {
+        self.number != other.number
+            && !(other.tag == self.tag
+                && are_equal(other.sequence.as_slice(), self.sequence.as_slice()))
+    }
+}
+
+// Whether numbers are below the next one.
+fn are_below(bindings: Items<'_, Binding>, next: u64) -> bool
+    ensures { result ≡ list_all (λ b. nat_lt b.number next) bindings.entry }
+{
+    for binding in bindings {
+        if binding.number >= next {
+            return false;
+        }
+    }
+    true
+}
+
+/// Whether numbers are below the next one, and bindings differ in their numbers, and in their tags or their sequences.
+pub fn are_bindings(bindings: &Bindings) -> bool
+    ensures { result ≡ are_bindings bindings.now.present.next bindings.now.present.bindings }
+{
+    are_below(bindings.bindings(), bindings.next()) && items_differ(bindings.bindings())
+}
+
+/// Bindings with this next number, with no mark.
+#[tactic(auto, unfolding(crate::specs::Bindings::bindings_at))]
+pub fn bindings_of(alloc: Global, next: u64, bytes: &[u8]) -> Result<(Bindings, &[u8]), Unread>
+    ensures reads { Gives (λ x. (x.0.present.bindings, x.1.now)) result (bindings_at next bytes.now) }
+    ensures next { IfOk result (λ x. x.0.present.next ≡ next) }
+    ensures unmarked { IfOk result (λ x. x.0.at_mark ≡ None) }
+{
+    let (bindings, rest) = list_of::<Binding>(alloc, bytes)?;
+    let bindings = Bindings::restore(alloc, bindings, next)?;
+    if !are_bindings(&bindings) {
+        return Err(Unread::Left(rest.len() + 1));
+    }
+    Ok((bindings, rest))
+}
+
+/// Adds bindings, but not the next number. They are read back where they are bindings
+/// (`are_bindings`).
+pub fn put_bindings(out: &mut Vec<u8>, bindings: &Bindings) -> Result<(), AllocError>
+    requires few { length bindings.now.present.bindings < 2 ^ 32 }
+    requires short { AllByRecursion IsShortBinding bindings.now.present.bindings }
+    ensures puts { PutsSo result out.old.items out.new.items ((tables.bindings bindings.now.present.next).write bindings.now.present.bindings) }
+    ensures legal { OnOk result (are_bindings bindings.now.present.next bindings.now.present.bindings ≡ true → (tables.bindings bindings.now.present.next).Legal bindings.now.present.bindings) }
+{
+    put_items(out, bindings.bindings(), bindings.len())
+}

@@ -1,0 +1,30 @@
+//! Events, bindings, what waits to be delivered or run, and what is held down, as bytes.
+#![tactic(auto)]
+
+mod bindings;
+mod distinct;
+mod event;
+mod held;
+mod history;
+mod kind;
+mod laws;
+mod member;
+mod queue;
+mod sequence;
+mod timers;
+mod virtuals;
+
+pub use bindings::{are_bindings, bindings_of, put_bindings};
+pub use distinct::{Distinct, all_differ, items_differ};
+pub use event::{event_of, is_event, put_event};
+pub use held::{held_of, put_held};
+pub use history::{history_of, put_history};
+pub use kind::{kind_of, put_kind};
+pub use laws::{all_are_spelled, spellings_are_lawful};
+pub use member::{
+    Member, all_have_spellings, is_short, items_have_spellings, list_of, put_items, put_list,
+};
+pub use queue::{put_queue, queue_of};
+pub use sequence::{put_sequence, sequence_of};
+pub use timers::{are_waiting, put_waiting, waiting_of};
+pub use virtuals::{are_virtuals, put_virtuals, virtuals_of};

@@ -1,0 +1,119 @@
+//! Patterns and sequences of events.
+ghost use Rattle.std.specs.Prelude.{◌<◌, ◌^◌, length, OnOk};
+ghost use Rattle.std.specs.List.{AllByRecursion};
+ghost use Rattle.tks_codec.specs.Reading.{Gives};
+ghost use Rattle.tks_codec.specs.Writing.{PutsSo, joined};
+ghost use Rattle.tks_codec_events.specs.Sequence as sequences;
+ghost use Rattle.tks_codec_events.specs.Sequence.{pattern, pattern_at, pattern_parts, sequence_at, HasShortDetail};
+
+use crate::kind::{kind_of, put_kind};
+use crate::member::{Member, all_have_spellings, is_short, list_of, put_list};
+use std::alloc::{AllocError, Global};
+use tks_codec::Unread;
+use tks_codec::reading::{flag_of, text_of, u16_of};
+use tks_codec::writing::{put_flag, put_text, put_u16};
+use tks_event::{Modifiers, Pattern, Sequence};
+
+// A pattern.
+#[tactic(auto, unfolding(crate::specs::Sequence::pattern_at))]
+fn pattern_of(alloc: Global, bytes: &[u8]) -> Result<(Pattern, &[u8]), Unread>
+    ensures { Gives (λ x. (x.0, x.1.now)) result (pattern_at bytes.now) }
+{
+    let (near, rest) = flag_of(bytes)?;
+    let (kind, rest) = kind_of(rest)?;
+    let (bits, rest) = u16_of(rest)?;
+    let Some(modifiers) = Modifiers::from_bits(bits) else {
+        return Err(Unread::Left(rest.len() + 1));
+    };
+    let (detail, rest) = text_of(alloc, rest)?;
+    let pattern = Pattern {
+        near,
+        kind,
+        modifiers,
+        detail,
+    };
+    Ok((pattern, rest))
+}
+
+/// A sequence.
+#[tactic(auto, unfolding(crate::specs::Sequence::sequence_at))]
+pub fn sequence_of(alloc: Global, bytes: &[u8]) -> Result<(Sequence, &[u8]), Unread>
+    ensures { Gives (λ x. (x.0, x.1.now)) result (sequence_at bytes.now) }
+{
+    let (patterns, rest) = list_of::<Pattern>(alloc, bytes)?;
+    match Sequence::restore(patterns) {
+        Some(sequence) => Ok((sequence, rest)),
+        None => Err(Unread::Left(rest.len() + 1)),
+    }
+}
+
+// Adds the parts of a pattern.
+#[tactic(auto, using(tks_codec::proofs::Puts::joined_puts, crate::proofs::Sequencing::pattern_legal))]
+fn put_parts(out: &mut Vec<u8>, pattern: &Pattern) -> Result<(), AllocError>
+    requires { length pattern.now.detail < 2 ^ 32 }
+    ensures puts { PutsSo result out.old.items out.new.items (joined (pattern_parts pattern.now)) }
+    ensures legal { OnOk result (sequences.pattern.Legal pattern.now) }
+{
+    put_flag(out, pattern.near)?;
+    put_kind(out, pattern.kind)?;
+    put_u16(out, pattern.modifiers.bits())?;
+    put_text(out, &pattern.detail)
+}
+
+impl Member for Pattern {
+    ghost use Rattle.tks_codec_events.specs.Sequence.{pattern, HasShortDetail};
+
+    ghost spelling = { pattern };
+
+    ghost IsShort = { HasShortDetail };
+
+    ghost IsSound = { λ p. Unit {0} };
+
+    fn has_spelling(&self) -> bool {
+        is_short(&self.detail)
+    }
+
+    #[tactic(auto, unfolding(crate::specs::Sequence::pattern_at))]
+    fn read(alloc: Global, bytes: &[u8]) -> Result<(Pattern, &[u8]), Unread> {
+        pattern_of(alloc, bytes)
+    }
+
+    #[tactic(auto, unfolding(tks_codec::specs::Writing::joined))]
+    fn put(&self, out: &mut Vec<u8>) -> Result<(), AllocError> {
+        put_parts(out, self)
+    }
+}
+
+/// Adds a sequence. Where its patterns have details of fewer than 2^32 bytes, as all but the names of virtual events
+/// have, it is read back.
+pub fn put_sequence(out: &mut Vec<u8>, sequence: &Sequence) -> Result<(), AllocError>
+    requires { AllByRecursion HasShortDetail sequence.now }
+    ensures puts { PutsSo result out.old.items out.new.items (sequences.sequence.write sequence.now) }
+    ensures legal { OnOk result (sequences.sequence.Legal sequence.now) }
+{
+    put_list(out, sequence.patterns())
+}
+
+impl Member for Sequence {
+    ghost use Rattle.std.specs.List.{AllByRecursion};
+    ghost use Rattle.tks_codec_events.specs.Sequence.{sequence, HasShortDetail};
+
+    ghost spelling = { sequence };
+
+    ghost IsShort = { AllByRecursion HasShortDetail };
+
+    ghost IsSound = { λ s. Unit {0} };
+
+    fn has_spelling(&self) -> bool {
+        all_have_spellings(self.patterns())
+    }
+
+    #[tactic(auto, unfolding(crate::specs::Sequence::sequence_at))]
+    fn read(alloc: Global, bytes: &[u8]) -> Result<(Sequence, &[u8]), Unread> {
+        sequence_of(alloc, bytes)
+    }
+
+    fn put(&self, out: &mut Vec<u8>) -> Result<(), AllocError> {
+        put_sequence(out, self)
+    }
+}

@@ -1,0 +1,139 @@
+//! Virtual events.
+ghost use Rattle.std.specs.Prelude.{◌≡◌, ◌<◌, ◌^◌, ◌&&◌, length, true, None, IfOk, OnOk};
+ghost use Rattle.std.specs.List.{AllByRecursion};
+ghost use Rattle.tks_codec.specs.Reading.{Gives};
+ghost use Rattle.tks_codec.specs.Writing.{PutsSo, joined};
+ghost use Rattle.tks_codec_events.specs.Distinct.{all_differ};
+ghost use Rattle.tks_codec_events.specs.Virtuals as tables;
+ghost use Rattle.tks_codec_events.specs.Virtuals.{sequences_differ, is_some, is_met, named_parts, virtual_event_at, virtuals_at, are_virtuals, IsShortVirtual};
+
+use crate::distinct::{Distinct, all_differ, items_differ};
+use crate::member::{Member, all_have_spellings, is_short, list_of, put_items, put_list};
+use std::alloc::{AllocError, Global};
+use tks_bind::{VirtualEvent, Virtuals};
+use tks_codec::Unread;
+use tks_codec::reading::text_of;
+use tks_codec::writing::put_text;
+use tks_event::{Sequence, are_equal};
+
+impl Distinct for Sequence {
+    ghost use Rattle.tks_codec_events.specs.Virtuals.{sequences_differ};
+
+    ghost differs = { sequences_differ };
+
+    fn differs(&self, other: &Sequence) -> bool {
+        !are_equal(self.as_slice(), other.as_slice())
+    }
+}
+
+// Whether there are sequences.
+fn is_some(sequences: &[Sequence]) -> bool
+    ensures { result ≡ is_some sequences.now }
+{
+    match sequences {
+        [] => false,
+        _ => true,
+    }
+}
+
+// Whether there are sequences, and they differ.
+fn are_sequences(sequences: &[Sequence]) -> bool
+    ensures { result ≡ (is_some sequences.now && all_differ sequences_differ sequences.now) }
+{
+    is_some(sequences) && all_differ(sequences)
+}
+
+// A virtual event.
+#[tactic(auto, unfolding(crate::specs::Virtuals::virtual_event_at))]
+fn virtual_event_of(alloc: Global, bytes: &[u8]) -> Result<(VirtualEvent, &[u8]), Unread>
+    ensures { Gives (λ x. (x.0, x.1.now)) result (virtual_event_at bytes.now) }
+{
+    let (name, rest) = text_of(alloc, bytes)?;
+    let (sequences, rest) = list_of::<Sequence>(alloc, rest)?;
+    if !are_sequences(&sequences) {
+        return Err(Unread::Left(rest.len() + 1));
+    }
+    let event = VirtualEvent::restore(alloc, name, sequences)?;
+    Ok((event, rest))
+}
+
+// Adds the parts of a virtual event.
+#[tactic(auto, using(tks_codec::proofs::Puts::joined_puts))]
+fn put_parts(out: &mut Vec<u8>, event: &VirtualEvent) -> Result<(), AllocError>
+    requires { IsShortVirtual event.now }
+    ensures puts { PutsSo result out.old.items out.new.items (joined (named_parts event.now)) }
+    ensures legal { OnOk result (tables.named.Legal event.now) }
+{
+    put_text(out, &event.name)?;
+    put_list(out, event.sequences.as_slice())
+}
+
+impl Member for VirtualEvent {
+    ghost use Rattle.std.specs.Prelude.{◌≡◌, true};
+    ghost use Rattle.tks_codec_events.specs.Virtuals.{virtual_event, is_met, IsShortVirtual};
+
+    ghost spelling = { virtual_event };
+
+    ghost IsShort = { IsShortVirtual };
+
+    ghost IsSound = { λ v. is_met v ≡ true };
+
+    fn has_spelling(&self) -> bool {
+        let sequences = self.sequences.as_slice();
+        is_short(&self.name)
+            && sequences.len() < 1 << 32
+            && all_have_spellings(sequences)
+            && are_sequences(sequences)
+    }
+
+    #[tactic(auto, unfolding(crate::specs::Virtuals::virtual_event_at))]
+    fn read(alloc: Global, bytes: &[u8]) -> Result<(VirtualEvent, &[u8]), Unread> {
+        virtual_event_of(alloc, bytes)
+    }
+
+    #[tactic(auto, unfolding(tks_codec::specs::Writing::joined))]
+    fn put(&self, out: &mut Vec<u8>) -> Result<(), AllocError> {
+        put_parts(out, self)
+    }
+}
+
+impl Distinct for VirtualEvent {
+    ghost use Rattle.tks_codec_events.specs.Virtuals.{names_differ};
+
+    ghost differs = { names_differ };
+
+    fn differs(&self, other: &VirtualEvent) -> bool {
+        self.name != other.name
+    }
+}
+
+/// Whether names differ.
+pub fn are_virtuals(virtuals: &Virtuals) -> bool
+    ensures { result ≡ are_virtuals virtuals.now.present }
+{
+    items_differ(virtuals.events())
+}
+
+/// Virtual events, with no mark.
+#[tactic(auto, unfolding(crate::specs::Virtuals::virtuals_at))]
+pub fn virtuals_of(alloc: Global, bytes: &[u8]) -> Result<(Virtuals, &[u8]), Unread>
+    ensures reads { Gives (λ x. (x.0.present, x.1.now)) result (virtuals_at bytes.now) }
+    ensures unmarked { IfOk result (λ x. x.0.at_mark ≡ None) }
+{
+    let (events, rest) = list_of::<VirtualEvent>(alloc, bytes)?;
+    let virtuals = Virtuals::restore(alloc, events)?;
+    if !are_virtuals(&virtuals) {
+        return Err(Unread::Left(rest.len() + 1));
+    }
+    Ok((virtuals, rest))
+}
+
+/// Adds virtual events. They are read back where names differ (`are_virtuals`), and each has sequences, which differ.
+pub fn put_virtuals(out: &mut Vec<u8>, virtuals: &Virtuals) -> Result<(), AllocError>
+    requires few { length virtuals.now.present < 2 ^ 32 }
+    requires short { AllByRecursion IsShortVirtual virtuals.now.present }
+    ensures puts { PutsSo result out.old.items out.new.items (tables.virtuals.write virtuals.now.present) }
+    ensures legal { OnOk result (are_virtuals virtuals.now.present ≡ true → AllByRecursion (λ v. is_met v ≡ true) virtuals.now.present → tables.virtuals.Legal virtuals.now.present) }
+{
+    put_items(out, virtuals.events(), virtuals.len())
+}

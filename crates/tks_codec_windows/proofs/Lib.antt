@@ -1,0 +1,6 @@
+pub mod OfTexts
+pub mod OfOptions
+pub mod OfPacking
+pub mod OfWidgets
+pub mod OfLines
+pub mod Shortness

@@ -1,0 +1,23 @@
+//! Laws of the spellings.
+ghost use Rattle.tks_text.specs.declared.class.Class.{Class};
+ghost use Rattle.tks_opt.specs.Options.{Options};
+ghost use Rattle.tks_codec.specs.Spelling.{Lawful};
+ghost use Rattle.tks_codec_windows.specs.Texts.{texts, tags, windows};
+ghost use Rattle.tks_codec_windows.specs.Options.{options};
+ghost use Rattle.tks_codec_windows.specs.Packing.{packing};
+ghost use Rattle.tks_codec_windows.specs.Entry.{entry};
+ghost use Rattle.tks_codec_windows.specs.Listbox.{listbox};
+ghost use Rattle.tks_codec_windows.specs.Lines.{lines};
+
+/// Each of these has one spelling, no spelling of one is a proper front of another of its kind, and what reading says
+/// of bytes is what these spellings say.
+pub fn spellings_are_lawful()
+    ensures texts { Lawful texts }
+    ensures tags { Lawful tags }
+    ensures windows { Lawful windows }
+    ensures options { (c : Class) → Lawful (options c) }
+    ensures packing { Lawful packing }
+    ensures entries { (o : Options) → Lawful (entry o) }
+    ensures listboxes { (o : Options) → Lawful (listbox o) }
+    ensures lines { (o : Options) → Lawful (lines o) }
+{}

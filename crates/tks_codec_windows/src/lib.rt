@@ -1,0 +1,28 @@
+//! What is kept of windows, as bytes: options, how windows are packed, what widgets hold.
+#![tactic(auto)]
+
+mod contents;
+mod entry;
+mod laws;
+mod lines;
+mod list_item;
+mod listing;
+mod mark;
+mod options;
+mod packing;
+mod range_list;
+mod settings;
+mod short;
+mod tag;
+mod texts;
+
+pub use contents::put_contents;
+pub use entry::{entry_of, put_entry};
+pub use laws::spellings_are_lawful;
+pub use lines::{lines_of, put_lines};
+pub use listing::{listbox_of, put_listbox};
+pub use options::{options_of, put_options};
+pub use packing::{packing_of, put_packing};
+pub use settings::has_paddings;
+pub use short::{are_short, has_short_items, has_short_parts, has_short_values};
+pub use texts::{put_tags, put_texts, put_windows, tags_of, texts_of, windows_of};

@@ -1,0 +1,47 @@
+//! What a text widget holds.
+ghost use Rattle.std.specs.Prelude.{◌≡◌, OnOk};
+ghost use Rattle.tks_text.specs.declared.class.Class.TheVariants as class;
+ghost use Rattle.tks_codec.specs.Reading.{Gives};
+ghost use Rattle.tks_codec.specs.Writing.{PutsSo};
+ghost use Rattle.tks_codec_windows.specs.Lines as kinds;
+ghost use Rattle.tks_codec_windows.specs.Lines.{lines_at, IsShort};
+
+use crate::mark::{marks_of, put_marks};
+use crate::tag::{put_tags, tags_of};
+use std::alloc::{AllocError, Global};
+use tks_codec::Unread;
+use tks_codec::reading::text_of;
+use tks_codec::writing::put_text;
+use tks_lines::TextWidget;
+use tks_opt::Options;
+
+/// A text widget with these options, by its characters, its tags and its marks.
+#[tactic(auto, unfolding(crate::specs::Lines::lines_at))]
+pub fn lines_of(
+    alloc: Global,
+    options: Options,
+    bytes: &[u8],
+) -> Result<(TextWidget, &[u8]), Unread>
+    requires { options.class ≡ class.Text }
+    ensures { Gives (λ x. (x.0, x.1.now)) result (lines_at options bytes.now) }
+{
+    let (text, rest) = text_of(alloc, bytes)?;
+    let (tags, rest) = tags_of(alloc, text.as_bytes().len(), rest)?;
+    let (marks, rest) = marks_of(alloc, rest)?;
+    match TextWidget::restore(alloc, options, text, tags, marks) {
+        Some(widget) => Ok((widget, rest)),
+        None => Err(Unread::Left(rest.len() + 1)),
+    }
+}
+
+/// Adds a text widget's characters, its tags and its marks.
+pub fn put_lines(alloc: Global, out: &mut Vec<u8>, widget: &TextWidget) -> Result<(), AllocError>
+    requires { IsShort widget.now }
+    ensures puts { PutsSo result out.old.items out.new.items ((kinds.lines widget.now.options).write widget.now) }
+    ensures legal { OnOk result ((kinds.lines widget.now.options).Legal widget.now) }
+{
+    let marks = widget.marks();
+    put_text(out, widget.text())?;
+    put_tags(alloc, out, widget)?;
+    put_marks(out, marks)
+}

@@ -1,0 +1,42 @@
+//! What a listbox holds.
+ghost use Rattle.std.specs.Prelude.{◌≡◌, OnOk};
+ghost use Rattle.tks_text.specs.declared.class.Class.TheVariants as class;
+ghost use Rattle.tks_codec.specs.Reading.{Gives};
+ghost use Rattle.tks_codec.specs.Writing.{PutsSo};
+ghost use Rattle.tks_codec_windows.specs.Listbox as kinds;
+ghost use Rattle.tks_codec_windows.specs.Listbox.{IsShort};
+
+use crate::list_item::{items_of, put_items};
+use std::alloc::{AllocError, Global};
+use tks_codec::Unread;
+use tks_codec::reading::u32_of;
+use tks_codec::writing::put_u32;
+use tks_listbox::ListWidget;
+use tks_opt::Options;
+
+/// A listbox with these options, by its items and the active one's place.
+pub fn listbox_of(
+    alloc: Global,
+    options: Options,
+    bytes: &[u8],
+) -> Result<(ListWidget, &[u8]), Unread>
+    requires { options.class ≡ class.Listbox }
+    ensures { Gives (λ x. (x.0, x.1.now)) result ((kinds.listbox options).read bytes.now) }
+{
+    let (items, rest) = items_of(alloc, bytes)?;
+    let (active, rest) = u32_of(rest)?;
+    match ListWidget::restore(alloc, options, items, active as usize) {
+        Some(listbox) => Ok((listbox, rest)),
+        None => Err(Unread::Left(rest.len() + 1)),
+    }
+}
+
+/// Adds a listbox's items and the active one's place.
+pub fn put_listbox(out: &mut Vec<u8>, listbox: &ListWidget) -> Result<(), AllocError>
+    requires { IsShort listbox.now }
+    ensures puts { PutsSo result out.old.items out.new.items ((kinds.listbox listbox.now.options).write listbox.now) }
+    ensures legal { OnOk result ((kinds.listbox listbox.now.options).Legal listbox.now) }
+{
+    put_items(out, listbox.items())?;
+    put_u32(out, listbox.active() as u32)
+}

@@ -1,0 +1,54 @@
+//! The options of a window.
+ghost use Rattle.std.specs.Prelude.{None, OnOk};
+ghost use Rattle.std.specs.List.{AllByRecursion};
+ghost use Rattle.tks_opt.specs.Options.{values_in_order};
+ghost use Rattle.tks_codec.specs.Spelling.{text, members};
+ghost use Rattle.tks_codec.specs.Reading.{Gives};
+ghost use Rattle.tks_codec.specs.Writing.{PutsSo};
+ghost use Rattle.tks_codec_windows.specs.Texts.{IsShort};
+ghost use Rattle.tks_codec_windows.specs.Options as kinds;
+ghost use Rattle.tks_codec_windows.specs.Options.{options_at};
+
+use crate::texts::texts_of;
+use std::alloc::{AllocError, Global};
+use tks_codec::Unread;
+use tks_codec::writing::{put_text, put_u32};
+use tks_opt::Options;
+use tks_text::Class;
+
+/// The options of a class. Bytes in front of them say which class it is.
+#[tactic(auto, unfolding(crate::specs::Options::options_at))]
+pub fn options_of(alloc: Global, class: Class, bytes: &[u8]) -> Result<(Options, &[u8]), Unread>
+    ensures { Gives (λ x. (x.0, x.1.now)) result (options_at class bytes.now) }
+{
+    let (values, rest) = texts_of(alloc, bytes)?;
+    match Options::restore(alloc, class, values)? {
+        Some(options) => Ok((options, rest)),
+        None => Err(Unread::Left(rest.len() + 1)),
+    }
+}
+
+// Adds each of the values.
+fn put_each(out: &mut Vec<u8>, options: &Options) -> Result<(), AllocError>
+    requires { AllByRecursion IsShort (values_in_order options.now) }
+    ensures puts { PutsSo result out.old.items out.new.items (members (λ before. text) None (values_in_order options.now)) }
+    ensures legal { OnOk result (AllByRecursion text.Legal (values_in_order options.now)) }
+{
+    for index in 0..options.len() {
+        let Some(value) = options.value_at(index) else {
+            unreachable!()
+        };
+        put_text(out, value)?;
+    }
+    Ok(())
+}
+
+/// Adds options.
+pub fn put_options(out: &mut Vec<u8>, options: &Options) -> Result<(), AllocError>
+    requires { AllByRecursion IsShort (values_in_order options.now) }
+    ensures puts { PutsSo result out.old.items out.new.items ((kinds.options options.now.class).write options.now) }
+    ensures legal { OnOk result ((kinds.options options.now.class).Legal options.now) }
+{
+    put_u32(out, options.len() as u32)?;
+    put_each(out, options)
+}

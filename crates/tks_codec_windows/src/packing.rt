@@ -1,0 +1,41 @@
+//! How a window is packed, if it is.
+ghost use Rattle.std.specs.Prelude.{OnOk};
+ghost use Rattle.tks_codec.specs.Reading.{Gives};
+ghost use Rattle.tks_codec.specs.Writing.{PutsSo};
+ghost use Rattle.tks_codec_windows.specs.Packing as kinds;
+ghost use Rattle.tks_codec_windows.specs.Packing.{packing_at, IsPacking};
+
+use crate::settings::{put_settings, settings_of};
+use std::alloc::AllocError;
+use tks_codec::Unread;
+use tks_codec::reading::presence_of;
+use tks_codec::writing::put_presence;
+use tks_pack::Settings;
+
+/// How a window is packed, if it is.
+#[tactic(auto, unfolding(crate::specs::Packing::packing_at, crate::specs::Packing::settings_at))]
+pub fn packing_of(bytes: &[u8]) -> Result<(Option<Settings>, &[u8]), Unread>
+    ensures { Gives (λ x. (x.0, x.1.now)) result (packing_at bytes.now) }
+{
+    let (is_packed, rest) = presence_of(bytes)?;
+    if !is_packed {
+        return Ok((None, rest));
+    }
+    let (settings, rest) = settings_of(rest)?;
+    Ok((Some(settings), rest))
+}
+
+/// Adds how a window is packed, if it is.
+pub fn put_packing(out: &mut Vec<u8>, packing: Option<Settings>) -> Result<(), AllocError>
+    requires { IsPacking packing }
+    ensures puts { PutsSo result out.old.items out.new.items (kinds.packing.write packing) }
+    ensures legal { OnOk result (kinds.packing.Legal packing) }
+{
+    match packing {
+        None => put_presence(out, false),
+        Some(settings) => {
+            put_presence(out, true)?;
+            put_settings(out, &settings)
+        }
+    }
+}

@@ -1,0 +1,121 @@
+//! How a window is packed.
+ghost use Rattle.std.specs.Prelude.{◌≡◌, ◌≤◌, ◌↔◌, true, OnOk};
+ghost use Rattle.tks_codec.specs.Reading.{Gives};
+ghost use Rattle.tks_codec.specs.Writing.{PutsSo, joined};
+ghost use Rattle.tks_codec_windows.specs.Packing as kinds;
+ghost use Rattle.tks_codec_windows.specs.Packing.{settings_at, settings_parts, HasPaddings};
+
+use std::alloc::AllocError;
+use tks_codec::Unread;
+use tks_codec::reading::{flag_of, u8_of, u16_of};
+use tks_codec::writing::{put_flag, put_u8, put_u16};
+use tks_opt::Anchor;
+use tks_pack::{Fill, Settings, Side};
+
+// The most cells of a padding.
+const MAX_PADDING: u16 = 1_000;
+
+// A side.
+fn side_of(bytes: &[u8]) -> Result<(Side, &[u8]), Unread>
+    ensures { Gives (λ x. (x.0, x.1.now)) result (kinds.side.read bytes.now) }
+{
+    let (number, rest) = u8_of(bytes)?;
+    match Side::numbered(number) {
+        Some(side) => Ok((side, rest)),
+        None => Err(Unread::Left(rest.len() + 1)),
+    }
+}
+
+// A way of filling.
+fn fill_of(bytes: &[u8]) -> Result<(Fill, &[u8]), Unread>
+    ensures { Gives (λ x. (x.0, x.1.now)) result (kinds.fill.read bytes.now) }
+{
+    let (number, rest) = u8_of(bytes)?;
+    match Fill::numbered(number) {
+        Some(fill) => Ok((fill, rest)),
+        None => Err(Unread::Left(rest.len() + 1)),
+    }
+}
+
+// An anchor.
+fn anchor_of(bytes: &[u8]) -> Result<(Anchor, &[u8]), Unread>
+    ensures { Gives (λ x. (x.0, x.1.now)) result (kinds.anchor.read bytes.now) }
+{
+    let (number, rest) = u8_of(bytes)?;
+    match Anchor::numbered(number) {
+        Some(anchor) => Ok((anchor, rest)),
+        None => Err(Unread::Left(rest.len() + 1)),
+    }
+}
+
+// A padding.
+fn padding_of(bytes: &[u8]) -> Result<(u16, &[u8]), Unread>
+    ensures { Gives (λ x. (x.0, x.1.now)) result (kinds.padding.read bytes.now) }
+{
+    let (cells, rest) = u16_of(bytes)?;
+    if MAX_PADDING < cells {
+        return Err(Unread::Left(rest.len() + 1));
+    }
+    Ok((cells, rest))
+}
+
+/// Settings.
+#[tactic(auto, unfolding(crate::specs::Packing::settings_at))]
+pub fn settings_of(bytes: &[u8]) -> Result<(Settings, &[u8]), Unread>
+    ensures { Gives (λ x. (x.0, x.1.now)) result (settings_at bytes.now) }
+{
+    let (side, rest) = side_of(bytes)?;
+    let (fill, rest) = fill_of(rest)?;
+    let (expand, rest) = flag_of(rest)?;
+    let (anchor, rest) = anchor_of(rest)?;
+    let (padx, rest) = padding_of(rest)?;
+    let (pady, rest) = padding_of(rest)?;
+    let (ipadx, rest) = padding_of(rest)?;
+    let (ipady, rest) = padding_of(rest)?;
+    let settings = Settings {
+        side,
+        fill,
+        expand,
+        anchor,
+        padx,
+        pady,
+        ipadx,
+        ipady,
+    };
+    Ok((settings, rest))
+}
+
+/// Whether the paddings of settings are legal.
+pub fn has_paddings(settings: &Settings) -> bool
+    ensures { (result ≡ true) ↔ HasPaddings settings.now }
+{
+    settings.padx <= MAX_PADDING
+        && settings.pady <= MAX_PADDING
+        && settings.ipadx <= MAX_PADDING
+        && settings.ipady <= MAX_PADDING
+}
+
+// Adds the parts of settings.
+#[tactic(auto, using(tks_codec::proofs::Puts::joined_puts))]
+fn put_parts(out: &mut Vec<u8>, settings: &Settings) -> Result<(), AllocError>
+    ensures { PutsSo result out.old.items out.new.items (joined (settings_parts settings.now)) }
+{
+    put_u8(out, settings.side.number())?;
+    put_u8(out, settings.fill.number())?;
+    put_flag(out, settings.expand)?;
+    put_u8(out, settings.anchor.number())?;
+    put_u16(out, settings.padx)?;
+    put_u16(out, settings.pady)?;
+    put_u16(out, settings.ipadx)?;
+    put_u16(out, settings.ipady)
+}
+
+/// Adds settings.
+#[tactic(auto, unfolding(tks_codec::specs::Writing::joined), using(crate::proofs::OfPacking::settings_legal))]
+pub fn put_settings(out: &mut Vec<u8>, settings: &Settings) -> Result<(), AllocError>
+    requires { HasPaddings settings.now }
+    ensures puts { PutsSo result out.old.items out.new.items (kinds.settings.write settings.now) }
+    ensures legal { OnOk result (kinds.settings.Legal settings.now) }
+{
+    put_parts(out, settings)
+}

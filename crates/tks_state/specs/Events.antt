@@ -1,0 +1,50 @@
+-- What scripts bound to events rest on: the bindings, virtual events, the history of events, and the faults of such
+-- scripts (bind(n), event(n); that the last 32 faults are kept is this project's own rule).
+use Rattle.std.specs.Prelude.{ℕ, ◌-◌, Bool, ◌||◌, not, List, [], ◌∷◌, ◌++◌, length, drop}
+use Rattle.std.specs.List.{filter}
+use Rattle.tks_event.specs.declared.event.Event.{Event}
+use Rattle.tks_bind.specs.Binding.{Content}
+use Rattle.tks_bind.specs.declared.binding.Binding.{Binding}
+use Rattle.tks_bind.specs.declared.virtual_event.VirtualEvent.{VirtualEvent}
+use Rattle.tks_tree.specs.Path.{begins_dot}
+use Rattle.tks_tree.specs.Windows as tree
+use Rattle.tks_state.specs.ClassBindings.{first_bindings}
+
+pub record Events : Type 0 where
+  -- the bindings, and the number of the next one that is set
+  pub bindings : Content
+  pub virtuals : List VirtualEvent
+  -- the last physical events that were delivered
+  pub history : List Event
+  -- the texts of the errors of scripts that no script was there to see
+  pub faults : List (List ℕ)
+
+abbrev pub first_events : Events
+first_events = record { bindings = first_bindings; virtuals = []; history = []; faults = [] }
+
+-- ---- faults
+
+-- how many are kept
+abbrev pub max_faults : ℕ
+max_faults = 32
+
+-- the last ones of these
+abbrev pub last_faults : List (List ℕ) → List (List ℕ)
+last_faults faults = drop (length faults - max_faults) faults
+
+-- with one more
+abbrev pub with_fault : List ℕ → List (List ℕ) → List (List ℕ)
+with_fault text faults = last_faults (faults ++ text ∷ [])
+
+-- ---- windows that go
+
+-- whether a binding stays: its tag is no path, or that of a window that is there
+abbrev pub is_held : List tree.Window → Binding → Bool
+is_held windows b = not (begins_dot b.tag) || tree.has_path windows b.tag
+
+abbrev pub all_held : List tree.Window → List Binding → List Binding
+all_held windows bindings = filter (is_held windows) bindings
+
+-- the bindings without those of windows that are gone
+abbrev pub held : List tree.Window → Content → Content
+held windows c = record c { bindings = all_held windows c.bindings }

@@ -1,0 +1,266 @@
+//! What turns work on: the clock, what waits to be delivered or run, the focus, and what is held down.
+ghost use Rattle.std.specs.Prelude.{◌≡◌, ◌↔◌, ◌≤◌, ◌^◌, Err, is_some, IfOk, IfErr, OnOk, OnErr};
+ghost use Rattle.tks_queue.specs.EventQueue.{put, first, without_first};
+ghost use Rattle.tks_timer.specs.After as after;
+ghost use Rattle.tks_timer.specs.After.{script_in, kept_under, with_script};
+ghost use Rattle.tks_tree.specs.Windows.{of_number};
+ghost use Rattle.tks_state.specs.EventLoop.{first_loop, is_there, is_for, left_queue, left_focus, left_pressed, left};
+ghost use Rattle.tks_state.specs.Lost.{first_lost};
+
+use std::alloc::{AllocError, AllocFailed, Global};
+use std::marker::Model;
+use tks_event::{Event, Held};
+use tks_queue::{Place, Queue, Queued};
+use tks_text::Txt;
+use tks_timer::{AfterFault, Timers};
+use tks_tree::{Tree, WindowId};
+
+/// What turns work on.
+#[derive(Drop)]
+pub struct EventLoop {
+    clock: u64,
+    queue: Queue,
+    timers: Timers,
+    focus: WindowId,
+    held: Held,
+    pressed: Option<WindowId>,
+}
+
+impl Model for EventLoop {
+    ghost use Rattle.tks_state.specs.EventLoop.{EventLoop};
+
+    ghost Value = { EventLoop };
+
+    ghost view = { λ x. record { clock = x.clock; queue = x.queue.present; timers = x.timers.present; focus = x.focus; held = x.held; pressed = x.pressed } };
+}
+
+impl EventLoop {
+    /// The clock stands at 0, nothing waits, `.` has the focus, and nothing is held.
+    pub fn new(alloc: Global) -> EventLoop
+        ensures { result ≡ first_loop }
+    {
+        EventLoop {
+            clock: 0,
+            queue: Queue::new(alloc),
+            timers: Timers::new(alloc),
+            focus: WindowId::root(),
+            held: Held::nothing(),
+            pressed: None,
+        }
+    }
+
+    /// The time, in milliseconds.
+    pub fn clock(&self) -> u64
+        ensures { result ≡ self.now.clock }
+    {
+        self.clock
+    }
+
+    /// Sets the clock.
+    pub fn set_clock(&mut self, time: u64)
+        ensures { self.new ≡ record self.old { clock = time } }
+    {
+        self.clock = time;
+    }
+
+    /// The events that wait to be delivered, the next one first.
+    pub fn queue(&self) -> &Queue
+        ensures { result.now.present ≡ self.now.queue }
+    {
+        &self.queue
+    }
+
+    /// Puts an event into its place. Where memory is refused, it hands the event back.
+    pub fn put_event(&mut self, place: Place, event: Event) -> Result<(), AllocFailed<Event>>
+        ensures ok { OnOk result (self.new ≡ record self.old { queue = put place event self.old.queue }) }
+        ensures err { OnErr result (self.new ≡ self.old) }
+        ensures handed_back { IfErr result (λ refused. refused.value ≡ event) }
+    {
+        self.queue.put(place, event)
+    }
+
+    /// Takes out the first event.
+    pub fn take_event(&mut self) -> Result<Option<Event>, AllocError>
+        ensures value { IfOk result (λ event. event ≡ first self.old.queue) }
+        ensures ok { OnOk result (self.new ≡ record self.old { queue = without_first self.old.queue }) }
+        ensures err { OnErr result (self.new ≡ self.old) }
+    {
+        self.queue.take()
+    }
+
+    /// The scripts that wait to be run.
+    pub fn timers(&self) -> &Timers
+        ensures { result.now.present ≡ self.now.timers }
+    {
+        &self.timers
+    }
+
+    /// Keeps a script that is due at a time. It answers the script's id.
+    pub fn keep_timer(&mut self, due: u64, script: Txt) -> Result<u64, AfterFault>
+        ensures id { IfOk result (λ id. id ≡ self.old.timers.next) }
+        ensures ok { OnOk result (self.new ≡ record self.old { timers = after.with_timer due script self.old.timers }) }
+        ensures full { (result ≡ Err AfterFault.OutOfNumbers) ↔ (2 ^ 62 ≤ self.old.timers.next) }
+        ensures err { OnErr result (self.new ≡ self.old) }
+    {
+        self.timers.after(due, script)
+    }
+
+    /// Keeps a script that runs when nothing else is to be done. It answers the script's id.
+    pub fn keep_idle(&mut self, script: Txt) -> Result<u64, AfterFault>
+        ensures id { IfOk result (λ id. id ≡ self.old.timers.next) }
+        ensures ok { OnOk result (self.new ≡ record self.old { timers = after.with_idle script self.old.timers }) }
+        ensures full { (result ≡ Err AfterFault.OutOfNumbers) ↔ (2 ^ 62 ≤ self.old.timers.next) }
+        ensures err { OnErr result (self.new ≡ self.old) }
+    {
+        self.timers.idle(script)
+    }
+
+    /// Takes out the script of an id; where there is none, nothing is done.
+    pub fn cancel(&mut self, id: u64)
+        ensures { self.new ≡ record self.old { timers = after.without id self.old.timers } }
+    {
+        self.timers.cancel(id);
+    }
+
+    /// Takes out the script with the least id of those that are equal to this one; where there is none, nothing is done.
+    pub fn cancel_script(&mut self, script: &Txt)
+        ensures { self.new ≡ record self.old { timers = after.without_found (with_script script.now self.old.timers) self.old.timers } }
+    {
+        self.timers.cancel_script(script);
+    }
+
+    /// Takes out the script of an id, to be run.
+    pub fn take_script(&mut self, id: u64) -> Result<Option<Txt>, AllocError>
+        ensures value { IfOk result (λ script. script ≡ script_in (kept_under id self.old.timers)) }
+        ensures ok { OnOk result (self.new ≡ record self.old { timers = after.without id self.old.timers }) }
+        ensures err { OnErr result (self.new ≡ self.old) }
+    {
+        self.timers.take(id)
+    }
+
+    /// The window that has the focus.
+    pub fn focus(&self) -> WindowId
+        ensures { result ≡ self.now.focus }
+    {
+        self.focus
+    }
+
+    /// Gives a window the focus.
+    pub fn set_focus(&mut self, window: WindowId)
+        ensures { self.new ≡ record self.old { focus = window } }
+    {
+        self.focus = window;
+    }
+
+    /// What is held down.
+    pub fn held(&self) -> Held
+        ensures { result ≡ self.now.held }
+    {
+        self.held
+    }
+
+    /// Says what is held down.
+    pub fn set_held(&mut self, held: Held)
+        ensures { self.new ≡ record self.old { held = held } }
+    {
+        self.held = held;
+    }
+
+    /// The window that took the last press, if it is there.
+    pub fn pressed(&self) -> Option<WindowId>
+        ensures { result ≡ self.now.pressed }
+    {
+        self.pressed
+    }
+
+    /// Says which window took the last press.
+    pub fn set_pressed(&mut self, window: Option<WindowId>)
+        ensures { self.new ≡ record self.old { pressed = window } }
+    {
+        self.pressed = window;
+    }
+
+    /// Takes away what is of windows that are not there.
+    pub fn drop_lost(&mut self, tree: &Tree)
+        ensures { self.new ≡ left tree.now.windows self.old }
+    {
+        drop_events(&mut self.queue, tree);
+        self.focus = left_focus(tree, self.focus);
+        self.pressed = left_pressed(tree, self.pressed);
+    }
+
+    /// The same, with no mark.
+    pub fn try_clone(&self) -> Result<EventLoop, AllocError>
+        ensures { IfOk result (λ x. x ≡ self.now) }
+    {
+        Ok(EventLoop {
+            clock: self.clock,
+            queue: self.queue.try_clone()?,
+            timers: self.timers.try_clone()?,
+            focus: self.focus,
+            held: self.held,
+            pressed: self.pressed,
+        })
+    }
+}
+
+/// Whether the window of a number is there.
+pub fn is_there(tree: &Tree, window: WindowId) -> bool
+    ensures { result ≡ is_there tree.now.windows window }
+{
+    tree.window(window).is_some()
+}
+
+// The window, where it is there, or else `.`.
+fn left_focus(tree: &Tree, window: WindowId) -> WindowId
+    ensures { result ≡ left_focus tree.now.windows window }
+{
+    if is_there(tree, window) {
+        window
+    } else {
+        WindowId::root()
+    }
+}
+
+/// The window, where it is there.
+pub fn left_pressed(tree: &Tree, window: Option<WindowId>) -> Option<WindowId>
+    ensures { result ≡ left_pressed tree.now.windows window }
+{
+    match window {
+        Some(window) if is_there(tree, window) => Some(window),
+        _ => None,
+    }
+}
+
+// Whether an event stays: its window is there.
+fn is_for(tree: &Tree, queued: &Queued) -> bool
+    ensures { result ≡ is_for tree.now.windows queued.now }
+{
+    is_there(tree, WindowId::of(queued.event.window))
+}
+
+// The index of the first event that doesn't stay, or the end.
+fn first_lost(queue: &Queue, tree: &Tree) -> usize
+    ensures { result ≡ first_lost (is_for tree.now.windows) queue.now.present }
+{
+    let len = queue.len();
+    let mut left = len;
+    for queued in queue.events() {
+        if !is_for(tree, queued) {
+            return len - left;
+        }
+        left -= 1;
+    }
+    len
+}
+
+// Takes out the events of windows that are not there.
+fn drop_events(queue: &mut Queue, tree: &Tree)
+    ensures { queue.new ≡ record queue.old { present = left_queue tree.now.windows queue.old.present } }
+{
+    let mut index = first_lost(queue, tree);
+    while index < queue.len() {
+        queue.remove(index);
+        index = first_lost(queue, tree);
+    }
+}

@@ -1,0 +1,20 @@
+use Rattle.std.proofs.Common.{◌≤◌, length, sym, subst, ◌∙◌, arith}
+use Rattle.std.specs.Prelude.{IfErr}
+use Rattle.tks_app.specs.Applications.{Application}
+use Rattle.tks_cmd.proofs.Results.{err_is}
+use Rattle.tks_world.specs.Scripts.{script_step}
+use Rattle.tks_world.specs.Meets.{RefusedSo}
+use Rattle.tks_world.proofs.Stepping.{runs}
+use Rattle.tks_world.proofs.scripts.step_script.Goals as goal
+
+pub returns-in_err-reply-clause-refused : goal.returns-in_err-reply-clause-refused
+returns-in_err-reply-clause-refused g c =
+    let w = c.args.world.now in
+    let app : Application = record { names = c.args.apps.now; meaning = g.T.AppMeaning.meaning } in
+    let text = c.args.text.now in
+    let limits = c.args.limits.now in
+    let short : length text ≤ limits.text = omega (arith, c.if-len-limits.false, c.len.ensures) in
+    let whole = runs app w text limits _ _ _ short c.in_ok-script.ensures.script c.in_ok-host.ensures.0 c.in_ok-host.ensures.1 in
+    let why = c.in_err-reply.field-0.0 in
+    let is = err_is c.from_residual-in_err-reply.result why c.from_residual-in_err-reply.ensures.1 in
+    subst (λ r. IfErr r (λ e. RefusedSo e (script_step app w text limits))) (sym is) (subst (RefusedSo why) (sym whole) c.in_err-reply.ensures)

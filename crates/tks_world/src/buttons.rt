@@ -1,0 +1,213 @@
+//! Buttons that go down and up over cells of the grid.
+ghost use Rattle.std.specs.Prelude.{◌≡◌, ◌==◌, option_copied, IfOk, IfErr, OnErr};
+ghost use Rattle.std.specs.List.{find};
+ghost use Rattle.tks_world.specs.Meets.{RefusedSo};
+ghost use Rattle.tks_world.specs.Stepped.{Accepts};
+ghost use Rattle.tks_world.specs.Buttons.{is_button_number, on_grid, target_placed, target_at, target_of, release_target, button_event, press_gesture, release_gesture, press_step, release_step};
+
+use crate::gestures::{Gesture, accept_gesture};
+use std::alloc::{AllocError, Global};
+use tks_event::{Event, Kind};
+use tks_input::{Refused, Reply};
+use tks_state::{Placed, World};
+use tks_text::{Limits, Txt, decimal_of};
+use tks_tree::WindowId;
+
+/// The window that an event of a button goes to.
+#[derive(Clone, Copy)]
+pub struct Target {
+    pub window: WindowId,
+    /// The column of its top left cell on the grid; 0 where it is not shown.
+    pub column: u32,
+    /// The row of that cell.
+    pub row: u32,
+}
+
+// Whether there is a button of a number.
+fn is_button_number(button: u8) -> bool
+    ensures { result ≡ is_button_number button }
+{
+    (1..=5).contains(&button)
+}
+
+// Whether there is a cell in a column and a row.
+fn is_on_grid(world: &World, x: u16, y: u16) -> bool
+    ensures { result ≡ on_grid world.now x y }
+{
+    let grid = world.grid();
+    x < grid.width() && y < grid.height()
+}
+
+// A window with its top left cell, which counts as that of the grid where it is not shown.
+fn target_placed(window: WindowId, placed: Option<Placed>) -> Target
+    ensures { result ≡ target_placed window placed }
+{
+    match placed {
+        Some(placed) => Target {
+            window,
+            column: placed.area.x,
+            row: placed.area.y,
+        },
+        None => Target {
+            window,
+            column: 0,
+            row: 0,
+        },
+    }
+}
+
+// The window that is seen in a cell; `.` has those that no other has.
+fn target_at(world: &World, x: u16, y: u16) -> Result<Target, AllocError>
+    ensures { IfOk result (λ t. t ≡ target_at world.now x y) }
+{
+    match world.topmost(u32::from(x), u32::from(y))? {
+        Some(placed) => Ok(target_placed(placed.window, Some(placed))),
+        None => Ok(target_placed(WindowId::root(), None)),
+    }
+}
+
+// Where a window lies, if it is one of those that are shown.
+fn placed(shown: &[Placed], window: WindowId) -> Option<Placed>
+    ensures { result ≡ find (λ p. p.window == window) shown.now }
+{
+    for placed in shown {
+        if placed.window.number() == window.number() {
+            return Some(*placed);
+        }
+    }
+    None
+}
+
+// The window of a number.
+fn target_of(world: &World, window: WindowId) -> Result<Target, AllocError>
+    ensures { IfOk result (λ t. t ≡ target_of world.now window) }
+{
+    let shown = world.shown_windows()?;
+    Ok(target_placed(window, placed(&shown, window)))
+}
+
+// The window that a release goes to.
+fn release_target(world: &World, x: u16, y: u16) -> Result<Target, AllocError>
+    ensures { IfOk result (λ t. t ≡ release_target world.now x y) }
+{
+    match world.pressed() {
+        Some(window) => {
+            let target = target_of(world, window)?;
+            Ok(target)
+        }
+        None => {
+            let target = target_at(world, x, y)?;
+            Ok(target)
+        }
+    }
+}
+
+// The event of a button.
+fn button_event(
+    alloc: Global,
+    world: &World,
+    kind: Kind,
+    button: u8,
+    x: u16,
+    y: u16,
+    target: &Target,
+) -> Result<Event, AllocError>
+    ensures { IfOk result (λ e. e ≡ button_event kind button x y target.now world.now) }
+{
+    Ok(Event {
+        window: target.window.number(),
+        kind,
+        detail: decimal_of(alloc, i64::from(button))?,
+        state: world.held().state(),
+        time: world.clock(),
+        x: i64::from(x) - i64::from(target.column),
+        y: i64::from(y) - i64::from(target.row),
+        root_x: i64::from(x),
+        root_y: i64::from(y),
+        payload: Txt::new(alloc),
+    })
+}
+
+// A button goes down over a cell. The window that is seen there takes the press.
+fn press_gesture(
+    alloc: Global,
+    world: &World,
+    button: u8,
+    x: u16,
+    y: u16,
+) -> Result<Gesture, AllocError>
+    ensures { IfOk result (λ g. g ≡ press_gesture button x y (target_at world.now x y) world.now) }
+{
+    let target = target_at(world, x, y)?;
+    let event = button_event(alloc, world, Kind::ButtonPress, button, x, y, &target)?;
+    let mut held = world.held();
+    held.set_button(button, true);
+    Ok(Gesture {
+        event,
+        held,
+        took: Some(target.window),
+    })
+}
+
+// A button goes up over a cell.
+fn release_gesture(
+    alloc: Global,
+    world: &World,
+    button: u8,
+    x: u16,
+    y: u16,
+) -> Result<Gesture, AllocError>
+    ensures { IfOk result (λ g. g ≡ release_gesture button x y (release_target world.now x y) world.now) }
+{
+    let target = release_target(world, x, y)?;
+    let event = button_event(alloc, world, Kind::ButtonRelease, button, x, y, &target)?;
+    let mut held = world.held();
+    held.set_button(button, false);
+    Ok(Gesture {
+        event,
+        held,
+        took: None,
+    })
+}
+
+/// A button goes down over a cell. The window that is seen there takes the press.
+pub fn press_button(
+    alloc: Global,
+    world: &mut World,
+    button: u8,
+    x: u16,
+    y: u16,
+    limits: &Limits,
+) -> Result<Reply, Refused>
+    ensures accepted { IfOk result (λ reply. press_step limits.now button x y world.old ≡ Accepts world.new reply) }
+    ensures refused { IfErr result (λ why. RefusedSo why (press_step limits.now button x y world.old)) }
+    ensures unchanged { OnErr result (world.new ≡ world.old) }
+{
+    if !is_button_number(button) || !is_on_grid(world, x, y) {
+        return Err(Refused::BadInput);
+    }
+    let gesture = press_gesture(alloc, world, button, x, y)?;
+    let reply = accept_gesture(alloc, world, gesture, limits)?;
+    Ok(reply)
+}
+
+/// A button goes up over a cell. The release goes to the window that took the last press, if it is there.
+pub fn release_button(
+    alloc: Global,
+    world: &mut World,
+    button: u8,
+    x: u16,
+    y: u16,
+    limits: &Limits,
+) -> Result<Reply, Refused>
+    ensures accepted { IfOk result (λ reply. release_step limits.now button x y world.old ≡ Accepts world.new reply) }
+    ensures refused { IfErr result (λ why. RefusedSo why (release_step limits.now button x y world.old)) }
+    ensures unchanged { OnErr result (world.new ≡ world.old) }
+{
+    if !is_button_number(button) || !is_on_grid(world, x, y) {
+        return Err(Refused::BadInput);
+    }
+    let gesture = release_gesture(alloc, world, button, x, y)?;
+    let reply = accept_gesture(alloc, world, gesture, limits)?;
+    Ok(reply)
+}

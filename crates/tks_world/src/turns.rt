@@ -1,0 +1,141 @@
+//! A turn: one thing that waits is done.
+ghost use Rattle.std.specs.Prelude.{◌≡◌, IfOk, IfErr, OnErr};
+ghost use Rattle.tks_eval.specs.Meets.{EndsSo};
+ghost use Rattle.tks_world.specs.Stepped.{Accepts};
+ghost use Rattle.tks_world.specs.Turns.{script_runs, event_runs, thing_does, finished, turn_does, turn_step};
+ghost use Rattle.tks_world.specs.Meets.{RefusedSo, ReachesSo};
+
+use crate::host::WorldHost;
+use crate::refusal::refused_by;
+use crate::scripts::{conclude, lend, run_script};
+use crate::telling::told;
+use crate::things::{Thing, is_quiet, take_thing};
+use std::alloc::Global;
+use tks_app::{AppBody, AppMeaning, Apps};
+use tks_cmd::begin;
+use tks_eval::{Ended, Host, eval_plan};
+use tks_event::Event;
+use tks_input::{Refused, Reply};
+use tks_parse::parse;
+use tks_state::World;
+use tks_tcl::Stop;
+use tks_text::{Limits, Txt};
+use tks_vars::Vars;
+
+// Runs a script that was kept for later. Its error joins the faults.
+fn run_later<T: AppMeaning, B: AppBody>(
+    alloc: Global,
+    host: &mut WorldHost<T, B>,
+    variables: &mut Vars,
+    script: &Txt,
+    limits: &Limits,
+) -> Result<Ended, Stop>
+    ensures { EndsSo (script_runs T.meaning limits.now script.now host.old variables.old) result host.new variables.new }
+{
+    let script = parse(alloc, script)?;
+    let ended = run_script(alloc, host, variables, script, limits)?;
+    if ended.code != 0 {
+        host.fault(&ended.text)?;
+    }
+    Ok(Ended {
+        code: 0,
+        text: Txt::new(alloc),
+        fuel: ended.fuel,
+    })
+}
+
+// Delivers an event, and runs its scripts.
+fn run_event<T: AppMeaning, B: AppBody>(
+    alloc: Global,
+    host: &mut WorldHost<T, B>,
+    variables: &mut Vars,
+    event: Event,
+    limits: &Limits,
+) -> Result<Ended, Stop>
+    ensures { EndsSo (event_runs T.meaning limits.now event host.old variables.old) result host.new variables.new }
+{
+    let plan = begin(alloc, &mut host.world, event, limits)?;
+    let ended = eval_plan(alloc, host, variables, plan, limits)?;
+    Ok(ended)
+}
+
+// Does one thing.
+fn run_thing<T: AppMeaning, B: AppBody>(
+    alloc: Global,
+    host: &mut WorldHost<T, B>,
+    variables: &mut Vars,
+    thing: Thing,
+    limits: &Limits,
+) -> Result<Ended, Stop>
+    ensures { EndsSo (thing_does T.meaning limits.now thing host.old variables.old) result host.new variables.new }
+{
+    match thing {
+        Thing::Event(event) => {
+            let ended = run_event(alloc, host, variables, event, limits)?;
+            Ok(ended)
+        }
+        Thing::Timer(_, script) | Thing::Idle(_, script) => {
+            let ended = run_later(alloc, host, variables, &script, limits)?;
+            Ok(ended)
+        }
+    }
+}
+
+// Does one thing, and tells of it what is to be told.
+fn finish<T: AppMeaning, B: AppBody>(
+    alloc: Global,
+    host: &mut WorldHost<T, B>,
+    variables: Vars,
+    thing: Thing,
+    text: Txt,
+    limits: &Limits,
+) -> Result<Reply, Refused>
+    ensures { ReachesSo (finished text (thing_does T.meaning limits.now thing host.old variables)) result host.new.world }
+{
+    let mut variables = variables;
+    match run_thing(alloc, host, &mut variables, thing, limits) {
+        Ok(_) => {
+            let reply = conclude(host, variables, 0, text)?;
+            Ok(reply)
+        }
+        Err(stop) => Err(refused_by(stop)),
+    }
+}
+
+// Takes out what is done next, and does it, in the world that is lent.
+#[tactic(auto, using(crate::proofs::Stepping::does_next))]
+fn turn_lent<T: AppMeaning, B: AppBody>(
+    alloc: Global,
+    host: &mut WorldHost<T, B>,
+    variables: Vars,
+    limits: &Limits,
+) -> Result<Reply, Refused>
+    ensures { ReachesSo (turn_does T.meaning limits.now host.old variables) result host.new.world }
+{
+    let Some(thing) = take_thing(&mut host.world)? else {
+        return Err(Refused::Quiet);
+    };
+    let text = told(alloc, &host.world, &thing)?;
+    finish(alloc, host, variables, thing, text, limits)
+}
+
+/// Does what comes next, in a copy of the world.
+pub fn step_turn<T: AppMeaning, B: AppBody>(
+    alloc: Global,
+    world: &mut World,
+    apps: &Apps<T, B>,
+    limits: &Limits,
+) -> Result<Reply, Refused>
+    ensures accepted { IfOk result (λ reply. turn_step (record { names = apps.now; meaning = T.meaning }) limits.now world.old ≡ Accepts world.new reply) }
+    ensures refused { IfErr result (λ why. RefusedSo why (turn_step (record { names = apps.now; meaning = T.meaning }) limits.now world.old)) }
+    ensures unchanged { OnErr result (world.new ≡ world.old) }
+{
+    if is_quiet(world) {
+        return Err(Refused::Quiet);
+    }
+    let (host, variables) = lend(alloc, world, apps, limits)?;
+    let mut host = host;
+    let reply = turn_lent(alloc, &mut host, variables, limits)?;
+    *world = host.world;
+    Ok(reply)
+}
