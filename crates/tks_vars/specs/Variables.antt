@@ -38,6 +38,10 @@ variables_code =
     (coded× (map_code content.the_row.coded) (coded× (coded_list (coded_option (map_code local.the_row.coded))) (map_code procedure.the_row.coded)))
     (λ v. (v.globals, (v.locals, v.procedures))) (λ c. record { globals = c.0; locals = c.1.0; procedures = c.1.1 }) (λ _. refl)
 
+-- these globals and procedures, where no frame was begun
+abbrev pub at_global_level : Map Content → Map Procedure → Variables
+at_global_level globals procedures = record { globals = globals; locals = []; procedures = procedures }
+
 abbrev pub no_variables : Variables
 no_variables = record { globals = map.empty; locals = []; procedures = map.empty }
 

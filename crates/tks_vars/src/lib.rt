@@ -9,6 +9,8 @@ mod table;
 mod vars;
 mod writing;
 
+pub use content::Content;
 pub use name::names_whole;
 pub use procedure::{Argument, Parameter, Procedure};
+pub use table::Table;
 pub use vars::Vars;

@@ -1,12 +1,16 @@
 ghost use Rattle.std.specs.Prelude.{◌≡◌, IfOk, OnOk, OnErr, option_copied};
+ghost use Rattle.std.specs.Prelude as list;
 ghost use Rattle.std.specs.Option.{option_copied_mut};
 ghost use Rattle.std.specs.FinMap as map;
 ghost use Rattle.std.specs.Borrow.{sem};
+ghost use Rattle.tks_vars.specs.Table.{pair_of};
 
 use crate::clones::CloneIn;
 use std::alloc::{AllocError, Global};
 use std::collections::BTreeMap;
+use std::collections::btree_map::Iter;
 use std::marker::Model;
+use tks_text::Txt;
 
 /// A finite map from names to values, in the order of the names' bytes.
 #[derive(Drop)]
@@ -40,6 +44,25 @@ impl<V: Drop> Table<V> {
             alloc,
             entries: BTreeMap::new(alloc),
         }
+    }
+
+    /// The map of these names and values. Of two with one name the first stays.
+    pub fn restore(alloc: Global, entries: Vec<(Txt, V)>) -> Result<Table<V>, AllocError>
+        ensures { IfOk result (λ t. t ≡ map.from_entries entries.items) }
+    {
+        let mut table = Table::new(alloc);
+        let mut entries = entries;
+        while let Some((name, value)) = entries.pop() {
+            table.insert(name.as_bytes(), value)?;
+        }
+        Ok(table)
+    }
+
+    /// The names with what is under each, in the order of the names' bytes.
+    pub fn iter(&self) -> Iter<'_, Vec<u8>, V>
+        ensures { list.map pair_of result ≡ map.entries self.now }
+    {
+        self.entries.iter()
     }
 
     /// How many names there are.

@@ -2,7 +2,7 @@ ghost use Rattle.std.specs.Prelude.{◌≡◌, length, reverse, false, IfOk, OnO
 ghost use Rattle.std.specs.FinMap as map;
 ghost use Rattle.tks_text.specs.Fault.{Gives};
 ghost use Rattle.tks_vars.specs.Meets.{AnswersSo};
-ghost use Rattle.tks_vars.specs.Variables.{no_variables, innermost, content_of, is_global, value_at, value_of, with_value, global_value_at, global_value_of, with_global_value, without_at, without, exists, linked, pushed, pushed_global, frame_of, pushed_with, frame_size, popped, with_procedure, size_in, grown_by_value, grown_by_global_value, grown_by_link};
+ghost use Rattle.tks_vars.specs.Variables.{no_variables, at_global_level, innermost, content_of, is_global, value_at, value_of, with_value, global_value_at, global_value_of, with_global_value, without_at, without, exists, linked, pushed, pushed_global, frame_of, pushed_with, frame_size, popped, with_procedure, size_in, grown_by_value, grown_by_global_value, grown_by_link};
 
 use crate::clones::CloneIn;
 use crate::content::{Content, Local};
@@ -56,6 +56,32 @@ impl Vars {
             locals: Vec::new(alloc),
             procedures: Table::new(alloc),
         }
+    }
+
+    /// These globals and procedures, at global level.
+    pub fn restore(alloc: Global, globals: Table<Content>, procedures: Table<Procedure>) -> Vars
+        ensures { result ≡ at_global_level globals procedures }
+    {
+        Vars {
+            alloc,
+            globals,
+            locals: Vec::new(alloc),
+            procedures,
+        }
+    }
+
+    /// The globals.
+    pub fn globals(&self) -> &Table<Content>
+        ensures { result.now ≡ self.now.globals }
+    {
+        &self.globals
+    }
+
+    /// The procedures with their names.
+    pub fn named_procedures(&self) -> &Table<Procedure>
+        ensures { result.now ≡ self.now.procedures }
+    {
+        &self.procedures
     }
 
     /// How many frames were begun and not ended.

@@ -1,0 +1,124 @@
+//! Variables that are set, as bytes, and read again.
+use std::alloc::Global;
+use tks_codec_variables::{has_spelling, put_variables, variables_of};
+use tks_text::{Seq, Txt};
+use tks_vars::{Parameter, Procedure, Vars};
+
+// An array `a` with the elements `k`, `v`, and `l`, empty; a scalar `x`, 5; a procedure `p` with a parameter `a`, a
+// parameter `b`, by default 1, and the body `set a`.
+const BYTES: &[u8] =
+    b"\x00\x00\x00\x02\x00\x00\x00\x01a\x01\x00\x00\x00\x02\x00\x00\x00\x01k\x00\x00\x00\x01v\x00\x00\x00\x01l\x00\x00\x00\x00\x00\x00\x00\x01x\x00\x00\x00\x00\x015\x00\x00\x00\x01\x00\x00\x00\x01p\x00\x00\x00\x02\x00\x00\x00\x01a\x00\x00\x00\x00\x01b\x01\x00\x00\x00\x011\x00\x00\x00\x05set a";
+
+// Nothing at all.
+const NOTHING: &[u8] = b"\x00\x00\x00\x00\x00\x00\x00\x00";
+
+// A text.
+fn text(alloc: Global, bytes: &[u8]) -> Option<Txt> {
+    Txt::from_bytes(alloc, bytes).ok()
+}
+
+// The procedure.
+fn procedure(alloc: Global) -> Option<Procedure> {
+    let mut params = Seq::new(alloc);
+    params
+        .push(Parameter {
+            name: text(alloc, b"a")?,
+            default: None,
+        })
+        .ok()?;
+    params
+        .push(Parameter {
+            name: text(alloc, b"b")?,
+            default: Some(text(alloc, b"1")?),
+        })
+        .ok()?;
+    Some(Procedure {
+        params,
+        body: text(alloc, b"set a")?,
+    })
+}
+
+// The variables and the procedure, set out of order.
+fn variables(alloc: Global) -> Option<Vars> {
+    let mut vars = Vars::new(alloc);
+    vars.set(&text(alloc, b"x")?, &text(alloc, b"5")?).ok()?;
+    vars.set(&text(alloc, b"a(l)")?, &text(alloc, b"")?).ok()?;
+    vars.set(&text(alloc, b"a(k)")?, &text(alloc, b"v")?).ok()?;
+    vars.set_procedure(&text(alloc, b"p")?, procedure(alloc)?)
+        .ok()?;
+    Some(vars)
+}
+
+// Variables as bytes.
+fn spelled(alloc: Global, vars: &Vars) -> Option<Vec<u8>> {
+    if !has_spelling(vars) {
+        return None;
+    }
+    let mut out = Vec::new(alloc);
+    put_variables(&mut out, vars).ok()?;
+    Some(out)
+}
+
+// What is read, as bytes again.
+fn again(alloc: Global, bytes: &[u8]) -> Option<Vec<u8>> {
+    let (vars, rest) = variables_of(alloc, bytes).ok()?;
+    if !rest.is_empty() {
+        return None;
+    }
+    spelled(alloc, &vars)
+}
+
+// Whether bytes came of it, just these.
+fn is(spelled: Option<Vec<u8>>, bytes: &[u8]) -> bool {
+    match spelled {
+        Some(spelled) => spelled.as_slice() == bytes,
+        None => false,
+    }
+}
+
+// Whether variables that are set come to these bytes.
+fn set_is(alloc: Global, bytes: &[u8]) -> bool {
+    match variables(alloc) {
+        Some(vars) => is(spelled(alloc, &vars), bytes),
+        None => false,
+    }
+}
+
+// Whether variables have no spelling while a frame is begun, and one once it has ended.
+fn frames_have_none(alloc: Global) -> bool {
+    let mut vars = Vars::new(alloc);
+    if vars.push_frame().is_err() || has_spelling(&vars) {
+        return false;
+    }
+    vars.pop_frame();
+    has_spelling(&vars)
+}
+
+// The value of an element that was read.
+fn element(alloc: Global) -> Option<Txt> {
+    let (vars, _) = variables_of(alloc, BYTES).ok()?;
+    let value = vars.get(&text(alloc, b"a(k)")?).ok()?;
+    value.try_clone().ok()
+}
+
+// Whether that is `v`.
+fn element_is_v(alloc: Global) -> bool {
+    match element(alloc) {
+        Some(value) => value.as_bytes() == b"v".as_slice(),
+        None => false,
+    }
+}
+
+#[test]
+fn set_and_written(rt: HostRuntime) {
+    assert!(rt; set_is(rt.alloc(), BYTES));
+    assert!(rt; is(spelled(rt.alloc(), &Vars::new(rt.alloc())), NOTHING));
+    assert!(rt; frames_have_none(rt.alloc()));
+}
+
+#[test]
+fn read_and_written(rt: HostRuntime) {
+    assert!(rt; is(again(rt.alloc(), BYTES), BYTES));
+    assert!(rt; is(again(rt.alloc(), NOTHING), NOTHING));
+    assert!(rt; element_is_v(rt.alloc()));
+}

@@ -1,0 +1,2 @@
+pub mod OfTables
+pub mod OfVariables

@@ -1,0 +1,4 @@
+pub mod Table
+pub mod Globals
+pub mod Procedures
+pub mod Variables

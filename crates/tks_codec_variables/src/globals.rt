@@ -1,0 +1,75 @@
+//! What stands under the names of globals: texts, scalars and arrays.
+ghost use Rattle.std.specs.Prelude.{◌≡◌};
+
+use crate::table::{Named, put_table, table_has_spelling, table_of};
+use std::alloc::{AllocError, Global};
+use tks_codec::Unread;
+use tks_codec::reading::{presence_of, text_of};
+use tks_codec::writing::{put_presence, put_text};
+use tks_text::Txt;
+use tks_vars::Content;
+
+impl Named for Txt {
+    ghost use Rattle.tks_codec.specs.Spelling.{text};
+    ghost use Rattle.tks_codec_variables.specs.Globals.{IsAny, IsShortText};
+
+    ghost spelling = { text };
+
+    ghost IsShort = { IsShortText };
+
+    ghost IsSound = { IsAny };
+
+    fn has_spelling(&self) -> bool {
+        self.len() < 1 << 32
+    }
+
+    fn read(alloc: Global, bytes: &[u8]) -> Result<(Txt, &[u8]), Unread> {
+        text_of(alloc, bytes)
+    }
+
+    fn put(&self, out: &mut Vec<u8>) -> Result<(), AllocError> {
+        put_text(out, self)
+    }
+}
+
+impl Named for Content {
+    ghost use Rattle.tks_codec_variables.specs.Globals.{content, IsShortContent, IsSoundContent};
+
+    ghost spelling = { content };
+
+    ghost IsShort = { IsShortContent };
+
+    ghost IsSound = { IsSoundContent };
+
+    fn has_spelling(&self) -> bool {
+        match self {
+            Content::Scalar(value) => value.has_spelling(),
+            Content::Array(elements) => table_has_spelling(elements),
+        }
+    }
+
+    #[tactic(auto, unfolding(crate::specs::Table::table_at))]
+    fn read(alloc: Global, bytes: &[u8]) -> Result<(Content, &[u8]), Unread> {
+        let (is_array, rest) = presence_of(bytes)?;
+        if is_array {
+            let (elements, rest) = table_of::<Txt>(alloc, rest)?;
+            return Ok((Content::Array(elements), rest));
+        }
+        let (value, rest) = text_of(alloc, rest)?;
+        Ok((Content::Scalar(value), rest))
+    }
+
+    #[tactic(auto, using(tks_codec::proofs::Puts::put_behind))]
+    fn put(&self, out: &mut Vec<u8>) -> Result<(), AllocError> {
+        match self {
+            Content::Scalar(value) => {
+                put_presence(out, false)?;
+                put_text(out, value)
+            }
+            Content::Array(elements) => {
+                put_presence(out, true)?;
+                put_table(out, elements)
+            }
+        }
+    }
+}

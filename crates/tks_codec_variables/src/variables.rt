@@ -1,0 +1,56 @@
+//! Variables and procedures.
+ghost use Rattle.std.specs.Prelude.{◌≡◌, ◌↔◌, true, OnOk};
+ghost use Rattle.tks_codec.specs.Reading.{Gives};
+ghost use Rattle.tks_codec.specs.Writing.{PutsSo, joined};
+ghost use Rattle.tks_codec_variables.specs.Variables as kinds;
+ghost use Rattle.tks_codec_variables.specs.Variables.{variables_at, variables_parts, AreShort, AreSound};
+
+use crate::table::{put_table, table_has_spelling, table_of};
+use std::alloc::{AllocError, Global};
+use tks_codec::Unread;
+use tks_vars::{Content, Procedure, Vars};
+
+/// Globals and procedures, at global level.
+#[tactic(auto, unfolding(crate::specs::Table::table_at, crate::specs::Variables::variables_at))]
+pub fn variables_of(alloc: Global, bytes: &[u8]) -> Result<(Vars, &[u8]), Unread>
+    ensures { Gives (λ x. (x.0, x.1.now)) result (variables_at bytes.now) }
+{
+    let (globals, rest) = table_of::<Content>(alloc, bytes)?;
+    let (procedures, rest) = table_of::<Procedure>(alloc, rest)?;
+    Ok((Vars::restore(alloc, globals, procedures), rest))
+}
+
+// Adds the parts of variables.
+#[tactic(auto, using(tks_codec::proofs::Puts::joined_puts))]
+fn put_parts(out: &mut Vec<u8>, variables: &Vars) -> Result<(), AllocError>
+    requires { AreShort variables.now }
+    ensures puts { PutsSo result out.old.items out.new.items (joined (variables_parts variables.now)) }
+    ensures legal { OnOk result (AreSound variables.now → kinds.variables.Legal variables.now) }
+{
+    put_table(out, variables.globals())?;
+    put_table(out, variables.named_procedures())
+}
+
+/// Adds the globals and the procedures. They are read back where no frame was begun and names are texts
+/// (`has_spelling`).
+#[tactic(auto, unfolding(tks_codec::specs::Writing::joined))]
+pub fn put_variables(out: &mut Vec<u8>, variables: &Vars) -> Result<(), AllocError>
+    requires { AreShort variables.now }
+    ensures puts { PutsSo result out.old.items out.new.items (kinds.variables.write variables.now) }
+    ensures legal { OnOk result (AreSound variables.now → kinds.variables.Legal variables.now) }
+{
+    put_parts(out, variables)
+}
+
+/// Whether variables and procedures have a spelling.
+pub fn has_spelling(variables: &Vars) -> bool
+    ensures { (result ≡ true) ↔ (AreShort variables.now × AreSound variables.now) }
+{
+    if variables.depth() != 0 {
+        return false;
+    }
+    if !table_has_spelling(variables.globals()) {
+        return false;
+    }
+    table_has_spelling(variables.named_procedures())
+}
