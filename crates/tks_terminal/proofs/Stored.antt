@@ -13,6 +13,6 @@ pub stored_first : (h : Header) (grid : Extent) (names : List (List ℕ)) (bytes
     → stored h bytes ≡ Some (first_world grid names)
 stored_first h grid names bytes short is same_grid same =
     let whole : (are_short names && same_text (first_bytes names) (first_bytes names)) ≡ true =
-        and_from (are_short names) (same_text (first_bytes names) (first_bytes names)) short ((bytes_decides (first_bytes names) (first_bytes names)).1 refl) in
+    and_from (are_short names) (same_text (first_bytes names) (first_bytes names)) short ((bytes_decides (first_bytes names) (first_bytes names)).1 refl) in
     (λ i. if are_short (same i) && same_text (is i) (first_bytes (same i)) then Some (first_world (same_grid i) (same i)) else None)
     ∙ ap (λ (b : Bool). if b then Some (first_world grid names) else None) whole
