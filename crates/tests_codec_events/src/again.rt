@@ -3,8 +3,8 @@
 use std::alloc::Global;
 use tks_codec_events::{
     Member, all_have_spellings, bindings_of, event_of, held_of, history_of, items_have_spellings,
-    put_bindings, put_event, put_held, put_history, put_queue, put_sequence, put_virtuals,
-    put_waiting, queue_of, sequence_of, virtuals_of, waiting_of,
+    memories_of, put_bindings, put_event, put_held, put_history, put_memories, put_queue,
+    put_sequence, put_virtuals, put_waiting, queue_of, sequence_of, virtuals_of, waiting_of,
 };
 
 // What was written, and the bytes behind what was read.
@@ -114,5 +114,18 @@ pub fn held_again(alloc: Global, bytes: &[u8]) -> Option<Vec<u8>> {
         return None;
     };
     put_held(&mut out, &held).ok()?;
+    with_rest(out, rest)
+}
+
+/// Memories.
+pub fn memories_again(alloc: Global, bytes: &[u8]) -> Option<Vec<u8>> {
+    let mut out = Vec::new(alloc);
+    let Ok((memories, rest)) = memories_of(alloc, bytes) else {
+        return None;
+    };
+    if memories.all().len() >= 1 << 32 || !all_have_spellings(memories.all()) {
+        return None;
+    }
+    put_memories(&mut out, &memories).ok()?;
     with_rest(out, rest)
 }

@@ -1,6 +1,6 @@
 use crate::again::{
-    bindings_again, event_again, held_again, history_again, queue_again, sequence_again,
-    virtuals_again, waiting_again,
+    bindings_again, event_again, held_again, history_again, memories_again, queue_again,
+    sequence_again, virtuals_again, waiting_again,
 };
 use std::alloc::Global;
 use tks_codec_events::{Member, put_sequence};
@@ -326,4 +326,33 @@ fn written(alloc: Global, text: &[u8]) -> Option<Vec<u8>> {
 fn sequences_that_are_written(rt: HostRuntime) {
     assert!(rt; are(written(rt.alloc(), b"<Double-ButtonPress-1>"), SEQUENCE));
     assert!(rt; are(written(rt.alloc(), b"<<Copy>>"), NAME));
+}
+
+// `app.next` with the text `7`, and `app.swap` with none.
+const MEMORIES: &[u8] =
+    b"\x00\x00\x00\x02\x00\x00\x00\x08app.next\x00\x00\x00\x017\x00\x00\x00\x08app.swap\x00\x00\x00\x00";
+
+#[test]
+fn memories_rise(rt: HostRuntime) {
+    assert!(rt; are(memories_again(rt.alloc(), MEMORIES), MEMORIES));
+    assert!(rt;
+        are(
+            memories_again(rt.alloc(), b"\x00\x00\x00\x00"),
+            b"\x00\x00\x00\x00"
+        )
+    );
+    assert!(rt;
+        memories_again(
+            rt.alloc(),
+            b"\x00\x00\x00\x02\x00\x00\x00\x01b\x00\x00\x00\x00\x00\x00\x00\x01a\x00\x00\x00\x00"
+        )
+        .is_none()
+    );
+    assert!(rt;
+        memories_again(
+            rt.alloc(),
+            b"\x00\x00\x00\x02\x00\x00\x00\x01a\x00\x00\x00\x00\x00\x00\x00\x01a\x00\x00\x00\x00"
+        )
+        .is_none()
+    );
 }

@@ -73,6 +73,13 @@ impl Memories {
         Ok(Memories { items })
     }
 
+    /// Memories with these names and texts, so that they are made again from what they had.
+    pub fn restore(items: Vec<Memory>) -> Memories
+        ensures { result ≡ items.items }
+    {
+        Memories { items }
+    }
+
     /// All of them, in the order of the names that they were made for.
     pub fn all(&self) -> &[Memory]
         ensures { result.now ≡ self.now }

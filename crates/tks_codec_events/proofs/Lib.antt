@@ -5,3 +5,4 @@ pub mod Differing
 pub mod Tables
 pub mod Waiting
 pub mod Holding
+pub mod Remembering

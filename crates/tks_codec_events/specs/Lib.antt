@@ -8,3 +8,4 @@ pub mod History
 pub mod Queue
 pub mod Timers
 pub mod Held
+pub mod Memories

@@ -9,6 +9,7 @@ mod history;
 mod kind;
 mod laws;
 mod member;
+mod memory;
 mod queue;
 mod sequence;
 mod timers;
@@ -24,6 +25,7 @@ pub use laws::{all_are_spelled, spellings_are_lawful};
 pub use member::{
     Member, all_have_spellings, is_short, items_have_spellings, list_of, put_items, put_list,
 };
+pub use memory::{are_memories, memories_of, put_memories};
 pub use queue::{put_queue, queue_of};
 pub use sequence::{put_sequence, sequence_of};
 pub use timers::{are_waiting, put_waiting, waiting_of};

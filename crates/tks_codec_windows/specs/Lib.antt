@@ -4,3 +4,4 @@ pub mod Packing
 pub mod Entry
 pub mod Listbox
 pub mod Lines
+pub mod Places

@@ -2,6 +2,8 @@ pub mod ByWindow
 mod Places
 mod Layouts
 mod Marks
-mod Children
+pub mod Children
 mod Linked
 mod Holding
+pub mod Restored
+pub mod Whole

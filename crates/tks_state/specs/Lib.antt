@@ -10,3 +10,4 @@ pub mod ByWindow
 pub mod Layout
 pub mod WellFormed
 pub mod Laws
+pub mod Restoring

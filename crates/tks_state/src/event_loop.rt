@@ -1,5 +1,6 @@
 //! What turns work on: the clock, what waits to be delivered or run, the focus, and what is held down.
-ghost use Rattle.std.specs.Prelude.{◌≡◌, ◌↔◌, ◌≤◌, ◌^◌, Err, is_some, IfOk, IfErr, OnOk, OnErr};
+ghost use Rattle.std.specs.Prelude.{◌≡◌, ◌↔◌, ◌≤◌, ◌^◌, ◌&&◌, Err, is_some, IfOk, IfErr, OnOk, OnErr};
+ghost use Rattle.std.specs.List.{list_all};
 ghost use Rattle.tks_queue.specs.EventQueue.{put, first, without_first};
 ghost use Rattle.tks_timer.specs.After as after;
 ghost use Rattle.tks_timer.specs.After.{script_in, kept_under, with_script};
@@ -10,6 +11,7 @@ ghost use Rattle.tks_state.specs.Lost.{first_lost};
 use std::alloc::{AllocError, AllocFailed, Global};
 use std::marker::Model;
 use tks_event::{Event, Held};
+use tks_mark::Items;
 use tks_queue::{Place, Queue, Queued};
 use tks_text::Txt;
 use tks_timer::{AfterFault, Timers};
@@ -47,6 +49,34 @@ impl EventLoop {
             held: Held::nothing(),
             pressed: None,
         }
+    }
+
+    /// The one with these parts.
+    pub fn restore(
+        clock: u64,
+        queue: Queue,
+        timers: Timers,
+        focus: WindowId,
+        held: Held,
+        pressed: Option<WindowId>,
+    ) -> EventLoop
+        ensures { result ≡ record { clock = clock; queue = queue.present; timers = timers.present; focus = focus; held = held; pressed = pressed } }
+    {
+        EventLoop {
+            clock,
+            queue,
+            timers,
+            focus,
+            held,
+            pressed,
+        }
+    }
+
+    /// Whether the focus and the events that wait are of windows that are there.
+    pub fn is_in(&self, tree: &Tree) -> bool
+        ensures { result ≡ (is_there tree.now.windows self.now.focus && list_all (is_for tree.now.windows) self.now.queue) }
+    {
+        is_there(tree, self.focus) && are_for(tree, self.queue.events())
     }
 
     /// The time, in milliseconds.
@@ -230,6 +260,18 @@ pub fn left_pressed(tree: &Tree, window: Option<WindowId>) -> Option<WindowId>
         Some(window) if is_there(tree, window) => Some(window),
         _ => None,
     }
+}
+
+// Whether the window of each event is there.
+fn are_for(tree: &Tree, events: Items<'_, Queued>) -> bool
+    ensures { result ≡ list_all (is_for tree.now.windows) events.entry }
+{
+    for queued in events {
+        if !is_for(tree, queued) {
+            return false;
+        }
+    }
+    true
 }
 
 // Whether an event stays: its window is there.

@@ -1,11 +1,11 @@
 //! What scripts bound to events rest on: the bindings, virtual events, the history, and the faults of such scripts.
-ghost use Rattle.std.specs.Prelude.{◌≡◌, ◌≢◌, ◌↔◌, ◌≤◌, ◌^◌, ◌-◌, [], Err, length, drop, option_copied, IfOk, IfErr, OnOk, OnErr};
+ghost use Rattle.std.specs.Prelude.{◌≡◌, ◌≢◌, ◌↔◌, ◌≤◌, ◌^◌, ◌-◌, [], Some, None, if◌then◌else◌, nat_le, Err, length, drop, option_copied, IfOk, IfErr, OnOk, OnErr};
 ghost use Rattle.tks_bind.specs.Binding.{bound};
 ghost use Rattle.tks_bind.specs.Choosing.{chosen};
 ghost use Rattle.tks_bind.specs.History as history;
 ghost use Rattle.tks_bind.specs.VirtualEvents.{added, deleted, deleted_sequence};
 ghost use Rattle.tks_tree.specs.Path.{begins_dot};
-ghost use Rattle.tks_state.specs.Events.{first_events, last_faults, with_fault, is_held, held, all_held};
+ghost use Rattle.tks_state.specs.Events.{max_faults, first_events, last_faults, with_fault, is_held, held, all_held};
 ghost use Rattle.tks_state.specs.Lost.{first_lost};
 ghost use Rattle.tks_state.specs.WellFormed.{WellFormedEvents};
 
@@ -58,6 +58,28 @@ impl Events {
         })
     }
 
+    /// Those with these parts; of faults there may be 32.
+    pub fn restore(
+        alloc: Global,
+        bindings: Bindings,
+        virtuals: Virtuals,
+        history: History,
+        faults: Vec<Txt>,
+    ) -> Option<Events>
+        ensures { result ≡ (if nat_le (length faults.items) max_faults then Some (record { bindings = bindings.present; virtuals = virtuals.present; history = history.present; faults = faults.items }) else None) }
+    {
+        if faults.len() > MAX_FAULTS {
+            return None;
+        }
+        Some(Events {
+            alloc,
+            bindings,
+            virtuals,
+            history,
+            faults,
+        })
+    }
+
     /// The bindings.
     pub fn bindings(&self) -> &Bindings
         ensures { result.now.present ≡ self.now.bindings }
@@ -89,6 +111,13 @@ impl Events {
         ensures err { OnErr result (self.new ≡ self.old) }
     {
         self.bindings.bind(tag, sequence, script)
+    }
+
+    /// The events that scripts were chosen for, the oldest first.
+    pub fn history(&self) -> &History
+        ensures { result.now.present ≡ self.now.history }
+    {
+        &self.history
     }
 
     /// The virtual events.

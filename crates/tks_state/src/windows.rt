@@ -1,5 +1,5 @@
 //! The windows: the tree of their numbers, paths and classes, and what is kept of each.
-ghost use Rattle.std.specs.Prelude.{◌≡◌, ◌==◌, position, option_map, IfOk, IfSome, OnErr, is_some, map};
+ghost use Rattle.std.specs.Prelude.{◌≡◌, ◌==◌, position, option_map, if◌then◌else◌, Some, None, IfOk, IfSome, OnErr, is_some, map};
 ghost use Rattle.tks_text.specs.Fault.{Gives};
 ghost use Rattle.tks_tree.specs.Windows.{of_number};
 ghost use Rattle.tks_tree.specs.Meets.{MakesSo, AnswersSo};
@@ -8,8 +8,10 @@ ghost use Rattle.tks_tree.specs.WellFormed.{Rises};
 ghost use Rattle.tks_state.specs.Widget.{class_of};
 ghost use Rattle.tks_state.specs.Windows.{kept_of, with_widget_at, with_tags_at, packed_at, forgotten_at, propagating, still_there, first_windows, created, destroyed, changed, tagged, packed, unpacked, with_propagation};
 ghost use Rattle.tks_state.specs.WellFormed.{WellFormedWindows, mark_of};
+ghost use Rattle.tks_state.specs.Restoring.{are_windows};
 
 use crate::kept::Kept;
+use crate::restoring::{all_pack_children, are_in_step};
 use crate::widget::Widget;
 use std::alloc::{AllocError, Global};
 use std::marker::Model;
@@ -167,6 +169,17 @@ impl Windows {
             tree: Tree::new(alloc)?,
             kept,
         })
+    }
+
+    /// Those with this tree, where this is what is kept of each of its windows.
+    pub fn restore(alloc: Global, tree: Tree, kept: Vec<Kept>) -> Option<Windows>
+        ensures { result ≡ (if are_windows (record { tree = tree; kept = kept.items }) then Some (record { tree = tree; kept = kept.items }) else None) }
+    {
+        if are_in_step(&tree, &kept) && all_pack_children(&tree, &kept) {
+            Some(Windows { alloc, tree, kept })
+        } else {
+            None
+        }
     }
 
     /// Their numbers, paths and classes.

@@ -6,6 +6,7 @@ ghost use Rattle.tks_tree.specs.WellFormed as trees;
 ghost use Rattle.tks_state.specs.Widget.{class_of};
 ghost use Rattle.tks_state.specs.Windows.{kept_of};
 ghost use Rattle.tks_state.specs.WellFormed.{WellFormed};
+ghost use Rattle.tks_state.specs.Restoring.{is_whole, restored};
 ghost use Rattle.tks_queue.specs.EventQueue.{first};
 ghost use Rattle.tks_timer.specs.After.{script_in, kept_under};
 ghost use Rattle.tks_state.specs.World.{with_virtual, without_virtual, without_virtual_sequence, with_clock, queued, without_event, with_timer, with_idle, without_id, without_script, focused, holding, pressed_in};
@@ -14,19 +15,23 @@ ghost use Rattle.tks_state.specs.World.{first_world, with_window, with_widget, u
 use crate::event_loop::{EventLoop, is_there, left_pressed};
 use crate::events::Events;
 use crate::kept::Kept;
+use crate::restoring::{WorldParts, kept_of_parts};
 use crate::widget::Widget;
 use crate::windows::Windows;
 use std::alloc::{AllocError, AllocFailed, Global};
 use std::marker::Model;
 use std::mem;
 use tks_app::Memories;
-use tks_bind::{BindFault, Binding, Bindings, Virtuals};
+use tks_bind::{BindFault, Binding, Bindings, History, Virtuals};
 use tks_event::{Event, Held, Sequence};
 use tks_queue::{Place, Queue};
 use tks_text::{Failure, ScriptFault, Seq, Size, Txt};
 use tks_timer::{AfterFault, Timers};
 use tks_tree::{CreateFault, Tree, WindowId};
 use tks_vars::Vars;
+
+/// No more inputs are accepted.
+const MAX_ACCEPTED: u64 = 1 << 62;
 
 /// What is kept between inputs.
 #[derive(Drop)]
@@ -71,6 +76,67 @@ impl World {
             memories: Memories::first(alloc, names)?,
             grid,
         })
+    }
+
+    /// The world of these parts, where there may be such a world: one of these is kept of each window, of its class; what is
+    /// packed in a window are distinct windows that stand right in it; no more inputs were accepted than may be, and no more
+    /// faults are kept; and the focus and the events that wait are of windows that are there.
+    #[tactic(auto, unfolding(crate::specs::Restoring::is_whole))]
+    pub fn restore(alloc: Global, parts: WorldParts) -> Result<Option<World>, AllocError>
+        ensures { IfOk result (λ world. world ≡ restored parts) }
+    {
+        let WorldParts {
+            accepted,
+            clock,
+            tree,
+            windows,
+            variables,
+            bindings,
+            virtuals,
+            history,
+            queue,
+            timers,
+            focus,
+            held,
+            pressed,
+            memories,
+            faults,
+            grid,
+        } = parts;
+        // What holds of all histories is asked for here.
+        let _ = history.events();
+        let kept = kept_of_parts(alloc, &tree, windows)?;
+        let event_loop = EventLoop::restore(clock, queue, timers, focus, held, pressed);
+        if accepted > MAX_ACCEPTED || !event_loop.is_in(&tree) {
+            return Ok(None);
+        }
+        let Some(windows) = Windows::restore(alloc, tree, kept) else {
+            return Ok(None);
+        };
+        let Some(events) = Events::restore(alloc, bindings, virtuals, history, faults.into_items())
+        else {
+            return Ok(None);
+        };
+        Ok(Some(World {
+            alloc,
+            accepted,
+            windows,
+            variables,
+            events,
+            event_loop,
+            memories,
+            grid,
+        }))
+    }
+
+    /// Whether the focus and the events that wait are of windows that are there: such a world can be made again of its parts
+    /// (`restore`).
+    pub fn is_whole(&self) -> bool
+        ensures { result ≡ is_whole self.now }
+    {
+        // What holds of all worlds is asked for here.
+        let _ = self.accepted();
+        self.event_loop.is_in(self.windows.tree())
     }
 
     // Where the world's memory comes from.
@@ -227,6 +293,13 @@ impl World {
         ensures err { OnErr result (self.new ≡ self.old) }
     {
         self.events.bind(tag, sequence, script)
+    }
+
+    /// The events that scripts were chosen for, the oldest first.
+    pub fn history(&self) -> &History
+        ensures { result.now.present ≡ self.now.history }
+    {
+        self.events.history()
     }
 
     /// The virtual events, in the order in which they were added.

@@ -1,0 +1,58 @@
+//! Where windows stand, and how they are packed.
+ghost use Rattle.std.specs.Prelude.{◌≡◌};
+ghost use Rattle.tks_codec_windows.specs.Places.{settings_in, same_settings, same_packing};
+
+use tks_pack::{Content, Settings};
+use tks_text::{Class, Seq, Txt};
+use tks_tree::WindowId;
+
+/// The place of a window: its number, path and class, what is packed in it, and how it is packed itself.
+#[derive(Drop)]
+pub struct Place {
+    pub window: WindowId,
+    pub path: Txt,
+    pub class: Class,
+    /// Whether it asks to be as large as its contents need.
+    pub propagates: bool,
+    /// The numbers of the windows that are packed in it, in order.
+    pub contents: Seq<u64>,
+    /// How it is packed, if it is.
+    pub packing: Option<Settings>,
+}
+
+/// How a window is packed among contents, if it is.
+pub fn settings_in(contents: &[Content], window: WindowId) -> Option<Settings>
+    ensures { result ≡ settings_in contents.now window }
+{
+    for content in contents {
+        if content.window == window {
+            return Some(content.settings);
+        }
+    }
+    None
+}
+
+// Whether windows are packed alike.
+fn same_settings(one: &Settings, other: &Settings) -> bool
+    ensures { result ≡ same_settings one.now other.now }
+{
+    one.side.number() == other.side.number()
+        && one.fill.number() == other.fill.number()
+        && one.expand == other.expand
+        && one.anchor.number() == other.anchor.number()
+        && one.padx == other.padx
+        && one.pady == other.pady
+        && one.ipadx == other.ipadx
+        && one.ipady == other.ipady
+}
+
+/// Whether windows are packed alike, or neither is.
+pub(crate) fn same_packing(one: Option<Settings>, other: Option<Settings>) -> bool
+    ensures { result ≡ same_packing one other }
+{
+    match (one, other) {
+        (None, None) => true,
+        (Some(one), Some(other)) => same_settings(&one, &other),
+        _ => false,
+    }
+}

@@ -1,0 +1,147 @@
+//! The tree of windows, and what is packed in each, made again of their places.
+ghost use Rattle.std.specs.Prelude.{◌≡◌, map, if◌then◌else◌, Some, None, option_map, IfOk};
+ghost use Rattle.tks_codec_windows.specs.Places as kinds;
+ghost use Rattle.tks_codec_windows.specs.Places.{with_place, with_places, is_first, tree_of, settings_of, content_of, packed_in, packings_in, packed_as, are_packed};
+
+use crate::place::{Place, same_packing, settings_in};
+use std::alloc::{AllocError, Global};
+use tks_opt::class_number;
+use tks_pack::{Content, Packing, Settings};
+use tks_text::Class;
+use tks_tree::{CreateFault, Tree, WindowId};
+
+// Adds a window with its own number, and says whether it may be.
+fn add_place(tree: &mut Tree, place: &Place) -> Result<bool, AllocError>
+    ensures { IfOk result (λ made. with_place tree.old place.now ≡ (if made then Some tree.new else None)) }
+{
+    if !tree.skip_to(place.window.number()) {
+        return Ok(false);
+    }
+    match tree.create(&place.path, place.class) {
+        Ok(_) => Ok(true),
+        Err(CreateFault::NoMemory) => Err(AllocError),
+        Err(_) => Ok(false),
+    }
+}
+
+// Adds windows, and says whether all may be.
+fn add_places(tree: &mut Tree, places: &[Place]) -> Result<bool, AllocError>
+    ensures { IfOk result (λ made. with_places tree.old places.now ≡ (if made then Some tree.new else None)) }
+{
+    for place in places {
+        if !add_place(tree, place)? {
+            return Ok(false);
+        }
+    }
+    Ok(true)
+}
+
+// Whether this is the place of `.`.
+fn is_first(place: &Place) -> bool
+    ensures { result ≡ is_first place.now }
+{
+    place.window.is_root()
+        && place.path.as_bytes() == b".".as_slice()
+        && class_number(place.class) == class_number(Class::Root)
+}
+
+// The tree, of which `.` comes first.
+fn tree_of(alloc: Global, next: u64, places: &[Place]) -> Result<Option<Tree>, AllocError>
+    ensures { IfOk result (λ tree. tree ≡ tree_of next places.now) }
+{
+    let Some((first, others)) = places.split_first() else {
+        return Ok(None);
+    };
+    if !is_first(first) {
+        return Ok(None);
+    }
+    let mut tree = Tree::new(alloc)?;
+    if add_places(&mut tree, others)? && tree.skip_to(next) {
+        Ok(Some(tree))
+    } else {
+        Ok(None)
+    }
+}
+
+// How the place of a window says that it is packed.
+fn settings_of(places: &[Place], window: WindowId) -> Settings
+    ensures { result ≡ settings_of places.now window }
+{
+    for place in places {
+        if place.window == window {
+            return place.packing.unwrap_or(Settings::new());
+        }
+    }
+    Settings::new()
+}
+
+// What is packed in the window of a place.
+fn packed_in(alloc: Global, places: &[Place], place: &Place) -> Result<Packing, AllocError>
+    ensures { IfOk result (λ p. p ≡ packed_in places.now place.now) }
+{
+    let mut contents = Vec::with_capacity(alloc, place.contents.len())?;
+    for number in place.contents.as_slice() {
+        let window = WindowId::of(*number);
+        contents.push(Content {
+            window,
+            settings: settings_of(places, window),
+        })?;
+    }
+    Ok(Packing::restore(alloc, contents, place.propagates))
+}
+
+// What is packed in the window of each place.
+fn packings_in(alloc: Global, places: &[Place]) -> Result<Vec<Packing>, AllocError>
+    ensures { IfOk result (λ ps. ps.items ≡ packings_in places.now) }
+{
+    let mut packings = Vec::with_capacity(alloc, places.len())?;
+    for place in places {
+        packings.push(packed_in(alloc, places, place)?)?;
+    }
+    Ok(packings)
+}
+
+// How a window is packed in the first that it is packed in, if it is.
+fn packed_as(packings: &[Packing], window: WindowId) -> Option<Settings>
+    ensures { result ≡ packed_as packings.now window }
+{
+    for packing in packings {
+        let settings = settings_in(packing.contents(), window);
+        if settings.is_some() {
+            return settings;
+        }
+    }
+    None
+}
+
+// Whether each window is packed as its place says.
+fn are_packed(packings: &[Packing], places: &[Place]) -> bool
+    ensures { result ≡ are_packed packings.now places.now }
+{
+    for place in places {
+        if !same_packing(packed_as(packings, place.window), place.packing) {
+            return false;
+        }
+    }
+    true
+}
+
+/// The tree of windows with these places, where the next window gets this number, and what is packed in each of its windows;
+/// none where these are no places of windows. That what is packed in a window are windows that are there, and stand right in
+/// it, is not asked here. Each place is looked for among all, so that this takes time in the square of their number.
+pub fn placed(
+    alloc: Global,
+    places: &[Place],
+    next: u64,
+) -> Result<Option<(Tree, Vec<Packing>)>, AllocError>
+    ensures { IfOk result (λ found. option_map (λ x. (x.0, x.1.items)) found ≡ kinds.placed next places.now) }
+{
+    let Some(tree) = tree_of(alloc, next, places)? else {
+        return Ok(None);
+    };
+    let packings = packings_in(alloc, places)?;
+    if !are_packed(&packings, places) {
+        return Ok(None);
+    }
+    Ok(Some((tree, packings)))
+}

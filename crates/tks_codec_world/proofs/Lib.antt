@@ -1,0 +1,7 @@
+pub mod OfContent
+pub mod OfLines
+pub mod OfWindows
+pub mod OfParts
+pub mod OfWorlds
+pub mod Decisions
+pub mod Decided

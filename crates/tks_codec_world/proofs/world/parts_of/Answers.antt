@@ -1,0 +1,24 @@
+use Rattle.std.proofs.lemmas.Result.{err_from_is_err_and}
+use Rattle.tks_codec_events.specs.Timers.{waiting_at}
+use Rattle.tks_codec_variables.specs.Variables.{variables_at}
+use Rattle.tks_codec_world.specs.Counts.{counts_at}
+use Rattle.tks_codec_world.specs.Ends.{ends_at}
+use Rattle.tks_codec_world.specs.Happenings.{happenings_at, happenings_seen}
+use Rattle.tks_codec_world.specs.Windows.{windows_at, windows_seen}
+use Rattle.tks_codec_world.specs.World.{fields_at}
+use Rattle.tks_codec_world.proofs.OfWorlds.{fails_behind, fails_first}
+use Rattle.tks_codec_world.proofs.world.parts_of.Goals as goal
+
+pub returns-in_err-ends : goal.returns-in_err-ends
+unfolding fields_at counts_at windows_at variables_at happenings_at waiting_at ends_at
+returns-in_err-ends c =
+    let p = err_from_is_err_and c.from_residual-in_err-ends.result c.from_residual-in_err-ends.ensures.1 in
+    let e = c.in_err-ends.field-0.0 in
+    rw (p.1, p.2) (
+    fails_behind e _ (c.in_ok-counts.counts, c.in_ok-counts.rest.now) _ c.in_ok-counts.ensures (
+    fails_behind e _ (windows_seen c.in_ok-windows.windows, c.in_ok-windows.rest.now) _ c.in_ok-windows.ensures (
+    fails_behind e _ (c.in_ok-variables.variables, c.in_ok-variables.rest.now) _ c.in_ok-variables.ensures (
+    fails_behind e _ (happenings_seen c.in_ok-happenings.happenings, c.in_ok-happenings.rest.now) _ c.in_ok-happenings.ensures (
+    fails_behind e _ (c.in_ok-queue.queue.present, c.in_ok-queue.rest.now) _ c.in_ok-queue.ensures.reads (
+    fails_behind e _ (c.in_ok-timers.timers.present, c.in_ok-timers.rest.now) _ c.in_ok-timers.ensures.reads (
+    fails_first e _ _ c.in_err-ends.ensures)))))))

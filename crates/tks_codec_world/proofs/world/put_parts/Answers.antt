@@ -1,0 +1,31 @@
+use Rattle.std.proofs.Common.{◌≡◌, ◌++◌, [], ◌∷◌, subst}
+use Rattle.tks_codec.specs.Writing.{joined}
+use Rattle.tks_codec.proofs.Puts.{joined_then, joined_last}
+use Rattle.tks_codec_variables.specs.Variables.{variables}
+use Rattle.tks_state.specs.World.{windows_of}
+use Rattle.tks_codec_world.specs.Counts.{counts}
+use Rattle.tks_codec_world.specs.Happenings.{happenings}
+use Rattle.tks_codec_world.specs.Windows.{windows}
+use Rattle.tks_codec_world.specs.World.{counts_of, happenings_of, waits_parts}
+use Rattle.tks_codec_world.proofs.world.put_parts.Goals as goal
+
+pub returns-clause-puts : goal.returns-clause-puts
+returns-clause-puts c =
+    let w = c.args.world.now in
+    let r = c.put_waits.result in
+    let old = c.args.out.now.items in
+    let first = c.put_counts.new.out.items in
+    let second = c.put_windows.new.out.items in
+    let third = c.put_variables.new.out.items in
+    let fourth = c.put_happenings.new.out.items in
+    let new = c.put_waits.new.out.items in
+    let numbers = counts.write (counts_of w) in
+    let all_windows = (windows w.tree.next).write (windows_of w) in
+    let all_variables = variables.write w.variables in
+    let happened = (happenings w.bindings.next).write (happenings_of w) in
+    let last = joined (waits_parts w) in
+    joined_then old first new numbers all_windows (all_variables ∷ happened ∷ last ∷ []) r (subst (λ x. first ≡ old ++ counts.write x) c.numbers_of.ensures c.in_ok-put_counts.ensures) (
+    joined_then first second new all_windows all_variables (happened ∷ last ∷ []) r c.in_ok-put_windows.ensures.puts (
+    joined_then second third new all_variables happened (last ∷ []) r (subst (λ v. third ≡ second ++ variables.write v) c.variables.ensures c.in_ok-put_variables.ensures.puts) (
+    joined_then third fourth new happened last [] r c.in_ok-put_happenings.ensures.puts (
+    joined_last r fourth new last c.put_waits.ensures.puts))))

@@ -1,0 +1,10 @@
+pub mod Class
+pub mod Content
+pub mod Line
+pub mod Windows
+pub mod Counts
+pub mod Happenings
+pub mod Ends
+pub mod World
+pub mod Storable
+pub mod Deciding

@@ -1,0 +1,108 @@
+//! The numbers in front of a world.
+ghost use Rattle.std.specs.Prelude.{◌≡◌};
+ghost use Rattle.tks_codec.specs.Reading.{Gives};
+ghost use Rattle.tks_codec.specs.Writing.{PutsSo, joined};
+ghost use Rattle.tks_codec_world.specs.Counts as kinds;
+ghost use Rattle.tks_codec_world.specs.Counts.{count, counts_at, counts_parts, is_count};
+
+use std::alloc::AllocError;
+use tks_codec::Unread;
+use tks_codec::reading::u64_of;
+use tks_codec::writing::put_u64;
+
+/// No number of a world is greater than this.
+const MAX_COUNT: u64 = 1 << 62;
+
+/// How many inputs were accepted, the clock in milliseconds, and the numbers of the next window, binding and timer.
+#[derive(Clone, Copy)]
+pub struct Counts {
+    pub accepted: u64,
+    pub clock: u64,
+    pub window: u64,
+    pub binding: u64,
+    pub timer: u64,
+}
+
+// A number that a world may have.
+fn count_of(bytes: &[u8]) -> Result<(u64, &[u8]), Unread>
+    ensures { Gives (λ x. (x.0, x.1.now)) result (count.read bytes.now) }
+{
+    let (number, rest) = u64_of(bytes)?;
+    if MAX_COUNT < number {
+        return Err(Unread::Left(rest.len() + 1));
+    }
+    Ok((number, rest))
+}
+
+/// The numbers.
+#[tactic(auto, unfolding(crate::specs::Counts::counts_at))]
+pub fn counts_of(bytes: &[u8]) -> Result<(Counts, &[u8]), Unread>
+    ensures { Gives (λ x. (x.0, x.1.now)) result (counts_at bytes.now) }
+{
+    let (accepted, rest) = count_of(bytes)?;
+    let (clock, rest) = count_of(rest)?;
+    let (window, rest) = count_of(rest)?;
+    let (binding, rest) = count_of(rest)?;
+    let (timer, rest) = count_of(rest)?;
+    let counts = Counts {
+        accepted,
+        clock,
+        window,
+        binding,
+        timer,
+    };
+    Ok((counts, rest))
+}
+
+// Whether a world may have this number.
+fn is_count(number: u64) -> bool
+    ensures { result ≡ is_count number }
+{
+    number <= MAX_COUNT
+}
+
+/// Whether a world may have these numbers.
+pub fn are_counts(counts: &Counts) -> bool
+    ensures { result ≡ kinds.are_counts counts.now }
+{
+    is_count(counts.accepted)
+        && is_count(counts.clock)
+        && is_count(counts.window)
+        && is_count(counts.binding)
+        && is_count(counts.timer)
+}
+
+// Adds a number.
+fn put_count(out: &mut Vec<u8>, number: u64) -> Result<(), AllocError>
+    ensures { PutsSo result out.old.items out.new.items (count.write number) }
+{
+    put_u64(out, number)
+}
+
+// Adds the numbers of the next window, binding and timer.
+#[tactic(auto, using(tks_codec::proofs::Puts::joined_puts))]
+fn put_next(out: &mut Vec<u8>, counts: &Counts) -> Result<(), AllocError>
+    ensures { PutsSo result out.old.items out.new.items (joined (kinds.next_parts counts.now)) }
+{
+    put_count(out, counts.window)?;
+    put_count(out, counts.binding)?;
+    put_count(out, counts.timer)
+}
+
+// Adds the parts.
+#[tactic(auto, using(tks_codec::proofs::Puts::joined_puts))]
+fn put_parts(out: &mut Vec<u8>, counts: &Counts) -> Result<(), AllocError>
+    ensures { PutsSo result out.old.items out.new.items (joined (counts_parts counts.now)) }
+{
+    put_count(out, counts.accepted)?;
+    put_count(out, counts.clock)?;
+    put_next(out, counts)
+}
+
+/// Adds the numbers. They are read back where a world may have them (`are_counts`).
+#[tactic(auto, unfolding(tks_codec::specs::Writing::joined))]
+pub fn put_counts(out: &mut Vec<u8>, counts: &Counts) -> Result<(), AllocError>
+    ensures { PutsSo result out.old.items out.new.items (kinds.counts.write counts.now) }
+{
+    put_parts(out, counts)
+}

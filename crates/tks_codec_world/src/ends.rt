@@ -1,0 +1,144 @@
+//! What stands at the end of a world.
+ghost use Rattle.std.specs.Prelude.{◌≡◌, ◌↔◌, true, option_map, OnOk};
+ghost use Rattle.tks_codec.specs.Reading.{Gives};
+ghost use Rattle.tks_codec.specs.Writing.{PutsSo, joined};
+ghost use Rattle.tks_codec_events.specs.Memories.{are_memories};
+ghost use Rattle.tks_codec_world.specs.Ends as kinds;
+ghost use Rattle.tks_codec_world.specs.Ends.{ends_at, ends_parts, ends_seen, these_rules};
+ghost use Rattle.tks_codec_world.specs.Storable.{EndsFit, MemoriesFit};
+ghost use Rattle.tks_codec_world.specs.World.{ends_of};
+
+use std::alloc::{AllocError, Global};
+use tks_app::Memories;
+use tks_codec::Unread;
+use tks_codec::reading::{presence_of, u8_of, u64_of};
+use tks_codec::writing::{put_presence, put_u8, put_u64};
+use tks_codec_events::{
+    all_have_spellings, are_memories, held_of, memories_of, put_held, put_memories,
+};
+use tks_codec_windows::{are_short, put_texts, texts_of};
+use tks_event::Held;
+use tks_state::World;
+use tks_text::{Seq, Txt};
+use tks_tree::WindowId;
+
+/// There is one set of rules so far, and this is its number.
+const RULES: u8 = 1;
+
+/// The focus, what is held down, the last press, the memories of an application, and the faults.
+#[derive(Drop)]
+pub struct Ends {
+    pub focus: WindowId,
+    pub held: Held,
+    pub pressed: Option<WindowId>,
+    pub memories: Memories,
+    pub faults: Seq<Txt>,
+}
+
+// The number of the window that took the last press, if there is one.
+fn press_of(bytes: &[u8]) -> Result<(Option<u64>, &[u8]), Unread>
+    ensures { Gives (λ x. (x.0, x.1.now)) result (kinds.press.read bytes.now) }
+{
+    let (is_there, rest) = presence_of(bytes)?;
+    if !is_there {
+        return Ok((None, rest));
+    }
+    let (number, rest) = u64_of(rest)?;
+    Ok((Some(number), rest))
+}
+
+// The window of this number, if there is one.
+fn window_of(number: Option<u64>) -> Option<WindowId>
+    ensures { result ≡ number }
+{
+    match number {
+        None => None,
+        Some(number) => Some(WindowId::of(number)),
+    }
+}
+
+// By which rules scripts run.
+fn rules_of(bytes: &[u8]) -> Result<(u8, &[u8]), Unread>
+    ensures { Gives (λ x. (x.0, x.1.now)) result (kinds.rules.read bytes.now) }
+{
+    let (rules, rest) = u8_of(bytes)?;
+    if rules != RULES {
+        return Err(Unread::Left(rest.len() + 1));
+    }
+    Ok((rules, rest))
+}
+
+/// What stands at the end of a world.
+#[tactic(auto, unfolding(crate::specs::Ends::ends_at, tks_codec_events::specs::Held::held_at, tks_codec_events::specs::Memories::memories_at))]
+pub fn ends_of(alloc: Global, bytes: &[u8]) -> Result<(Ends, &[u8]), Unread>
+    ensures { Gives (λ x. (ends_seen x.0, x.1.now)) result (ends_at bytes.now) }
+{
+    let (focus, rest) = u64_of(bytes)?;
+    let (held, rest) = held_of(rest)?;
+    let (pressed, rest) = press_of(rest)?;
+    let (memories, rest) = memories_of(alloc, rest)?;
+    let (faults, rest) = texts_of(alloc, rest)?;
+    let (_, rest) = rules_of(rest)?;
+    let ends = Ends {
+        focus: WindowId::of(focus),
+        held,
+        pressed: window_of(pressed),
+        memories,
+        faults,
+    };
+    Ok((ends, rest))
+}
+
+// Adds the number of the window that took the last press, if there is one.
+fn put_press(out: &mut Vec<u8>, pressed: Option<WindowId>) -> Result<(), AllocError>
+    ensures puts { PutsSo result out.old.items out.new.items (kinds.press.write pressed) }
+    ensures legal { OnOk result (kinds.press.Legal pressed) }
+{
+    match pressed {
+        None => put_presence(out, false),
+        Some(window) => {
+            put_presence(out, true)?;
+            put_u64(out, window.number())
+        }
+    }
+}
+
+// Adds the parts.
+#[tactic(auto, using(tks_codec::proofs::Puts::joined_puts))]
+fn put_parts(out: &mut Vec<u8>, world: &World) -> Result<(), AllocError>
+    requires { EndsFit (ends_of world.now) }
+    ensures puts { PutsSo result out.old.items out.new.items (joined (ends_parts (ends_of world.now))) }
+    ensures legal { OnOk result (kinds.ends.Legal (ends_of world.now)) }
+{
+    put_u64(out, world.focus().number())?;
+    put_held(out, &world.held())?;
+    put_press(out, world.pressed())?;
+    put_memories(out, world.memories())?;
+    put_texts(out, world.faults())?;
+    put_u8(out, RULES)
+}
+
+/// Adds what stands at the end of a world.
+#[tactic(auto, unfolding(tks_codec::specs::Writing::joined))]
+pub fn put_ends(out: &mut Vec<u8>, world: &World) -> Result<(), AllocError>
+    requires { EndsFit (ends_of world.now) }
+    ensures puts { PutsSo result out.old.items out.new.items (kinds.ends.write (ends_of world.now)) }
+    ensures legal { OnOk result (kinds.ends.Legal (ends_of world.now)) }
+{
+    put_parts(out, world)
+}
+
+// Whether memories have a spelling.
+fn memories_fit(world: &World) -> bool
+    ensures { (result ≡ true) ↔ MemoriesFit world.now.memories }
+{
+    let memories = world.memories().all();
+    memories.len() < 1 << 32 && all_have_spellings(memories) && are_memories(memories)
+}
+
+/// Whether what stands at the end of a world has a spelling.
+pub fn are_ends(world: &World) -> bool
+    ensures { (result ≡ true) ↔ EndsFit (ends_of world.now) }
+{
+    memories_fit(world) && are_short(world.faults())
+}

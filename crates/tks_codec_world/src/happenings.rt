@@ -1,0 +1,93 @@
+//! What scripts bound to events rest on.
+ghost use Rattle.std.specs.Prelude.{◌≡◌, ◌↔◌, true, OnOk};
+ghost use Rattle.tks_codec.specs.Reading.{Gives};
+ghost use Rattle.tks_codec.specs.Writing.{PutsSo, joined};
+ghost use Rattle.tks_codec_world.specs.Happenings as kinds;
+ghost use Rattle.tks_codec_world.specs.Happenings.{happenings_at, happenings_parts, happenings_seen};
+ghost use Rattle.tks_codec_world.specs.Storable.{BindingsFit, VirtualsFit, HistoryFits, HappeningsFit};
+ghost use Rattle.tks_codec_world.specs.World.{happenings_of};
+
+use std::alloc::{AllocError, Global};
+use tks_bind::{Bindings, History, Virtuals};
+use tks_codec::Unread;
+use tks_codec_events::{
+    all_have_spellings, are_bindings, are_virtuals, bindings_of, history_of, items_have_spellings,
+    put_bindings, put_history, put_virtuals, virtuals_of,
+};
+use tks_state::World;
+
+/// Bindings, virtual events, and the history.
+#[derive(Drop)]
+pub struct Happenings {
+    pub bindings: Bindings,
+    pub virtuals: Virtuals,
+    pub history: History,
+}
+
+/// Bindings with this next number, virtual events, and the history.
+#[tactic(auto, unfolding(crate::specs::Happenings::happenings_at, tks_codec_events::specs::Bindings::bindings_at, tks_codec_events::specs::Virtuals::virtuals_at, tks_codec_events::specs::History::history_at))]
+pub fn happenings_of(alloc: Global, next: u64, bytes: &[u8]) -> Result<(Happenings, &[u8]), Unread>
+    ensures { Gives (λ x. (happenings_seen x.0, x.1.now)) result (happenings_at next bytes.now) }
+{
+    let (bindings, rest) = bindings_of(alloc, next, bytes)?;
+    let (virtuals, rest) = virtuals_of(alloc, rest)?;
+    let (history, rest) = history_of(alloc, rest)?;
+    let happenings = Happenings {
+        bindings,
+        virtuals,
+        history,
+    };
+    Ok((happenings, rest))
+}
+
+// Adds the parts.
+#[tactic(auto, using(tks_codec::proofs::Puts::joined_puts))]
+fn put_parts(out: &mut Vec<u8>, world: &World) -> Result<(), AllocError>
+    requires { HappeningsFit (happenings_of world.now) }
+    ensures puts { PutsSo result out.old.items out.new.items (joined (happenings_parts (happenings_of world.now))) }
+    ensures legal { OnOk result ((kinds.happenings world.now.bindings.next).Legal (happenings_of world.now)) }
+{
+    put_bindings(out, world.bindings())?;
+    put_virtuals(out, world.virtuals())?;
+    put_history(out, world.history())
+}
+
+/// Adds what a world's scripts bound to events rest on, but not the number of the next binding.
+#[tactic(auto, unfolding(tks_codec::specs::Writing::joined))]
+pub fn put_happenings(out: &mut Vec<u8>, world: &World) -> Result<(), AllocError>
+    requires { HappeningsFit (happenings_of world.now) }
+    ensures puts { PutsSo result out.old.items out.new.items ((kinds.happenings world.now.bindings.next).write (happenings_of world.now)) }
+    ensures legal { OnOk result ((kinds.happenings world.now.bindings.next).Legal (happenings_of world.now)) }
+{
+    put_parts(out, world)
+}
+
+// Whether bindings have a spelling.
+fn bindings_fit(world: &World) -> bool
+    ensures { (result ≡ true) ↔ BindingsFit world.now.bindings }
+{
+    let bindings = world.bindings();
+    bindings.len() < 1 << 32 && items_have_spellings(bindings.bindings()) && are_bindings(bindings)
+}
+
+// Whether virtual events have a spelling.
+fn virtuals_fit(world: &World) -> bool
+    ensures { (result ≡ true) ↔ VirtualsFit world.now.virtuals }
+{
+    let virtuals = world.virtuals();
+    virtuals.len() < 1 << 32 && items_have_spellings(virtuals.events()) && are_virtuals(virtuals)
+}
+
+// Whether a history has a spelling.
+fn history_fits(world: &World) -> bool
+    ensures { (result ≡ true) ↔ HistoryFits world.now.history }
+{
+    all_have_spellings(world.history().events())
+}
+
+/// Whether what a world's scripts bound to events rest on has a spelling.
+pub fn are_happenings(world: &World) -> bool
+    ensures { (result ≡ true) ↔ HappeningsFit (happenings_of world.now) }
+{
+    bindings_fit(world) && virtuals_fit(world) && history_fits(world)
+}

@@ -1,0 +1,160 @@
+//! Windows, each a line of its fields.
+ghost use Rattle.std.specs.Prelude.{◌≡◌, ◌++◌, ◌∷◌, [], None, OnOk};
+ghost use Rattle.tks_codec.specs.Spelling.{list, members_at};
+ghost use Rattle.tks_codec.specs.Reading.{Gives};
+ghost use Rattle.tks_codec.specs.Writing.{PutsSo, joined};
+ghost use Rattle.tks_codec_world.specs.Line as kinds;
+ghost use Rattle.tks_codec_world.specs.Line.{line_at, line_parts, rest_parts, RestIsLegal, line_with};
+ghost use Rattle.tks_codec_windows.specs.Packing.{IsPacking};
+ghost use Rattle.tks_codec_world.specs.Storable.{KeptFits, HasShortPath};
+ghost use Rattle.tks_state.specs.Widget.{class_of};
+ghost use Rattle.tks_tree.specs.View.{window_seen};
+
+use crate::class::{class_of, put_class};
+use crate::content::{content_of, put_content};
+use std::alloc::{AllocError, Global};
+use tks_codec::Unread;
+use tks_codec::reading::{flag_of, text_of, u32_of, u64_of};
+use tks_codec::writing::{put_flag, put_text, put_u64};
+use tks_codec_windows::{
+    Place, options_of, packing_of, put_contents, put_options, put_packing, put_tags, tags_of,
+    windows_of,
+};
+use tks_pack::Settings;
+use tks_state::{Kept, Widget};
+use tks_text::{Seq, Txt};
+use tks_tree::{Window, WindowId};
+
+/// A window as it is written.
+#[derive(Drop)]
+pub struct Line {
+    pub place: Place,
+    /// The tags that were set, if any were.
+    pub tags: Option<Seq<Txt>>,
+    pub widget: Widget,
+}
+
+// A window.
+#[tactic(auto, unfolding(crate::specs::Line::line_at, crate::specs::Content::content_at, tks_codec_windows::specs::Options::options_at, tks_codec_windows::specs::Packing::packing_at))]
+fn line_of(alloc: Global, bytes: &[u8]) -> Result<(Line, &[u8]), Unread>
+    ensures { Gives (λ x. (x.0, x.1.now)) result (line_at bytes.now) }
+{
+    let (number, rest) = u64_of(bytes)?;
+    let (path, rest) = text_of(alloc, rest)?;
+    let (class, rest) = class_of(rest)?;
+    let (options, rest) = options_of(alloc, class, rest)?;
+    let (tags, rest) = tags_of(alloc, rest)?;
+    let (propagates, rest) = flag_of(rest)?;
+    let (contents, rest) = windows_of(alloc, rest)?;
+    let (packing, rest) = packing_of(rest)?;
+    let (widget, rest) = content_of(alloc, options, rest)?;
+    let place = Place {
+        window: WindowId::of(number),
+        path,
+        class,
+        propagates,
+        contents,
+        packing,
+    };
+    let line = Line {
+        place,
+        tags,
+        widget,
+    };
+    Ok((line, rest))
+}
+
+// Adds a line to others.
+fn push(lines: &mut Vec<Line>, line: Line) -> Result<(), AllocError>
+    ensures { OnOk result (lines.new.items ≡ lines.old.items ++ line ∷ []) }
+{
+    lines.push(line)?;
+    Ok(())
+}
+
+// So many windows. Room is made for each as it is read.
+#[tactic(auto, unfolding(crate::specs::Line::line_at))]
+fn lines_of_count(alloc: Global, count: u32, bytes: &[u8]) -> Result<(Vec<Line>, &[u8]), Unread>
+    ensures { Gives (λ x. (x.0.items, x.1.now)) result (members_at (λ before. kinds.line) None count bytes.now) }
+{
+    let mut lines = Vec::new(alloc);
+    let mut rest = bytes;
+    for _ in 0..count {
+        let (line, after) = line_of(alloc, rest)?;
+        push(&mut lines, line)?;
+        rest = after;
+    }
+    Ok((lines, rest))
+}
+
+/// Windows.
+#[tactic(auto, unfolding(tks_codec::specs::Spelling::list_at))]
+pub fn lines_of(alloc: Global, bytes: &[u8]) -> Result<(Vec<Line>, &[u8]), Unread>
+    ensures { Gives (λ x. (x.0.items, x.1.now)) result ((list kinds.line).read bytes.now) }
+{
+    let (count, rest) = u32_of(bytes)?;
+    let (lines, rest) = lines_of_count(alloc, count, rest)?;
+    Ok((lines, rest))
+}
+
+// Adds what stands behind the options of a window.
+#[tactic(auto, using(tks_codec::proofs::Puts::joined_puts))]
+fn put_rest(
+    alloc: Global,
+    out: &mut Vec<u8>,
+    kept: &Kept,
+    packing: Option<Settings>,
+) -> Result<(), AllocError>
+    requires short { KeptFits kept.now }
+    requires packing { IsPacking packing }
+    ensures puts { PutsSo result out.old.items out.new.items (joined (rest_parts kept.now packing)) }
+    ensures legal { OnOk result (RestIsLegal kept.now packing) }
+{
+    put_tags(out, kept.tags.as_ref().map(Seq::as_slice))?;
+    put_flag(out, kept.packing.propagates())?;
+    put_contents(out, &kept.packing)?;
+    put_packing(out, packing)?;
+    put_content(alloc, out, &kept.widget)
+}
+
+// Adds the parts of a window.
+#[tactic(auto, using(tks_codec::proofs::Puts::joined_puts))]
+fn put_parts(
+    alloc: Global,
+    out: &mut Vec<u8>,
+    window: &Window<'_>,
+    kept: &Kept,
+    packing: Option<Settings>,
+) -> Result<(), AllocError>
+    requires path { HasShortPath (window_seen window.now) }
+    requires short { KeptFits kept.now }
+    requires class { class_of kept.now.widget ≡ (window_seen window.now).class }
+    requires packing { IsPacking packing }
+    ensures puts { PutsSo result out.old.items out.new.items (joined (line_parts (window_seen window.now) kept.now packing)) }
+    ensures legal { OnOk result (kinds.line.Legal (line_with (window_seen window.now) kept.now packing)) }
+{
+    put_u64(out, window.id.number())?;
+    put_text(out, window.path)?;
+    put_class(out, window.class)?;
+    put_options(out, kept.widget.options())?;
+    put_rest(alloc, out, kept, packing)
+}
+
+/// Adds a window that is packed so, if it is.
+#[tactic(auto, unfolding(tks_codec::specs::Writing::joined))]
+pub fn put_line(
+    alloc: Global,
+    out: &mut Vec<u8>,
+    window: &Window<'_>,
+    kept: &Kept,
+    packing: Option<Settings>,
+) -> Result<(), AllocError>
+    requires path { HasShortPath (window_seen window.now) }
+    requires short { KeptFits kept.now }
+    requires class { class_of kept.now.widget ≡ (window_seen window.now).class }
+    requires packing { IsPacking packing }
+    ensures puts { PutsSo result out.old.items out.new.items (kinds.line.write (line_with (window_seen window.now) kept.now packing)) }
+    ensures legal { OnOk result (kinds.line.Legal (line_with (window_seen window.now) kept.now packing)) }
+{
+    put_parts(alloc, out, window, kept, packing)
+}

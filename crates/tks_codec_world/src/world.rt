@@ -1,0 +1,175 @@
+//! Worlds.
+ghost use Rattle.std.specs.Prelude.{◌≡◌, ◌↔◌, ◌++◌, ℕ, List, true, take, length, Ok, Err, IfOk, OnOk, OnErr};
+ghost use Rattle.tks_codec.specs.Reading.{Gives, FindsSo, StopsAt};
+ghost use Rattle.tks_codec.specs.Writing.{PutsSo, joined};
+ghost use Rattle.tks_codec.specs.declared.fault.CodecFault.TheVariants as CodecFault;
+ghost use Rattle.tks_codec_world.specs.Storable.{HasSpelling};
+ghost use Rattle.tks_codec_world.specs.World as kinds;
+ghost use Rattle.tks_codec_world.specs.World.{counts_of, fields_parts, waits_parts, WaitsAreLegal, fields_at, world_at};
+ghost use Rattle.tks_state.specs.Restoring as restoring;
+ghost use Rattle.tks_state.specs.World.{World};
+
+use crate::counts::{Counts, are_counts, counts_of, put_counts};
+use crate::ends::{are_ends, ends_of, put_ends};
+use crate::happenings::{are_happenings, happenings_of, put_happenings};
+use crate::waits::{is_queue, is_waiting};
+use crate::windows::{are_windows, put_windows, windows_of};
+use std::alloc::{AllocError, Global};
+use tks_codec::{CodecFault, Unread};
+use tks_codec_events::{put_queue, put_waiting, queue_of, waiting_of};
+use tks_codec_variables::{has_spelling as are_variables, put_variables, variables_of};
+use tks_state::{World, WorldParts};
+use tks_text::Size;
+
+// The parts of a world on this grid.
+#[tactic(auto, unfolding(crate::specs::World::fields_at, crate::specs::Counts::counts_at, crate::specs::Windows::windows_at, tks_codec_variables::specs::Variables::variables_at, crate::specs::Happenings::happenings_at, tks_codec_events::specs::Timers::waiting_at, crate::specs::Ends::ends_at))]
+fn parts_of(alloc: Global, grid: Size, bytes: &[u8]) -> Result<(WorldParts, &[u8]), Unread>
+    ensures { Gives (λ x. (restoring.world_of x.0, x.1.now)) result (fields_at grid bytes.now) }
+{
+    let (counts, rest) = counts_of(bytes)?;
+    let (windows, rest) = windows_of(alloc, counts.window, rest)?;
+    let (variables, rest) = variables_of(alloc, rest)?;
+    let (happenings, rest) = happenings_of(alloc, counts.binding, rest)?;
+    let (queue, rest) = queue_of(alloc, rest)?;
+    let (timers, rest) = waiting_of(alloc, counts.timer, rest)?;
+    let (ends, rest) = ends_of(alloc, rest)?;
+    let parts = WorldParts {
+        accepted: counts.accepted,
+        clock: counts.clock,
+        tree: windows.tree,
+        windows: windows.parts,
+        variables,
+        bindings: happenings.bindings,
+        virtuals: happenings.virtuals,
+        history: happenings.history,
+        queue,
+        timers,
+        focus: ends.focus,
+        held: ends.held,
+        pressed: ends.pressed,
+        memories: ends.memories,
+        faults: ends.faults,
+        grid,
+    };
+    Ok((parts, rest))
+}
+
+// A world on this grid.
+#[tactic(auto, unfolding(crate::specs::World::world_at, crate::specs::World::fields_at))]
+fn world_of(alloc: Global, grid: Size, bytes: &[u8]) -> Result<(World, &[u8]), Unread>
+    ensures { Gives (λ x. (x.0, x.1.now)) result (world_at grid bytes.now) }
+{
+    let (parts, rest) = parts_of(alloc, grid, bytes)?;
+    match World::restore(alloc, parts)? {
+        Some(world) => Ok((world, rest)),
+        None => Err(Unread::Left(rest.len() + 1)),
+    }
+}
+
+// The world, and the length of its spelling.
+fn world_found(alloc: Global, grid: Size, bytes: &[u8]) -> Result<(World, usize), CodecFault>
+    ensures { FindsSo result bytes.now (world_at grid bytes.now) }
+{
+    match world_of(alloc, grid, bytes) {
+        Ok((world, rest)) => Ok((world, bytes.len() - rest.len())),
+        Err(Unread::Left(left)) => Err(CodecFault::Bad(bytes.len() - left)),
+        Err(Unread::NoMemory) => Err(CodecFault::NoMemory),
+    }
+}
+
+/// The world at the front, on a grid of this size, and the length of its spelling; other bytes may follow. Memory is taken
+/// for each part once its bytes are there.
+pub fn read_world(alloc: Global, grid: Size, bytes: &[u8]) -> Result<(World, usize), CodecFault>
+    // What is read is spelled so.
+    ensures found { IfOk result (λ x. (kinds.world grid).Legal x.0 × (take x.1 bytes.now ≡ (kinds.world grid).write x.0)) }
+    // What is spelled so is read, unless memory is refused.
+    ensures only { (w : World) (rest : List ℕ) → (kinds.world grid).Legal w → bytes.now ≡ (kinds.world grid).write w ++ rest → FindsSo result bytes.now (Ok (w, rest)) }
+    // Where the fault is.
+    ensures bad { (p : ℕ) → result ≡ Err (CodecFault.Bad p) → StopsAt (kinds.world grid) bytes.now p }
+    // All this at once.
+    ensures exact { FindsSo result bytes.now (world_at grid bytes.now) }
+{
+    world_found(alloc, grid, bytes)
+}
+
+// The numbers in front of a world.
+fn numbers_of(world: &World) -> Counts
+    ensures { result ≡ counts_of world.now }
+{
+    Counts {
+        accepted: world.accepted(),
+        clock: world.clock(),
+        window: world.tree().next(),
+        binding: world.bindings().next(),
+        timer: world.timers().next(),
+    }
+}
+
+/// Whether a world has a spelling: no list has 2^32 members, no text 2^32 bytes, no number is above 2^62, no frame was begun,
+/// and what stands in it is such as is read.
+pub fn has_spelling(world: &World) -> bool
+    ensures { (result ≡ true) ↔ HasSpelling world.now }
+{
+    world.is_whole()
+        && are_counts(&numbers_of(world))
+        && are_windows(world)
+        && are_variables(world.variables())
+        && are_happenings(world)
+        && is_queue(world.queue())
+        && is_waiting(world.timers())
+        && are_ends(world)
+}
+
+// Adds what waits, and what stands at the end.
+#[tactic(auto, using(tks_codec::proofs::Puts::joined_puts))]
+fn put_waits(out: &mut Vec<u8>, world: &World) -> Result<(), AllocError>
+    requires { HasSpelling world.now }
+    ensures puts { PutsSo result out.old.items out.new.items (joined (waits_parts world.now)) }
+    ensures legal { OnOk result (WaitsAreLegal world.now) }
+{
+    put_queue(out, world.queue())?;
+    put_waiting(out, world.timers())?;
+    put_ends(out, world)
+}
+
+// Adds the parts of a world; where memory is refused, perhaps a front of them.
+#[tactic(auto, using(tks_codec::proofs::Puts::joined_puts))]
+fn put_parts(alloc: Global, out: &mut Vec<u8>, world: &World) -> Result<(), AllocError>
+    requires { HasSpelling world.now }
+    ensures puts { PutsSo result out.old.items out.new.items (joined (fields_parts world.now)) }
+    ensures legal { OnOk result ((kinds.fields world.now.grid).Legal world.now) }
+{
+    put_counts(out, &numbers_of(world))?;
+    put_windows(alloc, out, world)?;
+    put_variables(out, world.variables())?;
+    put_happenings(out, world)?;
+    put_waits(out, world)
+}
+
+// Adds a world.
+#[tactic(auto, unfolding(tks_codec::specs::Writing::joined))]
+fn put_world(alloc: Global, out: &mut Vec<u8>, world: &World) -> Result<(), AllocError>
+    requires { HasSpelling world.now }
+    ensures puts { PutsSo result out.old.items out.new.items ((kinds.world world.now.grid).write world.now) }
+    ensures legal { OnOk result ((kinds.world world.now.grid).Legal world.now) }
+{
+    put_parts(alloc, out, world)
+}
+
+/// Adds the world's spelling at the end, which it has to have (`has_spelling`). It is read back on its grid. Where memory is
+/// refused, the bytes are as they were.
+pub fn write_world(alloc: Global, world: &World, out: &mut Vec<u8>) -> Result<(), AllocError>
+    requires { HasSpelling world.now }
+    ensures ok { OnOk result (out.new.items ≡ out.old.items ++ (kinds.world world.now.grid).write world.now) }
+    ensures legal { OnOk result ((kinds.world world.now.grid).Legal world.now) }
+    ensures err { OnErr result (out.new.items ≡ out.old.items) }
+{
+    let before = out.len();
+    match put_world(alloc, out, world) {
+        Ok(()) => Ok(()),
+        Err(refused) => {
+            out.truncate(before);
+            Err(refused)
+        }
+    }
+}

@@ -1,0 +1,12 @@
+//! Whether a world keeps within limits.
+#![tactic(auto)]
+
+mod events;
+mod laws;
+mod texts;
+mod variables;
+mod windows;
+mod world;
+
+pub use laws::wider_limits_admit;
+pub use world::is_within;

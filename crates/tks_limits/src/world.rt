@@ -1,0 +1,63 @@
+//! Worlds.
+ghost use Rattle.std.specs.Prelude.{◌≡◌, ◌&&◌};
+ghost use Rattle.std.specs.List.{list_all};
+ghost use Rattle.tks_limits.specs.Within as kinds;
+ghost use Rattle.tks_limits.specs.Within.{within};
+
+use crate::events::{bindings_fit, history_fits, queue_fits, timers_fit, virtuals_fit};
+use crate::texts::{fits, may_hold, texts_fit};
+use crate::variables::variables_fit;
+use crate::windows::{all_kept_fit, paths_fit};
+use tks_app::Memory;
+use tks_state::World;
+use tks_text::Limits;
+
+// Whether the names and texts of memories fit.
+fn each_memory_fits(memories: &[Memory], limits: &Limits) -> bool
+    ensures { result ≡ list_all (λ m. kinds.fits limits.now m.name && kinds.fits limits.now m.text) memories.now }
+{
+    for memory in memories {
+        if !fits(memory.name.as_bytes(), limits) || !fits(memory.text.as_bytes(), limits) {
+            return false;
+        }
+    }
+    true
+}
+
+// Whether memories fit.
+fn memories_fit(memories: &[Memory], limits: &Limits) -> bool
+    ensures { result ≡ kinds.memories_fit limits.now memories.now }
+{
+    may_hold(memories.len(), limits) && each_memory_fits(memories, limits)
+}
+
+// Whether the windows fit.
+fn windows_fit(world: &World, limits: &Limits) -> bool
+    ensures { result ≡ kinds.windows_fit limits.now world.now }
+{
+    paths_fit(world.tree(), limits) && all_kept_fit(world.all_kept(), limits)
+}
+
+// Whether what scripts bound to events rest on, and what waits, fit.
+fn events_fit(world: &World, limits: &Limits) -> bool
+    ensures { result ≡ kinds.events_fit limits.now world.now }
+{
+    bindings_fit(world.bindings(), limits)
+        && virtuals_fit(world.virtuals(), limits)
+        && history_fits(world.history().events(), limits)
+        && queue_fits(world.queue(), limits)
+        && timers_fit(world.timers(), limits)
+}
+
+/// Whether a world keeps within limits: no text that stands in it is longer than `text` bytes, and none of its lists that grow
+/// with scripts has more than `items` members.
+#[tactic(auto, unfolding(crate::specs::Within::within))]
+pub fn is_within(world: &World, limits: &Limits) -> bool
+    ensures { result ≡ within limits.now world.now }
+{
+    windows_fit(world, limits)
+        && variables_fit(world.variables(), limits)
+        && events_fit(world, limits)
+        && memories_fit(world.memories().all(), limits)
+        && texts_fit(world.faults(), limits)
+}

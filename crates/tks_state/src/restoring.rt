@@ -1,0 +1,164 @@
+//! What a world is made again of, and which parts are those of a world.
+ghost use Rattle.std.specs.Prelude.{◌≡◌, map, IfOk};
+ghost use Rattle.std.specs.List.{list_all};
+ghost use Rattle.tks_tree.specs.View.{window_seen};
+ghost use Rattle.tks_tree.specs.Windows.{parent};
+ghost use Rattle.tks_state.specs.Restoring.{kept_of_parts, is_kept_of, are_in_step, is_among, are_distinct, is_number, packs_children};
+
+use crate::kept::Kept;
+use crate::widget::Widget;
+use std::alloc::{AllocError, Global};
+use tks_app::Memories;
+use tks_bind::{Bindings, History, Virtuals};
+use tks_event::Held;
+use tks_opt::class_number;
+use tks_pack::{Content, Packing};
+use tks_queue::Queue;
+use tks_text::{Seq, Size, Txt};
+use tks_timer::Timers;
+use tks_tree::{Tree, Window, WindowId};
+use tks_vars::Vars;
+
+/// What is kept of a window.
+#[derive(Drop)]
+pub struct WindowParts {
+    pub widget: Widget,
+    /// The tags that were set, if any were.
+    pub tags: Option<Seq<Txt>>,
+    pub packing: Packing,
+}
+
+/// What a world is made again of.
+#[derive(Drop)]
+pub struct WorldParts {
+    /// How many inputs were accepted.
+    pub accepted: u64,
+    /// In milliseconds.
+    pub clock: u64,
+    pub tree: Tree,
+    /// One for each window of the tree, in its order.
+    pub windows: Vec<WindowParts>,
+    pub variables: Vars,
+    pub bindings: Bindings,
+    pub virtuals: Virtuals,
+    pub history: History,
+    pub queue: Queue,
+    pub timers: Timers,
+    pub focus: WindowId,
+    pub held: Held,
+    pub pressed: Option<WindowId>,
+    pub memories: Memories,
+    pub faults: Seq<Txt>,
+    pub grid: Size,
+}
+
+/// What is kept of each window of a tree, as long as there are parts.
+#[tactic(auto, using(crate::proofs::Restored::kept_at, crate::proofs::Restored::none_kept))]
+pub fn kept_of_parts(
+    alloc: Global,
+    tree: &Tree,
+    parts: Vec<WindowParts>,
+) -> Result<Vec<Kept>, AllocError>
+    ensures { IfOk result (λ kept. kept.items ≡ kept_of_parts tree.now.windows parts.items) }
+{
+    let mut kept = Vec::with_capacity(alloc, tree.len())?;
+    let mut parts = parts.into_iter();
+    for index in 0..tree.len() {
+        let Some(window) = tree.nth(index) else {
+            unreachable!()
+        };
+        let Some(part) = parts.next() else {
+            return Ok(kept);
+        };
+        let WindowParts {
+            widget,
+            tags,
+            packing,
+        } = part;
+        kept.push(Kept {
+            window: window.id,
+            widget,
+            tags,
+            packing,
+        })?;
+    }
+    Ok(kept)
+}
+
+// Whether this is kept of the window, and its widget is of the window's class.
+fn is_kept_of(window: &Window<'_>, kept: &Kept) -> bool
+    ensures { result ≡ is_kept_of (window_seen window.now) kept.now }
+{
+    kept.window == window.id
+        && class_number(kept.widget.options().class()) == class_number(window.class)
+}
+
+/// Whether one is kept of each window, in the same order.
+#[tactic(auto, using(crate::proofs::Restored::in_step_at, crate::proofs::Restored::not_in_step))]
+pub fn are_in_step(tree: &Tree, kept: &[Kept]) -> bool
+    ensures { result ≡ are_in_step tree.now.windows kept.now }
+{
+    if tree.len() != kept.len() {
+        return false;
+    }
+    for index in 0..kept.len() {
+        let Some(window) = tree.nth(index) else {
+            unreachable!()
+        };
+        if !is_kept_of(&window, &kept[index]) {
+            return false;
+        }
+    }
+    true
+}
+
+// Whether a window is one of those that are packed.
+fn is_among(window: WindowId, contents: &[Content]) -> bool
+    ensures { result ≡ is_among window (map (λ c. c.window) contents.now) }
+{
+    for content in contents {
+        if window == content.window {
+            return true;
+        }
+    }
+    false
+}
+
+// Whether packed windows differ.
+fn are_distinct(contents: &[Content]) -> bool
+    ensures { result ≡ are_distinct (map (λ c. c.window) contents.now) }
+{
+    let mut rest = contents;
+    while let Some((first, behind)) = rest.split_first() {
+        if is_among(first.window, behind) {
+            return false;
+        }
+        rest = behind;
+    }
+    true
+}
+
+// Whether windows stand right in one.
+fn are_children(tree: &Tree, container: WindowId, contents: &[Content]) -> bool
+    ensures { result ≡ list_all (λ n. is_number container (parent tree.now n)) (map (λ c. c.window) contents.now) }
+{
+    for content in contents {
+        if tree.parent(content.window) != Some(container) {
+            return false;
+        }
+    }
+    true
+}
+
+/// Whether the windows that are packed in each differ, and stand right in it.
+pub fn all_pack_children(tree: &Tree, kept: &[Kept]) -> bool
+    ensures { result ≡ list_all (packs_children tree.now) kept.now }
+{
+    for one in kept {
+        let contents = one.packing.contents();
+        if !are_distinct(contents) || !are_children(tree, one.window, contents) {
+            return false;
+        }
+    }
+    true
+}
