@@ -60,7 +60,7 @@ short xs = below (length xs) (2 ^ 32)
 all_short : (texts : List (List ℕ)) → Decides (all_fit texts) (AllByRecursion IsShort texts)
 all_short texts = each fits IsShort (λ t. short t) texts
 
-are_short : (texts : List (List ℕ)) → Decides (texts_fit texts) (AreShort texts)
+pub are_short : (texts : List (List ℕ)) → Decides (texts_fit texts) (AreShort texts)
 are_short texts = by (λ p. record { count = p.0; lengths = p.1 }) (λ r. (r.count, r.lengths)) (both (short texts) (all_short texts))
 
 -- ---- windows
@@ -103,7 +103,7 @@ kept_short k =
     by (λ h. record { options = h.0; tags = h.1.0; packing = h.1.1.0; content = h.1.1.1 }) (λ r. (r.options, (r.tags, (r.packing, r.content))))
     (both (all_short (values_in_order (options_of k.widget))) (both (tags_short k.tags) (both (packing_short k.packing) (content_short k.widget))))
 
-windows_short : (x : Windows) → Decides (windows_fit x) (WindowsFit x)
+pub windows_short : (x : Windows) → Decides (windows_fit x) (WindowsFit x)
 windows_short x =
     by (λ h. record { count = h.0; paths = h.1.0; kept = h.1.1 }) (λ r. (r.count, (r.paths, r.kept)))
     (both (short x.kept) (both (each (λ w. fits w.path) HasShortPath (λ w. short w.path) x.tree.windows) (each kept_fits KeptFits kept_short x.kept)))
@@ -151,7 +151,7 @@ empty_told : {X : Type 0} (xs : List X) → Decides (is_empty xs) (xs ≡ [])
 empty_told [] = record { says = λ h. refl; told = λ h. refl }
 empty_told (x ∷ xs) = record { says = λ h. absurd cc; told = λ h. absurd cc }
 
-variables_short : (v : Variables) → Decides (variables_fit v) (VariablesFit v)
+pub variables_short : (v : Variables) → Decides (variables_fit v) (VariablesFit v)
 variables_short v =
     by (λ h. record {
       short = record { globals = h.1.0.0; procedures = h.1.1.0 };
@@ -194,14 +194,14 @@ history_short xs =
     by (λ h. record { short = h.0; events = h.1 }) (λ r. (r.short, r.events))
     (both (each event_fits HasShortTexts event_short xs) (each is_event (λ e. is_event e ≡ true) (λ e. itself (is_event e)) xs))
 
-happenings_short : (x : Happenings) → Decides (happenings_fit x) (HappeningsFit x)
+pub happenings_short : (x : Happenings) → Decides (happenings_fit x) (HappeningsFit x)
 happenings_short x =
     by (λ h. record { bindings = h.0; virtuals = h.1.0; history = h.1.1 }) (λ r. (r.bindings, (r.virtuals, r.history)))
     (both (bindings_short x.bindings) (both (virtuals_short x.virtuals) (history_short x.history)))
 
 -- ---- what waits
 
-queue_short : (xs : List Queued) → Decides (queue_fits xs) (QueueFits xs)
+pub queue_short : (xs : List Queued) → Decides (queue_fits xs) (QueueFits xs)
 queue_short xs =
     by (λ h. record { count = h.0; short = h.1.0; events = h.1.1 }) (λ r. (r.count, (r.short, r.events)))
     (both (short xs) (both (each (λ q. event_fits q.event) queues.IsShort (λ q. event_short q.event) xs) (each (λ q. is_event q.event) (λ q. is_event q.event ≡ true) (λ q. itself (is_event q.event)) xs)))
@@ -216,7 +216,7 @@ idles_short xs =
     by (λ h. record { count = h.0; each = h.1 }) (λ r. (r.count, r.each))
     (both (short xs) (each (λ i. fits i.script) IsShortIdle (λ i. short i.script) xs))
 
-waiting_short : (x : after.Content) → Decides (waiting_fits x) (WaitingFits x)
+pub waiting_short : (x : after.Content) → Decides (waiting_fits x) (WaitingFits x)
 waiting_short x =
     by (λ h. record { timers = h.0; idles = h.1.0; sound = h.1.1 }) (λ r. (r.timers, (r.idles, r.sound)))
     (both (timers_short x.timers) (both (idles_short x.idles) (itself (are_waiting x))))

@@ -5,3 +5,4 @@ pub mod OfParts
 pub mod OfWorlds
 pub mod Decisions
 pub mod Decided
+pub mod First

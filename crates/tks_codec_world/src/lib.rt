@@ -13,5 +13,5 @@ mod waits;
 mod windows;
 mod world;
 
-pub use laws::one_world;
+pub use laws::{one_world, the_first_world_has_a_spelling};
 pub use world::{has_spelling, read_world, write_world};

@@ -7,10 +7,10 @@ use Rattle.tks_journal.specs.Moments.{LeavesOnly, IsSettled}
 use Rattle.tks_journal.specs.Resting.{AllHold, OneOf}
 use Rattle.tks_journal.specs.Sides.{holds, with_frames, live_of}
 use Rattle.tks_journal.proofs.Phases.{weaker}
-use Rattle.tks_session.specs.Crash.{AllOpenTo, OpensToPrefix, Stands}
+use Rattle.tks_session.specs.Crash.{AllOpenTo, HoldsAcknowledged, OpensToCount, OpensToPrefix, Stands}
 use Rattle.tks_session.specs.Inputs.{inputs_in}
 use Rattle.tks_session.specs.Machine.{Meaning}
-use Rattle.tks_session.specs.Opening.{opened, opens}
+use Rattle.tks_session.specs.Opening.{opened, opens, run}
 use Rattle.tks_session.proofs.Runs.{frame_more}
 
 module _ {W : Type 0} (m : Meaning W) (reads : Images) (live : Side × ℕ) (body : List ℕ) (inputs : List Input) (is_live : live_of (holds reads) ≡ Some live) (are : inputs_in body ≡ Some inputs) where
@@ -50,3 +50,17 @@ module _ {W : Type 0} (m : Meaning W) (v new : View) (live : Side × ℕ) (body 
 
   pub written_opens : AllOpenTo m new (Ok world)
   written_opens i left = ap (opened m) (all.images i left) ∙ opens_so
+
+-- what is opened after a crash, behind what was acknowledged
+pub keeps_acknowledged : {W : Type 0} (m : Meaning W) (reads : Images) (acknowledged : ℕ) (waiting : List Input) (images : Images) (world : W)
+    → OpensToCount m reads acknowledged → OpensToPrefix m (opens m reads) waiting images → opens m images ≡ Ok world → HoldsAcknowledged m acknowledged waiting world
+keeps_acknowledged m reads acknowledged waiting images world at some is = record {
+  start = at.world;
+  counted = at.counted;
+  behind = record {
+    prefix = some.prefix;
+    others = some.others;
+    parts = some.parts;
+    leaves = ap (λ r. run m r some.prefix) (sym at.opened) ∙ sym some.leaves ∙ is;
+  };
+}

@@ -4,6 +4,6 @@ mod Reading
 mod Rooms
 pub mod Runs
 mod Starts
-mod Crashes
+pub mod Crashes
 pub mod Lives
 pub mod Drains

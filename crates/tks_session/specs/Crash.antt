@@ -24,6 +24,19 @@ module _ {W : Type 0} (m : Meaning W) where
     pub parts : inputs ≡ prefix ++ others
     pub leaves : run m start prefix ≡ Ok world
 
+  -- what is read opens to a state that so many inputs led to
+  pub record OpensToCount (images : Images) (count : ℕ) : Type 0 where
+    pub world : W
+    pub opened : opens m images ≡ Ok world
+    pub counted : m.count world ≡ count
+
+  -- This state is what the first of the inputs that waited leave, each accepted, behind those that were acknowledged.
+  pub record HoldsAcknowledged (acknowledged : ℕ) (waiting : List Input) (world : W) : Type 0 where
+    -- what the acknowledged inputs left, and nothing else
+    pub start : W
+    pub counted : m.count start ≡ acknowledged
+    pub behind : IsRunOfPrefix (Ok start) waiting world
+
   -- these images open to this
   abbrev pub OpensSo : Result W SessionFault → Images → Type 0
   OpensSo result images = opens m images ≡ result

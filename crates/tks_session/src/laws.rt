@@ -1,12 +1,14 @@
 //! Laws of runs and of crashes.
-ghost use Rattle.std.specs.Prelude.{◌≡◌, ◌++◌, List, Result, Ok};
+ghost use Rattle.std.specs.Prelude.{◌≡◌, ◌++◌, List, Result, Ok, false};
 ghost use Rattle.tks_disk.specs.DiskModel.{Images};
 ghost use Rattle.tks_input.specs.declared.input.Input.{Input};
-ghost use Rattle.tks_session.specs.Crash.{IsRunOfPrefix, OpensToPrefix};
+ghost use Rattle.tks_session.specs.Crash.{HoldsAcknowledged, IsRunOfPrefix, OpensToPrefix};
 ghost use Rattle.tks_session.specs.Opening.{opens, run};
 ghost use Rattle.tks_session.specs.declared.fault.SessionFault.{SessionFault};
 
 use crate::machine::Machine;
+use crate::session::Session;
+use tks_disk::Disk;
 
 /// Inputs run one after the other: a run over two lists is a run over the second from where the first one ends.
 #[tactic(auto, using(crate::proofs::Runs::run_on))]
@@ -25,4 +27,16 @@ pub fn a_crash_leaves_a_prefix<M: Machine>(machine: &M)
         → IsRunOfPrefix (M.meaning machine.now) start inputs world }
 {
     let _ = machine;
+}
+
+/// What opening answers after a crash: where the images that it left open to what a prefix of the inputs that wait leaves, as they
+/// do at every moment of a session's calls, a world that is opened is what the first of these inputs leave behind those that
+/// were acknowledged, all of them and nothing else; each input is there whole or not at all.
+pub fn a_crash_keeps_what_was_acknowledged<D: Disk, M: Machine>(session: &Session<D, M>)
+    ensures { (images : Images) (world : M.World) → session.now.journal.failed ≡ false → D.honest session.now.journal.disk
+        → OpensToPrefix (M.meaning session.now.machine) (opens (M.meaning session.now.machine) (D.view session.now.journal.disk).reads) session.now.waiting images
+        → opens (M.meaning session.now.machine) images ≡ Ok world
+        → HoldsAcknowledged (M.meaning session.now.machine) session.now.acknowledged session.now.waiting world }
+{
+    session.stands();
 }

@@ -13,7 +13,7 @@ mod session;
 
 pub use draining::Drained;
 pub use fault::SessionFault;
-pub use laws::{a_crash_leaves_a_prefix, runs_join};
+pub use laws::{a_crash_keeps_what_was_acknowledged, a_crash_leaves_a_prefix, runs_join};
 pub use machine::Machine;
 pub use open::OpenFault;
 pub use session::Session;

@@ -30,7 +30,7 @@ impl<D: Disk, M: Machine> Model for Session<D, M> {
     ghost use Rattle.std.specs.Prelude.{◌≡◌, false, Ok, Some, length};
     ghost use Rattle.tks_session.specs.Inputs.{inputs_in};
     ghost use Rattle.tks_session.specs.Session.{SessionState, HasRoom, IsPending, or_none};
-    ghost use Rattle.tks_session.specs.Crash.{Stands};
+    ghost use Rattle.tks_session.specs.Crash.{OpensToCount, Stands};
 
     ghost Value = { SessionState D M M.World };
 
@@ -38,11 +38,12 @@ impl<D: Disk, M: Machine> Model for Session<D, M> {
 
     ghost invariant = { λ s. IsPending s.body.items s.waiting
         × HasRoom s.journal s.waiting (length s.body.items)
-        × (s.journal.failed ≡ false → D.honest s.journal.disk → Stands (M.meaning s.machine) (D.view s.journal.disk) (or_none (inputs_in s.body.items)) s.world) };
+        × (s.journal.failed ≡ false → D.honest s.journal.disk → Stands (M.meaning s.machine) (D.view s.journal.disk) (or_none (inputs_in s.body.items)) s.world)
+        × (s.journal.failed ≡ false → D.honest s.journal.disk → OpensToCount (M.meaning s.machine) (D.view s.journal.disk).reads s.acknowledged) };
 }
 
 impl<D: Disk, M: Machine> Session<D, M> {
-    ghost use Rattle.tks_session.specs.Crash.{AllOpenTo, OpensToPrefix, Stands};
+    ghost use Rattle.tks_session.specs.Crash.{AllOpenTo, OpensToCount, OpensToPrefix, Stands};
     ghost use Rattle.tks_session.specs.Opening.{opens};
     ghost use Rattle.tks_session.specs.Refusing.{PostRefused};
     ghost use Rattle.tks_session.specs.Session.{CommitFails, SessionState, committed, is_full};
@@ -71,13 +72,15 @@ impl<D: Disk, M: Machine> Session<D, M> {
         }
     }
 
-    /// While no call has failed, the inputs that wait leave the world, behind what the disk opens to; and all that a crash may
-    /// leave opens so.
+    /// While no call has failed, the inputs that wait leave the world, behind what the disk opens to; all that a crash may leave
+    /// opens so; and that is a state to which just the acknowledged inputs led.
     pub fn stands(&self)
         ensures world { self.now.journal.failed ≡ false → D.honest self.now.journal.disk
             → Stands (M.meaning self.now.machine) (D.view self.now.journal.disk) self.now.waiting self.now.world }
         ensures images { self.now.journal.failed ≡ false → D.honest self.now.journal.disk
             → AllOpenTo (M.meaning self.now.machine) (D.view self.now.journal.disk) (opens (M.meaning self.now.machine) (D.view self.now.journal.disk).reads) }
+        ensures acknowledged { self.now.journal.failed ≡ false → D.honest self.now.journal.disk
+            → OpensToCount (M.meaning self.now.machine) (D.view self.now.journal.disk).reads self.now.acknowledged }
     {
         self.journal.stands();
     }

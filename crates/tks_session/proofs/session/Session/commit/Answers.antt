@@ -33,6 +33,21 @@ returns-then-self-eq0-clause-acknowledged g c =
     (λ h. idle_opens m v (c.stands.ensures working h).0 s.world
     (subst (λ w. Stands m v w s.world) (none_there s.body.items s.waiting c.self.invariant.0 c.if-self-eq0.true) (c.self.invariant.2 working h)))
 
+pub invariant_of-self : goal.invariant_of-self
+invariant_of-self g c =
+    let s = c.self.inside in
+    let v = g.D.Disk.view s.journal.disk in
+    let m = g.M.Machine.meaning s.machine in (
+      c.self.invariant.0,
+      c.self.invariant.1,
+      c.self.invariant.2,
+      λ works h. record {
+        world = s.world;
+        opened = subst (λ w. run m (opens m v.reads) w ≡ Ok s.world) (none_there s.body.items s.waiting c.self.invariant.0 c.if-self-eq0.true) (c.self.invariant.2 works h);
+        counted = sym c.count-self-inside.ensures;
+      },
+    )
+
 pub invariant_of-self-in-Ok : goal.invariant_of-self-in-Ok
 invariant_of-self-in-Ok g c =
     let s = c.self.inside in
@@ -47,6 +62,13 @@ invariant_of-self-in-Ok g c =
           subst (λ w. run m (opens m new.reads) w ≡ Ok s.world) (sym (cleared c.clear.new.self.items c.clear.ensures.items))
           (written_stands m v new _ c.deref.result.now (or_none (inputs_in body)) s.world (c.stands.ensures working h).1 (still_read c.deref.result.now body s.waiting c.deref.ensures.value c.self.invariant.0)
           (c.self.invariant.2 working h) (c.in-Ok.ensures.added h)),
+      λ works h1. let h = c.append.ensures.honesty.1 h1 in
+          record {
+            world = s.world;
+            opened = written_stands m v new _ c.deref.result.now (or_none (inputs_in body)) s.world (c.stands.ensures working h).1 (still_read c.deref.result.now body s.waiting c.deref.ensures.value c.self.invariant.0)
+                (c.self.invariant.2 working h) (c.in-Ok.ensures.added h);
+            counted = sym c.count-self-inside-in-Ok.ensures;
+          },
     )
 
 pub returns-in-Ok-clause-ok : goal.returns-in-Ok-clause-ok
