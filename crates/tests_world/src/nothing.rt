@@ -2,12 +2,19 @@
 ghost use Rattle.std.proofs.Props.{props};
 
 use std::alloc::AllocError;
-use tks_app::{AppAnswer, AppBody};
+use tks_app::{AppAnswer, AppBody, AppMeaning};
 use tks_text::Txt;
 
 /// What its commands would run, if there were any: it is refused memory.
 #[derive(Drop)]
 pub struct Nothing;
+
+impl AppMeaning for Nothing {
+    ghost use Rattle.std.specs.Prelude.{[]};
+    ghost use Rattle.tks_app.specs.declared.answer.AppCode.TheVariants.{Error};
+
+    ghost meaning = { λ name memory words. record { code = Error; text = []; memory = memory } };
+}
 
 impl AppBody for Nothing {
     ghost callable = { λ b. Unit {0} };

@@ -5,7 +5,6 @@ use crate::worlds::{first_world, shown};
 use std::alloc::Global;
 use std::str::Split;
 use tks_app::Apps;
-use tks_desk::Own;
 use tks_text::{Limits, Txt};
 use tks_world::{Input, Refused, World, step};
 
@@ -69,7 +68,7 @@ fn refusal(refused: Refused) -> &'static [u8] {
 
 // What an input does to a world: its reply, or why it is refused.
 fn answer(alloc: Global, world: &mut World, limits: &Limits, input: &Input) -> Option<Vec<u8>> {
-    let apps: Apps<Own, Nothing> = Apps::new(alloc);
+    let apps: Apps<Nothing, Nothing> = Apps::new(alloc);
     match step(alloc, world, &apps, input, limits) {
         Ok(reply) => shown(alloc, &reply),
         Err(refused) => Vec::from_slice(alloc, refusal(refused)).ok(),

@@ -4,7 +4,6 @@ use crate::nothing::Nothing;
 use std::alloc::Global;
 use tks_app::Apps;
 use tks_cmd::command;
-use tks_desk::Own;
 use tks_eval::Plan;
 use tks_tcl::Stop;
 use tks_text::{Limits, Size, Txt};
@@ -20,7 +19,7 @@ pub fn first_world(alloc: Global, width: u16, height: u16) -> Option<World> {
 pub fn world_of(alloc: Global, width: u16, height: u16, script: &str) -> Option<World> {
     let mut world = first_world(alloc, width, height)?;
     let input = Input::Script(Txt::from_bytes(alloc, script.as_bytes()).ok()?);
-    let apps: Apps<Own, Nothing> = Apps::new(alloc);
+    let apps: Apps<Nothing, Nothing> = Apps::new(alloc);
     let reply = step(alloc, &mut world, &apps, &input, &Limits::format1()).ok()?;
     if reply.code == 0 { Some(world) } else { None }
 }
@@ -36,7 +35,7 @@ pub fn shown(alloc: Global, reply: &Reply) -> Option<Vec<u8>> {
 // What a script does to a world: its reply, or why it is refused.
 fn answer(alloc: Global, world: &mut World, limits: &Limits, script: &str) -> Option<Vec<u8>> {
     let input = Input::Script(Txt::from_bytes(alloc, script.as_bytes()).ok()?);
-    let apps: Apps<Own, Nothing> = Apps::new(alloc);
+    let apps: Apps<Nothing, Nothing> = Apps::new(alloc);
     match step(alloc, world, &apps, &input, limits) {
         Ok(reply) => shown(alloc, &reply),
         Err(Refused::BadInput) => Vec::from_slice(alloc, b"bad").ok(),

@@ -1,19 +1,20 @@
 -- Runs, in the words of steps.
-use Rattle.std.proofs.Common.{◌≡◌, List, [], ◌∷◌, ◌++◌, Result, Ok, Err, refl, sym, ◌∙◌, ap}
+use Rattle.std.proofs.Common.{◌≡◌, ℕ, List, [], ◌∷◌, ◌++◌, Result, Ok, Err, refl, sym, ◌∙◌, ap}
 use Rattle.tks_text.specs.Size.{Extent}
 use Rattle.tks_text.specs.declared.limits.Limits.{Limits}
 use Rattle.tks_disk.specs.DiskModel.{Images}
 use Rattle.tks_input.specs.declared.input.Input.{Input}
 use Rattle.tks_input.specs.declared.reply.Reply.{Reply}
 use Rattle.tks_input.specs.declared.reply.Refused.{Refused}
-use Rattle.tks_session.specs.Crash.{OpensToPrefix}
+use Rattle.tks_session.specs.Crash.{OpensToCount, OpensToPrefix}
 use Rattle.tks_session.specs.Opening.{opens, run, reached, fault_of}
 use Rattle.tks_session.specs.declared.fault.SessionFault.{SessionFault}
+use Rattle.tks_session.proofs.Crashes.{keeps_acknowledged}
 use Rattle.tks_session.proofs.Runs.{run_fault}
 use Rattle.tks_app.specs.Applications.{Application}
 use Rattle.tks_state.specs.World.{World}
 use Rattle.tks_world.specs.Step.{Stepped, Accepts, Refuses, step}
-use Rattle.tks_terminal.specs.Crash.{Leads, LeadsByFirst}
+use Rattle.tks_terminal.specs.Crash.{Leads, LeadsBehind, LeadsByFirst}
 use Rattle.tks_terminal.specs.Terminals.{as_machine, terminal}
 
 -- the world that a run ends with, or another
@@ -43,3 +44,20 @@ module _ (app : Application) (limits : Limits) (grid : Extent) where
     parts = some.parts;
     leads = runs_lead some.prefix start world (sym some.leaves ∙ is);
   }
+
+-- behind what was acknowledged
+pub behind : (app : Application) (limits : Limits) (grid : Extent) (reads : Images) (acknowledged : ℕ) (waiting : List Input) (images : Images) (world : World)
+    → OpensToCount (terminal app limits grid) reads acknowledged → OpensToPrefix (terminal app limits grid) (opens (terminal app limits grid) reads) waiting images → opens (terminal app limits grid) images ≡ Ok world
+    → LeadsBehind app limits acknowledged waiting world
+behind app limits grid reads acknowledged waiting images world at some is =
+    let kept = keeps_acknowledged (terminal app limits grid) reads acknowledged waiting images world at some is in
+    record {
+      start = kept.start;
+      counted = kept.counted;
+      leads = record {
+        prefix = kept.behind.prefix;
+        others = kept.behind.others;
+        parts = kept.behind.parts;
+        leads = runs_lead app limits grid kept.behind.prefix kept.start world kept.behind.leaves;
+      };
+    }

@@ -7,7 +7,6 @@ use Rattle.tks_codec.specs.Header as header
 use Rattle.tks_codec.specs.Spelling.{Rise}
 use Rattle.tks_tcl.specs.Names.{is_built_in}
 use Rattle.tks_app.specs.Applications.{is_name_byte, is_name, begins_dot, Leads, AreNames}
-use Rattle.tks_terminal.specs.FirstBytes.{are_short}
 
 -- ---- what stands in names
 
@@ -71,26 +70,9 @@ rise : (names : List (List ℕ)) → AreNames names → Rise (λ n. n) None name
 rise [] are = tt
 rise (name ∷ names) are = (refl, rise_behind name names are.1 are.2)
 
-all_short : (names : List (List ℕ)) → AllByRecursion (λ name. length name < 2 ^ 32) names → list_all (λ name. ltb (length name) (2 ^ 32)) names ≡ true
-all_short [] h = refl
-all_short (name ∷ names) h = and_from (ltb (length name) (2 ^ 32)) (list_all (λ name. ltb (length name) (2 ^ 32)) names) (lt-ltb (length name) (2 ^ 32) h.0) (all_short names h.1)
-
 pub header_names : (names : List (List ℕ)) → AreNames names → length names < 2 ^ 32 → header.AreNames names
 header_names names are few = record { count = few; lengths = lengths names are; rise = rise names are }
 
 pub header_texts : (names : List (List ℕ)) → AreNames names → AllByRecursion IsText names
 header_texts [] are = tt
 header_texts (name ∷ names) are = let parts = name_parts name are.0 in (parts.1, header_texts names are.2)
-
-pub short : (names : List (List ℕ)) → AreNames names → length names < 2 ^ 32 → are_short names ≡ true
-short names are few = and_from (ltb (length names) (2 ^ 32)) (list_all (λ name. ltb (length name) (2 ^ 32)) names) (lt-ltb (length names) (2 ^ 32) few) (all_short names (lengths names are))
-
--- names that are told in four bytes each
-pub each_short : (names : List (List ℕ)) → are_short names ≡ true → (length names < 2 ^ 32) × AllByRecursion (λ name. length name < 2 ^ 32) names
-each_short names h =
-    let both = and_parts (ltb (length names) (2 ^ 32)) (list_all (λ name. ltb (length name) (2 ^ 32)) names) h in
-    (ltb-true (length names) (2 ^ 32) both.0, by names both.1)
-  where
-    by : (ns : List (List ℕ)) → list_all (λ name. ltb (length name) (2 ^ 32)) ns ≡ true → AllByRecursion (λ name. length name < 2 ^ 32) ns
-    by [] e = tt
-    by (n ∷ ns) e = let both = and_parts (ltb (length n) (2 ^ 32)) (list_all (λ name. ltb (length name) (2 ^ 32)) ns) e in (ltb-true (length n) (2 ^ 32) both.0, by ns both.1)

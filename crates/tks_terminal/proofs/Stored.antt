@@ -1,18 +1,47 @@
 -- The first world is stored in its bytes.
-use Rattle.std.proofs.Common.{◌≡◌, ◌&&◌, Bool, true, if◌then◌else◌, List, ℕ, Option, Some, None, refl, ap, ◌∙◌}
+use Rattle.std.proofs.Common.{◌≡◌, ◌<◌, ◌≤◌, ◌==◌, ◌&&◌, Bool, true, false, drop, length, List, [], ◌∷◌, ◌++◌, ℕ, suc, zero, Option, Some, None, Ok, Err, refl, sym, ap, ◌∙◌, subst, arith, append-nil}
+use Rattle.std.specs.Bool.{then_some}
 use Rattle.std.specs.Cmp.Lexicographic.{bytes_decides}
-use Rattle.std.proofs.lemmas.Bool.{and_from}
 use Rattle.tks_text.specs.Size.{Extent}
 use Rattle.tks_text.specs.Text.{same_text}
+use Rattle.tks_app.specs.Memories.{first_memories}
+use Rattle.tks_codec.specs.Spelling.{Read}
 use Rattle.tks_codec.specs.declared.header.Header.{Header}
-use Rattle.tks_state.specs.World.{first_world}
-use Rattle.tks_terminal.specs.FirstBytes.{are_short, first_bytes}
-use Rattle.tks_terminal.specs.Terminals.{stored}
+use Rattle.tks_codec_world.specs.World as codec
+use Rattle.tks_codec_world.proofs.OfWorlds.{world_lawful}
+use Rattle.tks_session.specs.Opening.{same_names}
+use Rattle.tks_state.specs.World.{World, first_world}
+use Rattle.tks_terminal.specs.Terminals.{is_nothing, is_stored, names_of, spelled, stored, stored_in}
 
-pub stored_first : (h : Header) (grid : Extent) (names : List (List ℕ)) (bytes : List ℕ) → are_short names ≡ true → bytes ≡ first_bytes names → h.grid ≡ grid → h.names ≡ names
+-- ---- what stands behind what was read
+
+pub nothing_left : (read : ℕ) (bytes : List ℕ) → read ≡ length bytes → is_nothing (drop read bytes) ≡ true
+nothing_left zero [] is = refl
+nothing_left zero (byte ∷ bytes) is = absurd (omega (arith, is))
+nothing_left (suc read) [] is = refl
+nothing_left (suc read) (byte ∷ bytes) is = nothing_left read bytes (omega (arith, is))
+
+pub some_left : (read : ℕ) (bytes : List ℕ) → read < length bytes → is_nothing (drop read bytes) ≡ false
+some_left zero [] less = absurd (omega (arith, less))
+some_left zero (byte ∷ bytes) less = refl
+some_left (suc read) [] less = absurd (omega (arith, less))
+some_left (suc read) (byte ∷ bytes) less = some_left read bytes (omega (arith, less))
+
+-- ---- the first world
+
+names_are : (names : List (List ℕ)) → same_names (names_of (first_memories names)) names ≡ true
+names_are [] = refl
+names_are (name ∷ names) = ap (λ b. b && same_names (names_of (first_memories names)) names) ((bytes_decides name name).1 refl) ∙ names_are names
+
+-- a world whose bytes are read is stored in them, behind a header with the names of its memories
+stored_alone : (names : List (List ℕ)) (world : World) (read : Read World) → read ≡ Ok (world, []) → same_names (names_of world.memories) names ≡ true → stored_in names read ≡ Some world
+stored_alone names world read is same = ap (stored_in names) is ∙ ap (λ (b : Bool). then_some b world) same
+
+pub stored_first : (h : Header) (grid : Extent) (names : List (List ℕ)) (bytes : List ℕ) → (codec.world grid).Legal (first_world grid names) → bytes ≡ spelled (first_world grid names) → h.grid ≡ grid → h.names ≡ names
     → stored h bytes ≡ Some (first_world grid names)
-stored_first h grid names bytes short is same_grid same =
-    let whole : (are_short names && same_text (first_bytes names) (first_bytes names)) ≡ true =
-    and_from (are_short names) (same_text (first_bytes names) (first_bytes names)) short ((bytes_decides (first_bytes names) (first_bytes names)).1 refl) in
-    (λ i. if are_short (same i) && same_text (is i) (first_bytes (same i)) then Some (first_world (same_grid i) (same i)) else None)
-    ∙ ap (λ (b : Bool). if b then Some (first_world grid names) else None) whole
+unfolding spelled codec.world_at
+stored_first h grid names bytes legal is same_grid same =
+    let first = first_world grid names in
+    let reads : codec.world_at grid bytes ≡ Ok (first, []) =
+    ap (codec.world grid).read (is ∙ sym (append-nil ((codec.world grid).write first))) ∙ (world_lawful grid).reads_back first [] legal in
+    (λ i. stored_in (same i) (codec.world_at (same_grid i) bytes)) ∙ stored_alone names first (codec.world_at grid bytes) reads (names_are names)

@@ -10,6 +10,8 @@ use Rattle.tks_input.specs.declared.input.Input.{Input}
 use Rattle.tks_journal.specs.Sides.{Kept, holds}
 use Rattle.tks_journal.specs.declared.fault.SideFault.{SideFault}
 use Rattle.tks_journal.specs.declared.fault.SideFault.TheVariants as side
+use Rattle.tks_limits.specs.Within.{within}
+use Rattle.tks_limits.proofs.Wider.{wider_admits}
 use Rattle.tks_session.specs.Inputs.{inputs_of}
 use Rattle.tks_session.specs.Opening.{opens, opened, run, reached, fault_of, begun, admitted, restored, with_inputs, same_grid, same_names}
 use Rattle.tks_session.specs.declared.fault.SessionFault.{SessionFault}
@@ -19,21 +21,11 @@ use Rattle.tks_app.specs.Applications.{Application}
 use Rattle.tks_state.specs.World.{World, first_world}
 use Rattle.tks_world.specs.Step.{Stepped, Accepts, Refuses, step}
 use Rattle.tks_world.proofs.Wider.{steps_stay}
-use Rattle.tks_terminal.specs.Terminals.{admit, as_machine, stored, terminal}
+use Rattle.tks_terminal.specs.Terminals.{as_machine, stored, terminal}
 
 module _ (app : Application) (limits wider : Limits) (grid : Extent) (wide : Wider limits wider) where
-  -- at least so many, of what may be more
-  so_many_too : (n a b : ℕ) → a ≤ b → leb n a ≡ true → leb n b ≡ true
-  so_many_too n a b least is = let many = leb-true n a is in le-leb n b (omega (arith, many, least))
-
-  admits_too : (world : World) → admit limits world ≡ true → admit wider world ≡ true
-  admits_too world is =
-      let members = length world.memories in
-      let both = and_parts (leb 88 limits.text && leb 25 limits.items) (leb members limits.items) is in
-      let two = and_parts (leb 88 limits.text) (leb 25 limits.items) both.0 in
-      and_from (leb 88 wider.text && leb 25 wider.items) (leb members wider.items)
-      (and_from (leb 88 wider.text) (leb 25 wider.items) (so_many_too 88 limits.text wider.text wide.text two.0) (so_many_too 25 limits.items wider.items wide.items two.1))
-      (so_many_too members limits.items wider.items wide.items both.1)
+  admits_too : (world : World) → within limits world ≡ true → within wider world ≡ true
+  admits_too world = wider_admits limits wider world wide
 
   runs_too : (inputs : List Input) (old new : World) → run (terminal app limits grid) (Ok old) inputs ≡ Ok new → run (terminal app wider grid) (Ok old) inputs ≡ Ok new
   runs_too [] old new is = is
@@ -50,7 +42,7 @@ module _ (app : Application) (limits wider : Limits) (grid : Extent) (wide : Wid
 
   admitted_too : (header : Header) (old : World) (inputs : List Input) (new : World) → run (terminal app limits grid) (admitted (terminal app limits grid) header old) inputs ≡ Ok new
       → run (terminal app wider grid) (admitted (terminal app wider grid) header old) inputs ≡ Ok new
-  admitted_too header old inputs new = by (same_grid header.grid grid) (same_names header.names app.names) (admit limits old) refl
+  admitted_too header old inputs new = by (same_grid header.grid grid) (same_names header.names app.names) (within limits old) refl
     where
       no_run : (fault : SessionFault) → run (terminal app limits grid) (Err fault) inputs ≡ Ok new → ⊥
       no_run fault h = no_world (sym (run_fault (terminal app limits grid) fault inputs) ∙ h)
@@ -58,8 +50,8 @@ module _ (app : Application) (limits wider : Limits) (grid : Extent) (wide : Wid
           no_world : Err fault ≡ Ok new → ⊥
           no_world e = absurd cc
 
-      by : (g n b : Bool) → admit limits old ≡ b → run (terminal app limits grid) (cond g (cond n (cond b (Ok old) (Err SmallerLimits)) (Err OtherCommands)) (Err OtherGrid)) inputs ≡ Ok new
-          → run (terminal app wider grid) (cond g (cond n (cond (admit wider old) (Ok old) (Err SmallerLimits)) (Err OtherCommands)) (Err OtherGrid)) inputs ≡ Ok new
+      by : (g n b : Bool) → within limits old ≡ b → run (terminal app limits grid) (cond g (cond n (cond b (Ok old) (Err SmallerLimits)) (Err OtherCommands)) (Err OtherGrid)) inputs ≡ Ok new
+          → run (terminal app wider grid) (cond g (cond n (cond (within wider old) (Ok old) (Err SmallerLimits)) (Err OtherCommands)) (Err OtherGrid)) inputs ≡ Ok new
       by false n b is h = absurd (no_run OtherGrid h)
       by true false b is h = absurd (no_run OtherCommands h)
       by true true false is h = absurd (no_run SmallerLimits h)
@@ -75,9 +67,9 @@ module _ (app : Application) (limits wider : Limits) (grid : Extent) (wide : Wid
       by (Some inputs) h = admitted_too header old inputs new h
 
   begun_too : (new : World) → begun (terminal app limits grid) ≡ Ok new → begun (terminal app wider grid) ≡ Ok new
-  begun_too new = by (admit limits (first_world grid app.names)) refl
+  begun_too new = by (within limits (first_world grid app.names)) refl
     where
-      by : (b : Bool) → admit limits (first_world grid app.names) ≡ b → cond b (Ok (first_world grid app.names)) (Err SmallerLimits) ≡ Ok new → cond (admit wider (first_world grid app.names)) (Ok (first_world grid app.names)) (Err SmallerLimits) ≡ Ok new
+      by : (b : Bool) → within limits (first_world grid app.names) ≡ b → cond b (Ok (first_world grid app.names)) (Err SmallerLimits) ≡ Ok new → cond (within wider (first_world grid app.names)) (Ok (first_world grid app.names)) (Err SmallerLimits) ≡ Ok new
       by false is h = absurd cc
       by true is h = rw (admits_too (first_world grid app.names) is) h
 

@@ -1,5 +1,5 @@
 -- What a crash leaves of a terminal, in the words of steps.
-use Rattle.std.specs.Prelude.{◌≡◌, List, [], ◌∷◌, ◌++◌}
+use Rattle.std.specs.Prelude.{◌≡◌, ℕ, List, [], ◌∷◌, ◌++◌}
 use Rattle.tks_text.specs.declared.limits.Limits.{Limits}
 use Rattle.tks_input.specs.declared.input.Input.{Input}
 use Rattle.tks_input.specs.declared.reply.Reply.{Reply}
@@ -18,3 +18,9 @@ pub record LeadsByFirst (app : Application) (limits : Limits) (start : World) (i
   pub others : List Input
   pub parts : inputs ≡ prefix ++ others
   pub leads : Leads app limits start prefix world
+
+-- this world is what the first of the inputs that waited lead to, behind a world to which just the acknowledged inputs led
+pub record LeadsBehind (app : Application) (limits : Limits) (acknowledged : ℕ) (waiting : List Input) (world : World) : Type 0 where
+  pub start : World
+  pub counted : start.accepted ≡ acknowledged
+  pub leads : LeadsByFirst app limits start waiting world

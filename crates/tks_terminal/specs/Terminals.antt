@@ -1,37 +1,62 @@
 -- A terminal's meaning (this project's own rule): its states are worlds of scripts, and inputs are steps within its limits.
-use Rattle.std.specs.Prelude.{ℕ, Bool, ◌&&◌, List, length, nat_le, if◌then◌else◌, Option, Some, None}
+use Rattle.std.specs.Prelude.{ℕ, Bool, true, false, ◌&&◌, List, [], ◌∷◌, map, Option, None, Ok, Err}
+use Rattle.std.specs.Bool.{then_some}
 use Rattle.tks_text.specs.Size.{Extent}
-use Rattle.tks_text.specs.Text.{same_text}
 use Rattle.tks_text.specs.declared.limits.Limits.{Limits}
+use Rattle.tks_codec.specs.Spelling.{Read}
 use Rattle.tks_codec.specs.declared.header.Header.{Header}
 use Rattle.tks_app.specs.Applications.{Application}
+use Rattle.tks_app.specs.declared.memories.Memory.{Memory}
+use Rattle.tks_codec_world.specs.World as codec
+use Rattle.tks_limits.specs.Within.{within}
 use Rattle.tks_session.specs.Machine as machine
 use Rattle.tks_session.specs.Machine.{Meaning, accepts, refuses}
+use Rattle.tks_session.specs.Opening.{same_names}
 use Rattle.tks_state.specs.World.{World, first_world}
 use Rattle.tks_world.specs.Step.{Stepped, Accepts, Refuses, step}
-use Rattle.tks_terminal.specs.FirstBytes.{are_short, first_bytes}
 
 -- a step, as a session sees it
 abbrev pub as_machine : Stepped → machine.Stepped World
 as_machine (Accepts world reply) = accepts world reply
 as_machine (Refuses why) = refuses why
 
--- The world that is stored in these bytes. So far a side holds the first one alone.
-abbrev pub stored : Header → List ℕ → Option World
-stored header bytes = if are_short header.names && same_text bytes (first_bytes header.names) then Some (first_world header.grid header.names) else None
+-- ---- what a side holds behind its header
 
--- Whether the limits admit a world that is stored: the first one has 25 bindings, scripts of at most 88 characters, and memories.
-abbrev pub admit : Limits → World → Bool
-admit limits world = nat_le 88 limits.text && nat_le 25 limits.items && nat_le (length world.memories) limits.items
+-- the names of the commands whose memories are kept
+abbrev pub names_of : List Memory → List (List ℕ)
+names_of memories = map (λ m. m.name) memories
+
+-- does nothing stand behind?
+abbrev pub is_nothing : List ℕ → Bool
+is_nothing [] = true
+is_nothing (byte ∷ rest) = false
+
+-- is what was read all, with a memory for each of these names and for no other?
+abbrev pub is_stored : List (List ℕ) → World → List ℕ → Bool
+is_stored names world rest = is_nothing rest && same_names (names_of world.memories) names
+
+abbrev pub stored_in : List (List ℕ) → Read World → Option World
+stored_in names (Err left) = None
+stored_in names (Ok found) = then_some (is_stored names found.0 found.1) found.0
+
+-- The world that is stored in these bytes: they are its spelling on the header's grid, and it has memories of the header's names.
+abbrev pub stored : Header → List ℕ → Option World
+stored header bytes = stored_in header.names (codec.world_at header.grid bytes)
+
+-- the bytes of a world
+unfoldable pub spelled : World → List ℕ
+spelled world = (codec.world world.grid).write world
+
+-- ---- the machine
 
 -- a terminal for an application
 abbrev pub terminal : Application → Limits → Extent → Meaning World
 terminal app limits grid = record {
   step = λ world input. as_machine (step app world input limits);
   first = first_world grid app.names;
-  first_bytes = first_bytes app.names;
+  first_bytes = spelled (first_world grid app.names);
   stored = stored;
-  within = admit limits;
+  within = within limits;
   count = λ world. world.accepted;
   grid = grid;
   names = app.names;

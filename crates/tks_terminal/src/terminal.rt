@@ -1,13 +1,17 @@
 //! The world within limits, with an application's commands, as a session keeps it.
-ghost use Rattle.std.specs.Prelude.{◌≡◌, true};
+ghost use Rattle.std.specs.Prelude.{◌≡◌, ◌<◌, ◌≤◌, ◌^◌, drop, length, IfOk};
+ghost use Rattle.tks_app.specs.Applications.{AreNames};
+ghost use Rattle.tks_codec_world.specs.World as codec;
 ghost use Rattle.tks_session.specs.Opening.{same_names};
-ghost use Rattle.tks_terminal.specs.Terminals.{terminal};
+ghost use Rattle.tks_state.specs.World.{first_world};
+ghost use Rattle.tks_terminal.specs.Terminals.{is_stored, names_of, spelled, terminal};
 
-use crate::first::{are_short, first_bytes};
 use std::alloc::{AllocError, Global};
-use tks_app::{AppBody, AppClosure, AppCommand, AppMeaning, Apps};
-use tks_codec::{Header, one_header};
+use tks_app::{AppBody, AppClosure, AppCommand, AppMeaning, Apps, Memory};
+use tks_codec::{CodecFault, Header, one_header};
+use tks_codec_world::{read_world, write_world};
 use tks_input::{Input, Refused, Reply};
+use tks_limits::is_within;
 use tks_session::Machine;
 use tks_state::World;
 use tks_text::{Limits, Seq, Size, Txt};
@@ -41,6 +45,48 @@ fn are_names<T: AppMeaning, B: AppBody>(names: &[Txt], commands: &[AppCommand<T,
     rest.is_empty() && others.is_empty()
 }
 
+// Whether just these names have memories.
+fn have_memories(memories: &[Memory], names: &[Txt]) -> bool
+    ensures { result ≡ same_names (names_of memories.now) names.now }
+{
+    let mut rest = memories;
+    let mut others = names;
+    while let (Some((memory, behind)), Some((name, more))) = (
+        rest.split_first(),
+        others.split_first(),
+    ) {
+        if memory.name.as_bytes() != name.as_bytes() {
+            return false;
+        }
+        rest = behind;
+        others = more;
+    }
+    rest.is_empty() && others.is_empty()
+}
+
+// Whether a world that was read from so many bytes is what a side holds: these are all, and it has memories of just these names.
+#[tactic(auto, using(crate::proofs::Stored::nothing_left, crate::proofs::Stored::some_left))]
+fn is_stored(world: &World, read: usize, bytes: &[u8], names: &[Txt]) -> bool
+    requires { read ≤ length bytes.now }
+    ensures { result ≡ is_stored names.now world.now (drop read bytes.now) }
+{
+    read == bytes.len() && have_memories(world.memories().all(), names)
+}
+
+// The bytes of the world before any input.
+#[tactic(auto, unfolding(crate::specs::Terminals::spelled), using(tks_codec_world::proofs::First::first_has_spelling))]
+fn first_bytes(alloc: Global, grid: Size, names: &[Txt]) -> Result<Vec<u8>, AllocError>
+    requires names { AreNames names.now }
+    requires few { length names.now < 2 ^ 32 }
+    ensures value { IfOk result (λ bytes. bytes.items ≡ spelled (first_world grid names.now)) }
+    ensures legal { IfOk result (λ bytes. (codec.world grid).Legal (first_world grid names.now)) }
+{
+    let world = World::first(alloc, grid, names)?;
+    let mut bytes = Vec::new(alloc);
+    write_world(alloc, &world, &mut bytes)?;
+    Ok(bytes)
+}
+
 impl<T: AppMeaning, B: AppBody> Machine for Terminal<T, B> {
     type World = World;
 
@@ -60,12 +106,11 @@ impl<T: AppMeaning, B: AppBody> Machine for Terminal<T, B> {
         Ok(world)
     }
 
-    #[tactic(auto, using(crate::proofs::Names::short))]
     fn first_bytes(&self, alloc: Global) -> Result<Vec<u8>, AllocError> {
-        // The names are those of commands, so they are short.
+        // The names are those of commands.
         let _ = self.apps.commands();
         let names = self.apps.names(alloc)?;
-        let bytes = first_bytes(alloc, names.as_slice())?;
+        let bytes = first_bytes(alloc, self.grid, names.as_slice())?;
         Ok(bytes)
     }
 
@@ -75,15 +120,14 @@ impl<T: AppMeaning, B: AppBody> Machine for Terminal<T, B> {
         header: &Header,
         bytes: &[u8],
     ) -> Result<Option<World>, AllocError> {
-        let names = header.names.as_slice();
-        if !are_short(names) {
-            return Ok(None);
+        match read_world(alloc, header.grid, bytes) {
+            Ok((world, read)) => {
+                let is_whole = is_stored(&world, read, bytes, header.names.as_slice());
+                Ok(is_whole.then_some(world))
+            }
+            Err(CodecFault::Bad(_)) => Ok(None),
+            Err(CodecFault::NoMemory) => Err(AllocError),
         }
-        if bytes != first_bytes(alloc, names)?.as_slice() {
-            return Ok(None);
-        }
-        let world = World::first(alloc, header.grid, names)?;
-        Ok(Some(world))
     }
 
     #[tactic(auto, using(crate::proofs::Names::header_names, crate::proofs::Names::header_texts))]
@@ -106,9 +150,7 @@ impl<T: AppMeaning, B: AppBody> Machine for Terminal<T, B> {
     }
 
     fn is_within(&self, world: &World) -> bool {
-        88 <= self.limits.text
-            && 25 <= self.limits.items
-            && world.memories().all().len() <= self.limits.items as usize
+        is_within(world, &self.limits)
     }
 
     fn count(&self, world: &World) -> u64 {

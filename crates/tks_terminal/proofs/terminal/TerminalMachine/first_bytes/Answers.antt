@@ -1,10 +1,13 @@
-use Rattle.std.proofs.Common.{ap, ◌∙◌}
-use Rattle.tks_terminal.specs.FirstBytes.{first_bytes}
-use Rattle.tks_terminal.proofs.Names.{short}
+use Rattle.std.proofs.Common.{List, ℕ, ◌∙◌, ap, subst}
+use Rattle.tks_codec_world.specs.World as codec
+use Rattle.tks_state.specs.World.{first_world}
+use Rattle.tks_terminal.specs.Terminals.{spelled}
 use Rattle.tks_terminal.proofs.Stored.{stored_first}
 use Rattle.tks_terminal.proofs.terminal.TerminalMachine.first_bytes.Goals as goal
 
 pub returns-clause-stored : goal.returns-clause-stored
 returns-clause-stored g c = λ h grid names.
-    stored_first h c.args.self.now.grid c.args.self.now.apps c.in_ok-bytes.bytes.items (short c.args.self.now.apps c.commands.ensures.names c.commands.ensures.count)
-    (c.in_ok-bytes.ensures ∙ ap first_bytes (c.as_slice.ensures ∙ c.in_ok-names.ensures)) grid names
+    let t = c.args.self.now in
+    let same = c.as_slice.ensures ∙ c.in_ok-names.ensures in
+    stored_first h t.grid t.apps c.in_ok-bytes.bytes.items (subst (λ (n : List (List ℕ)). (codec.world t.grid).Legal (first_world t.grid n)) same c.in_ok-bytes.ensures.legal)
+    (c.in_ok-bytes.ensures.value ∙ ap (λ (n : List (List ℕ)). spelled (first_world t.grid n)) same) grid names
