@@ -6,9 +6,10 @@
 # What only this project rules is asked of wish in other words: the last newline is neither deleted nor tagged, so a place
 # behind it is `end -1c` there; marks stand before it; a line below the first is the first one, with the column kept; white
 # space may stand before a base; a base `L.C` goes before a mark of that name; `insert` with tags and `delete` read all
-# their words in a disabled text too; a gravity that isn't one is an error about the words; `tag add` makes its tag on an empty range too, and
-# `tag remove` makes none. Abbreviated keywords, counts in
-# octal or hex digits, and a sign or a blank within `L.C` are not drawn.
+# their words in a disabled text too; a gravity that isn't one is an error about the words; `tag add` makes its tag on an
+# empty range too, and `tag remove` makes none. Lines past the last are this project's rule too (they are `end`), and are
+# asked as they are, since wish says the same. Abbreviated keywords, counts in octal or hex digits, and a sign or a blank
+# within `L.C` are not drawn.
 source [file join [file dirname [info script]] sessions.tcl]
 lassign $argv base texts commands seed
 expr {srand($seed)}

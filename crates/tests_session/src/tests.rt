@@ -32,8 +32,8 @@ const LOG: Log = Log {
 };
 
 // A session's life on this disk: how many letters were acknowledged, and the disk.
-fn lived<D: Disk + Drop>(alloc: Global, disk: D, acts: &[u8]) -> (Option<u64>, D) {
-    match Session::open(alloc, disk, LOG) {
+fn lived<D: Disk + Drop>(alloc: Global, disk: D, log: Log, acts: &[u8]) -> (Option<u64>, D) {
+    match Session::open(alloc, disk, log) {
         Ok(mut session) => {
             let told = lives(alloc, &mut session, acts);
             (told, session.close().0)
@@ -53,8 +53,14 @@ fn left(kind: usize) -> Left {
 }
 
 // Whether the disk opens to a prefix of the letters that has at least so many.
-fn opens_to_prefix(alloc: Global, disk: MemoryDisk, letters: &[u8], told: u64) -> Option<bool> {
-    match Session::open(alloc, disk, LOG) {
+fn opens_to_prefix(
+    alloc: Global,
+    disk: MemoryDisk,
+    log: Log,
+    letters: &[u8],
+    told: u64,
+) -> Option<bool> {
+    match Session::open(alloc, disk, log) {
         Ok(session) => {
             let world = session.world().as_bytes();
             Some(
@@ -69,15 +75,15 @@ fn opens_to_prefix(alloc: Global, disk: MemoryDisk, letters: &[u8], told: u64) -
 }
 
 // Stopped after so many calls of the disk and crashed in each way: how many letters were acknowledged, where each opens to a
-// prefix with these.
-fn stopped(alloc: Global, calls: u64) -> Option<u64> {
-    let (told, fuse) = lived(alloc, Fuse::new(MemoryDisk::new(alloc), calls), b"a.bc.de.");
+// prefix of all the letters with these.
+fn stopped(alloc: Global, calls: u64, log: Log, acts: &[u8], letters: &[u8]) -> Option<u64> {
+    let (told, fuse) = lived(alloc, Fuse::new(MemoryDisk::new(alloc), calls), log, acts);
     let told = told?;
     let disk = fuse.into_inner();
     for a in 0..5 {
         for b in 0..5 {
             let crashed = disk.crash(alloc, left(a), left(b)).ok()?;
-            if opens_to_prefix(alloc, crashed, b"abcde", told) != Some(true) {
+            if opens_to_prefix(alloc, crashed, log, letters, told) != Some(true) {
                 return None;
             }
         }
@@ -90,11 +96,32 @@ fn each_stop_leaves_a_prefix_with_all_that_was_acknowledged(rt: HostRuntime) {
     let alloc = rt.alloc();
     let mut last = 0;
     for calls in 0..60 {
-        let told = stopped(alloc, calls);
+        let told = stopped(alloc, calls, LOG, b"a.bc.de.", b"abcde");
         assert!(rt; told.is_some(), "after {calls} calls");
         last = told.unwrap_or(0);
     }
     assert_eq!(rt; last, 5);
+}
+
+// Thirty inputs with twelve commits; the last one isn't committed.
+const ACTS: &[u8] = b"a.bc.d.efg.hijk.l.mnopq.rs.t.uvw.xy.zABC.D";
+
+const LETTERS: &[u8] = b"abcdefghijklmnopqrstuvwxyzABCD";
+
+#[test]
+fn each_stop_of_a_long_session_leaves_a_prefix_too(rt: HostRuntime) {
+    let alloc = rt.alloc();
+    let log = Log {
+        limit: 30,
+        pending: 5,
+    };
+    let mut last = 0;
+    for calls in 0..110 {
+        let told = stopped(alloc, calls, log, ACTS, LETTERS);
+        assert!(rt; told.is_some(), "after {calls} calls");
+        last = told.unwrap_or(0);
+    }
+    assert_eq!(rt; last, 29);
 }
 
 // A disk of these bytes.

@@ -1,0 +1,105 @@
+//! What a commit writes, and what a crash leaves of it.
+
+use crate::own::{Body, bytes_of, left_by, opens_and_tells, terminal, told};
+use std::alloc::Global;
+use tks_desk::Own;
+use tks_disk::{Fuse, Left, MemoryDisk, Side};
+use tks_session::Session;
+use tks_terminal::Terminal;
+use tks_text::Limits;
+
+fn format1(alloc: Global) -> Option<Terminal<Own, Body>> {
+    terminal(alloc, 3, Limits::format1())
+}
+
+// An open gate, the frame's length, the input, and the next gate, closed.
+const FRAME: &[u8] = b"\x01\0\0\0\x0c\x01\0\0\0\x07set x 5\0";
+
+// Whether the commit of a script puts just this frame behind the side's first gate.
+fn frame(alloc: Global) -> Option<bool> {
+    let before = bytes_of(alloc, &mut left_by(alloc, b"commit\n")?, Side::A)?;
+    let after = bytes_of(
+        alloc,
+        &mut left_by(alloc, b"cmd set x 5\ncommit\n")?,
+        Side::A,
+    )?;
+    let (gate, front) = before.as_slice().split_last()?;
+    Some(*gate == 0 && after.as_slice().strip_prefix(front)? == FRAME)
+}
+
+#[test]
+fn a_commit_writes_a_frame(rt: HostRuntime) {
+    assert_eq!(rt; frame(rt.alloc()), Some(true));
+}
+
+// A store with `set a 1`, on which `set a 2` is posted and committed, stopped after so many calls of the disk: whether the
+// commit was told, and the disk.
+fn second_commit(alloc: Global, calls: u64) -> Option<(bool, MemoryDisk)> {
+    let disk = left_by(alloc, b"cmd set a 1\ncommit\n")?;
+    match Session::open(alloc, Fuse::new(disk, calls), format1(alloc)?) {
+        Ok(mut session) => {
+            told(alloc, &mut session, b"cmd set a 2\n")?;
+            let is_told = session.commit().is_ok();
+            Some((is_told, session.close().0.into_inner()))
+        }
+        Err(refused) => Some((false, refused.disk.into_inner())),
+    }
+}
+
+// With how many calls the commit is told.
+fn calls_of_commit(alloc: Global) -> Option<u64> {
+    for calls in 0..40 {
+        if second_commit(alloc, calls)?.0 {
+            return Some(calls);
+        }
+    }
+    None
+}
+
+// Whether what such a crash leaves opens to this value behind so many inputs.
+fn leaves(alloc: Global, disk: &MemoryDisk, left: Left, want: &[u8]) -> Option<bool> {
+    let crashed = disk.crash(alloc, left, Left::Old).ok()?;
+    opens_and_tells(alloc, crashed, format1(alloc)?, b"cmd set a\n", want)
+}
+
+// A commit is two writes, each with a sync behind it. With the first write the gate stays out of what is torn, whatever byte it
+// leaves; with the second the frame counts where the gate reads 1.
+fn torn(alloc: Global) -> Option<bool> {
+    let last = calls_of_commit(alloc)?;
+    let (_, body) = second_commit(alloc, last.checked_sub(3)?)?;
+    let (_, gate) = second_commit(alloc, last.checked_sub(1)?)?;
+    let (is_told, whole) = second_commit(alloc, last)?;
+    let (one, two) = (b"ok 2 1\n", b"ok 3 2\n");
+    Some(
+        leaves(alloc, &body, Left::Fill(1), one)?
+            && leaves(alloc, &body, Left::New, one)?
+            && leaves(alloc, &body, Left::Old, one)?
+            && leaves(alloc, &gate, Left::Old, one)?
+            && leaves(alloc, &gate, Left::Fill(255), one)?
+            && leaves(alloc, &gate, Left::Fill(1), two)?
+            && leaves(alloc, &gate, Left::New, two)?
+            && is_told
+            && leaves(alloc, &whole, Left::Old, two)?,
+    )
+}
+
+#[test]
+fn a_commit_that_is_torn(rt: HostRuntime) {
+    assert_eq!(rt; torn(rt.alloc()), Some(true));
+}
+
+// Whether an application's counter and the word that it keeps go on behind a restart where they were committed.
+fn restarted(alloc: Global) -> Option<bool> {
+    let lines =
+        b"cmd app.next\ncmd app.next\ncmd app.swap kept\ncommit\ncmd app.next; app.swap lost\n";
+    let disk = left_by(alloc, lines)?
+        .crash(alloc, Left::Old, Left::Old)
+        .ok()?;
+    let more = b"cmd app.next\ncmd app.swap other\n";
+    opens_and_tells(alloc, disk, format1(alloc)?, more, b"ok 4 3\nok 5 kept\n")
+}
+
+#[test]
+fn an_application_goes_on_behind_a_restart(rt: HostRuntime) {
+    assert_eq!(rt; restarted(rt.alloc()), Some(true));
+}

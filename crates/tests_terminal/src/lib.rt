@@ -1,0 +1,12 @@
+//! Tests of terminals on a disk: what a store is opened for, what a crash leaves of a commit, and closures that are refused
+//! memory.
+#![tactic(auto)]
+
+#[cfg(test)]
+mod closures;
+#[cfg(test)]
+mod crashes;
+#[cfg(test)]
+mod own;
+#[cfg(test)]
+mod stores;
