@@ -5,6 +5,7 @@ use std::alloc::Global;
 use tks_app::Apps;
 use tks_cmd::command;
 use tks_eval::Plan;
+use tks_limits::is_within;
 use tks_tcl::Stop;
 use tks_text::{Limits, Size, Txt};
 use tks_vars::Vars;
@@ -202,4 +203,24 @@ fn a_world_counts_and_keeps_variables(rt: HostRuntime) {
     assert_eq!(rt; world.accepted(), 1);
     let before = world.replace_variables(Vars::new(rt.alloc()));
     assert_eq!(rt; before.depth(), world.variables().depth());
+}
+
+// Whether the first world keeps within limits of these lengths.
+fn first_keeps(alloc: Global, text: u32, items: u32) -> Option<bool> {
+    let world = first_world(alloc, 20, 3)?;
+    let limits = Limits {
+        text,
+        items,
+        ..Limits::format1()
+    };
+    Some(is_within(&world, &limits))
+}
+
+// Its longest text is a script of 88 characters, and it has 25 bindings.
+#[test]
+fn what_the_first_world_takes(rt: HostRuntime) {
+    let alloc = rt.alloc();
+    assert_eq!(rt; first_keeps(alloc, 88, 25), Some(true));
+    assert_eq!(rt; first_keeps(alloc, 87, 25), Some(false));
+    assert_eq!(rt; first_keeps(alloc, 88, 24), Some(false));
 }
