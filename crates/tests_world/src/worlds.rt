@@ -175,22 +175,25 @@ fn limits_of_what_widgets_hold_are_kept(rt: HostRuntime) {
     assert_eq!(rt; differing_row(rt.alloc(), &HELD), "none");
 }
 
+// Whether a world and its copy, in which `x` is 5, change each for itself.
+fn go_their_ways(alloc: Global, world: &mut World, copy: &mut World) -> bool {
+    let limits = Limits::format1();
+    let same_grid = copy.grid().width() == 20 && copy.grid().height() == 3;
+    same_grid
+        && differing(alloc, world, &limits, &[("set x 6", "2 0 6")]) == "none"
+        && differing(alloc, copy, &limits, &[("set x", "2 0 5")]) == "none"
+}
+
+// Whether a world's copy goes its own way.
+fn copy_goes_its_own_way(alloc: Global) -> Option<bool> {
+    let mut world = world_of(alloc, 20, 3, "set x 5")?;
+    let mut copy = world.try_clone().ok()?;
+    Some(go_their_ways(alloc, &mut world, &mut copy))
+}
+
 #[test]
 fn a_copy_goes_its_own_way(rt: HostRuntime) {
-    let alloc = rt.alloc();
-    let limits = Limits::format1();
-    let Some(mut world) = world_of(alloc, 20, 3, "set x 5") else {
-        return assert!(rt; false, "no world");
-    };
-    let Ok(mut copy) = world.try_clone() else {
-        return assert!(rt; false, "no copy");
-    };
-    let rows = [("set x 6", "2 0 6")];
-    assert_eq!(rt; differing(alloc, &mut world, &limits, &rows), "none");
-    let rows = [("set x", "2 0 5")];
-    assert_eq!(rt; differing(alloc, &mut copy, &limits, &rows), "none");
-    assert_eq!(rt; copy.grid().width(), 20);
-    assert_eq!(rt; copy.grid().height(), 3);
+    assert_eq!(rt; copy_goes_its_own_way(rt.alloc()), Some(true));
 }
 
 #[test]
