@@ -3,7 +3,7 @@ ghost use Rattle.std.specs.Prelude.{◌≡◌, ℕ, List, IfOk};
 ghost use Rattle.tks_app.specs.declared.answer.AppAnswer.{AppAnswer};
 ghost use Rattle.tks_desk.specs.Own.{swap_of};
 
-use crate::own::{tells, told};
+use crate::own::{Body, fault_of, opens_and_tells, tells, told};
 use std::alloc::{AllocError, Global};
 use tks_app::{AppAnswer, AppBody, AppClosure, AppCommand, Apps};
 use tks_desk::{Own, swap_word};
@@ -44,21 +44,17 @@ fn is_refused_whole<B: AppBody>(alloc: Global, body: B) -> Option<bool>
 }
 
 // Whether the store that the calls leave isn't opened, and is handed back as it was.
-fn is_refused_in_opening<B: AppBody>(alloc: Global, willing: B, body: B, again: B) -> Option<bool>
-    requires willing { B.callable willing × ((memory : List ℕ) (words : List (List ℕ)) (a : AppAnswer) → B.may_answer willing memory words a → a ≡ swap_of memory words) }
+fn is_refused_in_opening<B: AppBody>(alloc: Global, body: B) -> Option<bool>
     requires body { B.callable body × ((memory : List ℕ) (words : List (List ℕ)) (a : AppAnswer) → B.may_answer body memory words a → a ≡ swap_of memory words) }
-    requires again { B.callable again × ((memory : List ℕ) (words : List (List ℕ)) (a : AppAnswer) → B.may_answer again memory words a → a ≡ swap_of memory words) }
 {
-    let first = swapping(alloc, willing)?;
+    let first = swapping(alloc, Body { alloc, swaps: true })?;
     let mut session = Session::open(alloc, MemoryDisk::new(alloc), first).ok()?;
     let accepted = tells(alloc, &mut session, CALLS, b"ok 1 ccc\n")?;
     told(alloc, &mut session, b"commit\n")?;
-    let Err(refused) = Session::open(alloc, session.close().0, swapping(alloc, body)?) else {
-        return Some(false);
-    };
-    let mut session = Session::open(alloc, refused.disk, swapping(alloc, again)?).ok()?;
-    let kept = tells(alloc, &mut session, b"cmd app.swap e\n", b"ok 2 dddd\n")?;
-    Some(accepted && refused.fault == SessionFault::NoMemory && kept)
+    let (fault, disk) = fault_of(alloc, session.close().0, swapping(alloc, body)?)?;
+    let again = swapping(alloc, Body { alloc, swaps: true })?;
+    let kept = opens_and_tells(alloc, disk, again, b"cmd app.swap e\n", b"ok 2 dddd\n")?;
+    Some(accepted && fault == SessionFault::NoMemory && kept)
 }
 
 #[test]
@@ -91,12 +87,6 @@ fn a_closure_that_is_refused_memory_refuses_the_input(rt: HostRuntime) {
 fn a_closure_that_is_refused_memory_refuses_the_opening(rt: HostRuntime) {
     let alloc = rt.alloc();
     for call in 0..4 {
-        let willing = Box::new(
-            alloc,
-            move |memory: &Txt, words: &[Txt]| -> Result<AppAnswer, AllocError>
-                ensures { IfOk result (λ a. a ≡ swap_of memory.now words.now) }
-            { swap_word(alloc, memory, words) },
-        );
         let body = Box::new(
             alloc,
             move |memory: &Txt, words: &[Txt]| -> Result<AppAnswer, AllocError>
@@ -108,20 +98,12 @@ fn a_closure_that_is_refused_memory_refuses_the_opening(rt: HostRuntime) {
                 swap_word(alloc, memory, words)
             },
         );
-        let again = Box::new(
-            alloc,
-            move |memory: &Txt, words: &[Txt]| -> Result<AppAnswer, AllocError>
-                ensures { IfOk result (λ a. a ≡ swap_of memory.now words.now) }
-            { swap_word(alloc, memory, words) },
-        );
-        let refused = match (willing, body, again) {
-            (Ok(willing), Ok(body), Ok(again)) => {
-                let willing: AppClosure = willing;
+        let refused = match body {
+            Ok(body) => {
                 let body: AppClosure = body;
-                let again: AppClosure = again;
-                is_refused_in_opening(alloc, willing, body, again)
+                is_refused_in_opening(alloc, body)
             }
-            _ => None,
+            Err(_) => None,
         };
         assert_eq!(rt; refused, Some(true), "at call {call}");
     }
