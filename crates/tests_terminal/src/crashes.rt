@@ -62,24 +62,42 @@ fn leaves(alloc: Global, disk: &MemoryDisk, left: Left, want: &[u8]) -> Option<b
     opens_and_tells(alloc, crashed, format1(alloc)?, b"cmd set a\n", want)
 }
 
+// Whether each of these crashes leaves what opens so.
+fn all_leave(alloc: Global, disk: &MemoryDisk, rows: &[(Left, &[u8])]) -> Option<bool> {
+    for (left, want) in rows {
+        if !leaves(alloc, disk, *left, want)? {
+            return Some(false);
+        }
+    }
+    Some(true)
+}
+
+// The same of a commit that is stopped after so many calls, and whether it is told.
+fn stopped(alloc: Global, calls: u64, is_told: bool, rows: &[(Left, &[u8])]) -> Option<bool> {
+    let (was_told, disk) = second_commit(alloc, calls)?;
+    if was_told != is_told {
+        return Some(false);
+    }
+    all_leave(alloc, &disk, rows)
+}
+
 // A commit is two writes, each with a sync behind it. With the first write the gate stays out of what is torn, whatever byte it
 // leaves; with the second the frame counts where the gate reads 1.
 fn torn(alloc: Global) -> Option<bool> {
     let last = calls_of_commit(alloc)?;
-    let (_, body) = second_commit(alloc, last.checked_sub(3)?)?;
-    let (_, gate) = second_commit(alloc, last.checked_sub(1)?)?;
-    let (is_told, whole) = second_commit(alloc, last)?;
-    let (one, two) = (b"ok 2 1\n", b"ok 3 2\n");
+    let (one, two) = (b"ok 2 1\n".as_slice(), b"ok 3 2\n".as_slice());
+    let body = [(Left::Fill(1), one), (Left::New, one), (Left::Old, one)];
+    let gate = [
+        (Left::Old, one),
+        (Left::Fill(255), one),
+        (Left::Fill(1), two),
+        (Left::New, two),
+    ];
+    let whole = [(Left::Old, two)];
     Some(
-        leaves(alloc, &body, Left::Fill(1), one)?
-            && leaves(alloc, &body, Left::New, one)?
-            && leaves(alloc, &body, Left::Old, one)?
-            && leaves(alloc, &gate, Left::Old, one)?
-            && leaves(alloc, &gate, Left::Fill(255), one)?
-            && leaves(alloc, &gate, Left::Fill(1), two)?
-            && leaves(alloc, &gate, Left::New, two)?
-            && is_told
-            && leaves(alloc, &whole, Left::Old, two)?,
+        stopped(alloc, last.checked_sub(3)?, false, &body)?
+            && stopped(alloc, last.checked_sub(1)?, false, &gate)?
+            && stopped(alloc, last, true, &whole)?,
     )
 }
 

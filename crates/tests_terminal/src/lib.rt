@@ -1,9 +1,9 @@
 //! Tests of terminals on a disk: what a store is opened for, what a crash leaves of a commit, runs over readers and writers
-//! that break, and closures that are refused memory.
+//! that break, and a command that is refused memory.
 #![tactic(auto)]
 
 #[cfg(test)]
-mod closures;
+mod applications;
 #[cfg(test)]
 mod crashes;
 #[cfg(test)]
