@@ -1,6 +1,6 @@
 //! Runs over readers and writers that a row has not: such as break, are narrow, or hold long lines.
 
-use crate::own::{Body, terminal};
+use crate::own::{Body, left_by, opens_and_tells, terminal};
 use std::alloc::Global;
 use std::io;
 use std::io::{BufRead, ErrorKind, Read, Write};
@@ -223,6 +223,31 @@ fn a_reader_that_breaks(rt: HostRuntime) {
     }
 }
 
+// Whether a session's run ends with its writer, which takes so many bytes and perhaps doesn't flush, and what it took by then.
+fn ends_with_its_writer(
+    alloc: Global,
+    session: &mut Session<MemoryDisk, Terminal<Own, Body>>,
+    most: usize,
+    flushes: bool,
+    want: &[u8],
+) -> bool {
+    let mut reader: &[u8] = b"cmd set x 5\ncmd set x 6\ncmd set x 7\n";
+    let mut writer = Narrow {
+        held: Vec::new(alloc),
+        most,
+        interrupts: false,
+        flushes,
+    };
+    let end = run(alloc, &mut reader, &mut writer, session);
+    told(&end) == "write fault" && writer.held.as_slice() == want
+}
+
+// The same of a fresh session.
+fn breaks(alloc: Global, most: usize, flushes: bool, want: &[u8]) -> Option<bool> {
+    let mut session = fresh_session(alloc)?;
+    Some(ends_with_its_writer(alloc, &mut session, most, flushes, want))
+}
+
 #[test]
 fn a_writer_that_breaks(rt: HostRuntime) {
     let rows: [(usize, bool, &[u8]); 5] = [
@@ -233,19 +258,11 @@ fn a_writer_that_breaks(rt: HostRuntime) {
         (100, false, b"ok 1 5\n"),
     ];
     for (most, flushes, want) in rows {
-        let Some(mut session) = fresh_session(rt.alloc()) else {
-            return assert!(rt; false, "no session");
-        };
-        let mut reader: &[u8] = b"cmd set x 5\ncmd set x 6\ncmd set x 7\n";
-        let mut writer = Narrow {
-            held: Vec::new(rt.alloc()),
-            most,
-            interrupts: false,
-            flushes,
-        };
-        let end = run(rt.alloc(), &mut reader, &mut writer, &mut session);
-        assert_eq!(rt; told(&end), "write fault");
-        assert_eq!(rt; writer.held.as_slice(), want);
+        assert_eq!(rt;
+            breaks(rt.alloc(), most, flushes, want),
+            Some(true),
+            "at {most}"
+        );
     }
 }
 
@@ -273,29 +290,25 @@ fn no_more_than_64_inputs_wait(rt: HostRuntime) {
     assert!(rt; answers.as_slice().ends_with(want));
 }
 
-// What a session answers that is opened on what a crash leaves of another one's disk.
-fn talk_after_crash(alloc: Global, first: &[u8], second: &[u8]) -> Option<Vec<u8>> {
-    let mut session = fresh_session(alloc)?;
-    let mut unread = Vec::new(alloc);
-    let mut lines = first;
-    run(alloc, &mut lines, &mut unread, &mut session).ok()?;
-    let (disk, terminal) = session.close();
-    let left = disk.crash(alloc, Left::Old, Left::Old).ok()?;
-    let mut session = Session::open(alloc, left, terminal).ok()?;
-    let mut written = Vec::new(alloc);
-    let mut lines = second;
-    run(alloc, &mut lines, &mut written, &mut session).ok()?;
-    Some(written)
+// Whether what was committed stands behind a crash, and what was not is gone.
+fn committed_stands(alloc: Global) -> Option<bool> {
+    let first = b"cmd set x 5\ncmd label .l -text old; pack .l\ncommit\ncmd set x 6\n";
+    let second = b"cmd set x\nscreen\ncommit\n";
+    let want =
+        b"ok 3 5\n|        old         |\n|                    |\n|                    |\ncommitted 3\n";
+    let left = left_by(alloc, first)?
+        .crash(alloc, Left::Old, Left::Old)
+        .ok()?;
+    opens_and_tells(
+        alloc,
+        left,
+        terminal(alloc, 3, Limits::format1())?,
+        second,
+        want,
+    )
 }
 
 #[test]
 fn what_was_committed_stands(rt: HostRuntime) {
-    let first = b"cmd set x 5\ncmd label .l -text old; pack .l\ncommit\ncmd set x 6\n";
-    let second = b"cmd set x\nscreen\ncommit\n";
-    let want =
-        b"ok 3 5\n|        old         |\n|                    |\n|                    |\ncommitted 3\n".as_slice();
-    match talk_after_crash(rt.alloc(), first, second) {
-        Some(written) => assert_eq!(rt; written.as_slice(), want),
-        None => assert!(rt; false, "no session"),
-    }
+    assert_eq!(rt; committed_stands(rt.alloc()), Some(true));
 }
