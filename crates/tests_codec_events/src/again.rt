@@ -1,4 +1,5 @@
 //! Reading, and writing again what was read, and the bytes behind it.
+ghost use Rattle.std.specs.Prelude.{◌≤◌, ◌^◌};
 
 use std::alloc::Global;
 use tks_codec_events::{
@@ -40,7 +41,9 @@ pub fn sequence_again(alloc: Global, bytes: &[u8]) -> Option<Vec<u8>> {
 }
 
 /// Bindings with this next number.
-pub fn bindings_again(alloc: Global, next: u64, bytes: &[u8]) -> Option<Vec<u8>> {
+pub fn bindings_again(alloc: Global, next: u64, bytes: &[u8]) -> Option<Vec<u8>>
+    requires { next ≤ 2 ^ 62 }
+{
     let mut out = Vec::new(alloc);
     let Ok((bindings, rest)) = bindings_of(alloc, next, bytes) else {
         return None;
@@ -92,7 +95,9 @@ pub fn queue_again(alloc: Global, bytes: &[u8]) -> Option<Vec<u8>> {
 }
 
 /// Timers and idle scripts with this next id.
-pub fn waiting_again(alloc: Global, next: u64, bytes: &[u8]) -> Option<Vec<u8>> {
+pub fn waiting_again(alloc: Global, next: u64, bytes: &[u8]) -> Option<Vec<u8>>
+    requires { next ≤ 2 ^ 62 }
+{
     let mut out = Vec::new(alloc);
     let Ok((timers, rest)) = waiting_of(alloc, next, bytes) else {
         return None;

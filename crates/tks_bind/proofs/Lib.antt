@@ -11,3 +11,6 @@ mod Winning
 mod Order
 mod Deciding
 mod Winner
+mod Differing
+mod Forming
+mod VirtualForming

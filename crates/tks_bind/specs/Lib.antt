@@ -7,6 +7,8 @@ pub mod Beating
 pub mod Search
 pub mod Percents
 pub mod Binding
+pub mod Distinct
+pub mod WellFormed
 pub mod Indexes
 pub mod VirtualEvents
 pub mod VirtualIndexes

@@ -3,7 +3,13 @@ use Rattle.std.specs.Prelude.{ℕ, ◌||◌, Bool, false, if◌then◌else◌, L
 use Rattle.tks_text.specs.Text.{same_text}
 use Rattle.tks_event.specs.Equality.{equal_patterns}
 use Rattle.tks_event.specs.declared.pattern.Pattern.{Pattern}
+use Rattle.tks_bind.specs.Percents.{is_virtual}
 use Rattle.tks_bind.specs.declared.virtual_event.VirtualEvent.{VirtualEvent}
+
+-- whether it is the sequence of a virtual event
+abbrev pub is_of_name : List Pattern → Bool
+is_of_name [] = false
+is_of_name (p ∷ ps) = is_virtual p.kind
 
 abbrev pub is_named : List ℕ → VirtualEvent → Bool
 is_named name v = same_text v.name name

@@ -1,5 +1,5 @@
 //! The bindings.
-ghost use Rattle.std.specs.Prelude.{◌≡◌, ◌≢◌, ◌↔◌, ◌≤◌, ◌<◌, ◌^◌, [], ◌∷◌, ◌++◌, length, map, Some, None, Err, IsSome, is_some, IfSome, IfOk, OnOk, OnErr, option_copied};
+ghost use Rattle.std.specs.Prelude.{◌≡◌, ◌≢◌, ◌↔◌, ◌≤◌, ◌<◌, ◌^◌, true, [], ◌∷◌, ◌++◌, length, map, Some, None, Err, IsSome, is_some, IfSome, IfOk, OnOk, OnErr, option_copied};
 ghost use Rattle.std.specs.List.{remove};
 ghost use Rattle.tks_text.specs.Text.{IsText};
 ghost use Rattle.tks_event.specs.Canonical.{canonical};
@@ -7,6 +7,7 @@ ghost use Rattle.tks_bind.specs.Binding.{Content, nothing, script_for, placed, w
 ghost use Rattle.tks_bind.specs.Chosen.{ChosenSo};
 ghost use Rattle.tks_bind.specs.Choosing.{chosen};
 ghost use Rattle.tks_bind.specs.Indexes.{index_of, index_tagged};
+ghost use Rattle.tks_bind.specs.WellFormed.{are_bindings, others_are_below, WellFormedBindings};
 
 use crate::binding::Binding;
 use crate::fault::BindFault;
@@ -38,6 +39,10 @@ impl Model for Bindings {
     ghost Value = { Views };
 
     ghost view = { λ b. record { present = record { bindings = b.bindings.present; next = b.next }; at_mark = then_of b.bindings.at_mark b.next_at_mark } };
+
+    ghost use Rattle.tks_bind.specs.WellFormed.{WellFormedBindings};
+
+    ghost invariant = { λ b. WellFormedBindings (record { present = record { bindings = b.bindings.present; next = b.next }; at_mark = then_of b.bindings.at_mark b.next_at_mark }) };
 }
 
 impl Bindings {
@@ -54,7 +59,10 @@ impl Bindings {
     }
 
     /// These bindings, in order, and this next number, with no mark, so that they are made again from what there was.
+    /// Their numbers are below the next one, and they differ in their numbers, and in their tags or their sequences.
     pub fn restore(alloc: Global, bindings: Vec<Binding>, next: u64) -> Result<Bindings, AllocError>
+        requires small { next ≤ 2 ^ 62 }
+        requires formed { are_bindings next bindings.items ≡ true }
         ensures { IfOk result (λ made. made ≡ record { present = record { bindings = bindings.items; next = next }; at_mark = None }) }
     {
         Ok(Bindings {
@@ -67,7 +75,8 @@ impl Bindings {
 
     /// The number that the next binding gets.
     pub fn next(&self) -> u64
-        ensures { result ≡ self.now.present.next }
+        ensures value { result ≡ self.now.present.next }
+        ensures formed { WellFormedBindings self.now }
     {
         self.next
     }
@@ -131,6 +140,7 @@ impl Bindings {
         ensures ok { OnOk result (self.new ≡ record self.old { present = bound tag sequence script.now self.old.present }) }
         ensures full { (result ≡ Err BindFault.OutOfNumbers) ↔ ((script.now ≢ []) × (2 ^ 62 ≤ self.old.present.next)) }
         ensures err { OnErr result (self.new ≡ self.old) }
+        ensures latest { OnOk result (others_are_below self.old.present.next tag sequence self.new.present.bindings ≡ true) }
     {
         if script.as_bytes().is_empty() {
             self.unset(&tag, &sequence);
@@ -169,7 +179,8 @@ impl Bindings {
     // Takes a binding away, if it is there.
     #[tactic(auto, using(crate::proofs::Placing::taken_there, crate::proofs::Placing::none_taken))]
     fn unset(&mut self, tag: &Txt, sequence: &Sequence)
-        ensures { self.new ≡ record self.old { present = unset tag.now sequence.now self.old.present } }
+        ensures value { self.new ≡ record self.old { present = unset tag.now sequence.now self.old.present } }
+        ensures latest { others_are_below self.old.present.next tag.now sequence.now self.new.present.bindings ≡ true }
     {
         let index = index_of(&self.bindings, tag, sequence);
         if index < self.bindings.len() {
@@ -182,6 +193,7 @@ impl Bindings {
         requires { self.old.present.next < 2 ^ 62 }
         ensures ok { OnOk result (self.new ≡ record self.old { present = set tag sequence script self.old.present }) }
         ensures err { OnErr result (self.new ≡ self.old) }
+        ensures latest { OnOk result (others_are_below self.old.present.next tag sequence self.new.present.bindings ≡ true) }
     {
         let binding = Binding {
             number: self.next,

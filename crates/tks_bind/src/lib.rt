@@ -26,5 +26,5 @@ pub use laws::{
 pub use matching::is_of_button;
 pub use search::occurs;
 pub use substitution::percents;
-pub use virtual_event::VirtualEvent;
+pub use virtual_event::{VirtualEvent, is_of_name};
 pub use virtuals::Virtuals;

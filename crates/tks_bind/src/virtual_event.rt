@@ -1,6 +1,7 @@
 ghost use Rattle.std.specs.Prelude.{◌≡◌, [], ◌∷◌, ◌++◌, IfOk};
-ghost use Rattle.tks_bind.specs.VirtualEvents.{has_sequence, other_sequences};
+ghost use Rattle.tks_bind.specs.VirtualEvents.{has_sequence, is_of_name, other_sequences};
 
+use crate::field::is_virtual;
 use std::alloc::{AllocError, Global};
 use tks_event::{Sequence, are_equal};
 use tks_text::{Seq, Txt};
@@ -39,6 +40,16 @@ impl VirtualEvent {
             name: self.name.try_clone()?,
             sequences: copied(alloc, self.sequences.as_slice())?,
         })
+    }
+}
+
+/// Whether it is the sequence of a virtual event.
+pub fn is_of_name(sequence: &Sequence) -> bool
+    ensures { result ≡ is_of_name sequence.now }
+{
+    match sequence.as_slice() {
+        [pattern, ..] => is_virtual(pattern.kind),
+        [] => false,
     }
 }
 

@@ -1,7 +1,9 @@
 //! The virtual events.
-ghost use Rattle.std.specs.Prelude.{◌≡◌, [], ◌∷◌, length, Some, None, IsSome, is_some, IfSome, IfOk, OnOk, OnErr, option_copied, slice_get};
+ghost use Rattle.std.specs.Prelude.{◌≡◌, true, [], ◌∷◌, length, Some, None, IsSome, is_some, IfSome, IfOk, OnOk, OnErr, option_copied, slice_get};
 ghost use Rattle.tks_bind.specs.VirtualEvents.{sequences_of, added, deleted, deleted_sequence};
 ghost use Rattle.tks_bind.specs.VirtualIndexes.{index_of, found};
+ghost use Rattle.std.specs.List.{AllByRecursion};
+ghost use Rattle.tks_bind.specs.WellFormed.{is_met, are_virtuals, WellFormedVirtuals};
 
 use crate::virtual_event::{VirtualEvent, has_sequence, others, with_one_more};
 use std::alloc::{AllocError, Global};
@@ -24,6 +26,10 @@ impl Model for Virtuals {
     ghost Value = { Views VirtualEvent };
 
     ghost view = { λ v. v.events };
+
+    ghost use Rattle.tks_bind.specs.WellFormed.{WellFormedVirtuals};
+
+    ghost invariant = { λ v. WellFormedVirtuals v.events };
 }
 
 impl Virtuals {
@@ -37,8 +43,11 @@ impl Virtuals {
         }
     }
 
-    /// These virtual events, in order, with no mark, so that they are made again from what there was.
+    /// These virtual events, in order, with no mark, so that they are made again from what there was. Their names differ,
+    /// and each has sequences, which differ.
     pub fn restore(alloc: Global, events: Vec<VirtualEvent>) -> Result<Virtuals, AllocError>
+        requires names { are_virtuals events.items ≡ true }
+        requires met { AllByRecursion (λ v. is_met v ≡ true) events.items }
         ensures { IfOk result (λ made. made ≡ record { present = events.items; at_mark = None }) }
     {
         Ok(Virtuals {
@@ -132,7 +141,8 @@ impl Virtuals {
 
     /// Whether a mark stands.
     pub fn is_marked(&self) -> bool
-        ensures { result ≡ is_some self.now.at_mark }
+        ensures value { result ≡ is_some self.now.at_mark }
+        ensures formed { WellFormedVirtuals self.now }
     {
         self.events.is_marked()
     }

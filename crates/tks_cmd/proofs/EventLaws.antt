@@ -1,6 +1,6 @@
 -- What holds of the commands on bindings and events: what comes of them is no error that is told as one, and wider limits
 -- keep it, where it passed none.
-use Rattle.std.proofs.Common.{◌≡◌, ℕ, ◌++◌, ◌^◌, ◌==◌, nat_lt, Bool, true, false, if◌then◌else◌, List, [], ◌∷◌, length, codes, Option, Some, None, Result, Ok, Err, refl}
+use Rattle.std.proofs.Common.{◌+◌, ◌≡◌, ℕ, ◌++◌, ◌^◌, ◌==◌, nat_lt, Bool, true, false, if◌then◌else◌, List, [], ◌∷◌, length, codes, Option, Some, None, Result, Ok, Err, refl}
 use Rattle.tks_text.specs.Text.{same_text}
 use Rattle.tks_text.specs.Limits.{Wider}
 use Rattle.tks_text.specs.declared.limits.Limits.{Limits}
@@ -34,7 +34,7 @@ use Rattle.tks_cmd.specs.Events.{event_read, sent, generated, generate_does}
 use Rattle.tks_cmd.specs.VirtualEvents as virtuals
 use Rattle.tks_cmd.specs.VirtualEvents.{name_read, all_read, with_all, virtuals_within, added, add_does, delete_does}
 use Rattle.tks_cmd.specs.Focus.{path_at, focus_event, focus_moved, focus_given, focus_on, focus_does, focus_next_does, focus_previous_does}
-use Rattle.tks_cmd.specs.After.{id_text, delay_read, due_after, timers_within, idles_within, timer_kept, idle_kept, script_read, delay_does, idle_does, cancel_does, info_does, form_does, some_does, after_does}
+use Rattle.tks_cmd.specs.After.{id_text, delay_read, timers_within, idles_within, timer_kept, idle_kept, script_read, delay_does, idle_does, cancel_does, info_does, form_does, some_does, after_does}
 use Rattle.tks_cmd.specs.EventCommands.{told, event_form_does, event_does, event_command_does}
 use Rattle.tks_cmd.specs.declared.events.When.{When}
 use Rattle.tks_cmd.specs.declared.events.When.TheVariants as when
@@ -223,7 +223,7 @@ module _ (limits wider : Limits) (wide : Wider limits wider) where
   timer_keeps : (delay : ℕ) (script : List ℕ) (w : World) → Keeps (timer_kept limits delay script w) (timer_kept wider delay script w)
   timer_keeps delay script w =
       if_keeps (nat_lt w.timers.next (2 ^ 62))
-      (after_keeps (timers_keep (with_timer (due_after w.clock delay) script w)) (λ u. itself (Ok (w.timers.next, u)))) (itself (Err OverLimit))
+      (after_keeps (timers_keep (with_timer (w.clock + delay) script w)) (λ u. itself (Ok (w.timers.next, u)))) (itself (Err OverLimit))
     where
       timers_keep : (u : World) → Keeps (timers_within limits u) (timers_within wider u)
       timers_keep u = room_keeps _ _ (at_most_holds (length u.timers.timers) limits.items wider.items wide.items) (itself (Ok u))

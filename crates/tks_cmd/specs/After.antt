@@ -1,6 +1,6 @@
 -- `after` (after(n); how ids are counted and written, which errors there are, their order and the limits are this
 -- project's own rules).
-use Rattle.std.specs.Prelude.{ℕ, ℤ, pos, negsuc, ◌+◌, ◌-◌, ◌^◌, nat_le, nat_lt, if◌then◌else◌, codes, decimal, List, [], ◌∷◌, ◌++◌, map, take, drop, length, Option, Some, None, Result, Ok, Err}
+use Rattle.std.specs.Prelude.{ℕ, ℤ, pos, negsuc, ◌+◌, ◌^◌, nat_le, nat_lt, if◌then◌else◌, codes, decimal, List, [], ◌∷◌, ◌++◌, map, take, drop, length, Option, Some, None, Result, Ok, Err}
 use Rattle.std.specs.Option.{option_and_then}
 use Rattle.tks_text.specs.Integer.{integer_of}
 use Rattle.tks_text.specs.Text.{same_text}
@@ -45,14 +45,6 @@ delay_of (negsuc n) = Ok 0
 abbrev pub delay_read : List ℕ → Result ℕ Cause
 delay_read text = after (integer_in text) delay_of
 
--- no later than this
-abbrev pub last_time : ℕ
-last_time = 2 ^ 62 - 1
-
--- so many milliseconds from a time on, or as late as may be
-abbrev pub due_after : ℕ → ℕ → ℕ
-due_after time delay = if nat_le (time + delay) last_time then time + delay else last_time
-
 module _ (limits : Limits) where
   -- neither list of scripts that wait passes a limit
   abbrev pub timers_within : World → Result World Cause
@@ -64,7 +56,7 @@ module _ (limits : Limits) where
   -- a script takes the next id, where there is one
   abbrev pub timer_kept : ℕ → List ℕ → World → Result (ℕ × World) Cause
   timer_kept delay script w =
-      if nat_lt w.timers.next (2 ^ 62) then after (timers_within (with_timer (due_after w.clock delay) script w)) (λ u. Ok (w.timers.next, u)) else Err OverLimit
+      if nat_lt w.timers.next (2 ^ 62) then after (timers_within (with_timer (w.clock + delay) script w)) (λ u. Ok (w.timers.next, u)) else Err OverLimit
 
   abbrev pub idle_kept : List ℕ → World → Result (ℕ × World) Cause
   idle_kept script w = if nat_lt w.timers.next (2 ^ 62) then after (idles_within (with_idle script w)) (λ u. Ok (w.timers.next, u)) else Err OverLimit

@@ -1,6 +1,6 @@
 -- `event add`, `event delete` and `event info` (event(n); which errors there are, their order and the limits are this
 -- project's own rules).
-use Rattle.std.specs.Prelude.{ℕ, Bool, false, ◌&&◌, nat_le, if◌then◌else◌, List, [], ◌∷◌, map, length, Result, Ok, Err}
+use Rattle.std.specs.Prelude.{ℕ, ◌&&◌, nat_le, if◌then◌else◌, List, [], ◌∷◌, map, length, Result, Ok, Err}
 use Rattle.tks_text.specs.declared.fault.ErrorNumber.TheVariants.{BadSequence}
 use Rattle.tks_text.specs.declared.limits.Limits.{Limits}
 use Rattle.tks_tcl.specs.Cause.{Cause, Fault, OverLimit, after, about, value_or_fault, wrong_words}
@@ -10,7 +10,7 @@ use Rattle.tks_event.specs.Reading.{one_pattern_of, sequence_of}
 use Rattle.tks_event.specs.declared.pattern.Pattern.{Pattern}
 use Rattle.tks_event.specs.declared.pattern.Repeated.{Repeated}
 use Rattle.tks_bind.specs.Percents.{is_virtual}
-use Rattle.tks_bind.specs.VirtualEvents.{sequences_of}
+use Rattle.tks_bind.specs.VirtualEvents.{is_of_name, sequences_of}
 use Rattle.tks_bind.specs.declared.virtual_event.VirtualEvent.{VirtualEvent}
 use Rattle.tks_state.specs.World.{World, with_virtual, without_virtual, without_virtual_sequence}
 use Rattle.tks_cmd.specs.Changes.{Changed, silent, each}
@@ -28,11 +28,6 @@ name_in text r = if is_virtual r.pattern.kind then Ok r.pattern.detail else bad_
 -- the name that a text has between double brackets
 abbrev pub name_read : List ℕ → Result (List ℕ) Cause
 name_read text = after (value_or_fault (one_pattern_of text)) (name_in text)
-
--- whether it is the sequence of a virtual event
-abbrev pub is_of_name : List Pattern → Bool
-is_of_name [] = false
-is_of_name (p ∷ ps) = is_virtual p.kind
 
 -- a virtual event is met by sequences of physical ones alone
 abbrev pub physical_in : List ℕ → List Pattern → Result (List Pattern) Cause

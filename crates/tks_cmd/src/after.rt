@@ -1,12 +1,12 @@
 //! `after`.
-ghost use Rattle.std.specs.Prelude.{◌≡◌, [], ◌∷◌, decimal, map, IfOk};
+ghost use Rattle.std.specs.Prelude.{◌≡◌, ◌+◌, [], ◌∷◌, decimal, map, IfOk};
 ghost use Rattle.tks_text.specs.Integer.{integer_of};
 ghost use Rattle.tks_tcl.specs.Cause.{bare};
 ghost use Rattle.tks_tcl.specs.Meets.{GivesSo, TellsSo};
 ghost use Rattle.tks_list.specs.Quoting.{joined};
-ghost use Rattle.tks_timer.specs.After.{ids};
+ghost use Rattle.tks_timer.specs.After.{ids, no_later};
 ghost use Rattle.tks_timer.specs.Waits.{waiting_seen};
-ghost use Rattle.tks_cmd.specs.After.{id_text, number_among, id_of, delay_of, delay_read, due_after, timers_within, idles_within, timer_kept, idle_kept, script_read, delay_does, idle_does, id_alone, cancelled_id, cancelled, cancel_does, in_order, ids_text, kept_text, kept_told, info_does, form_does, after_does};
+ghost use Rattle.tks_cmd.specs.After.{id_text, number_among, id_of, delay_of, delay_read, timers_within, idles_within, timer_kept, idle_kept, script_read, delay_does, idle_does, id_alone, cancelled_id, cancelled, cancel_does, in_order, ids_text, kept_text, kept_told, info_does, form_does, after_does};
 ghost use Rattle.tks_cmd.specs.Meets.{KeepsSo};
 
 use itoa::Buffer;
@@ -19,9 +19,6 @@ use tks_timer::{AfterFault, Timers, Waiting};
 
 /// The most milliseconds that may be waited for.
 const MAX_DELAY: i64 = 2_147_483_647;
-
-/// The last time, in milliseconds.
-const LAST_TIME: u64 = (1 << 62) - 1;
 
 // A number in decimal.
 #[tactic(auto, using(crate::proofs::Digits::count_is_text))]
@@ -101,14 +98,11 @@ fn delay_read(text: &Txt) -> Result<u64, Interrupt>
     delay_of(delay)
 }
 
-// So many milliseconds from a time on, or as late as may be.
+// So many milliseconds from a time on, or as late as can be told.
 fn due_after(time: u64, delay: u64) -> u64
-    ensures { result ≡ due_after time delay }
+    ensures { no_later result ≡ no_later (time + delay) }
 {
-    match time.checked_add(delay) {
-        Some(due) if due <= LAST_TIME => due,
-        _ => LAST_TIME,
-    }
+    time.saturating_add(delay)
 }
 
 // The script that words make, which passes no limit.

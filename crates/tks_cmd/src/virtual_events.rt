@@ -3,11 +3,11 @@ ghost use Rattle.std.specs.Prelude.{◌≡◌, IfOk, OnOk};
 ghost use Rattle.tks_tcl.specs.Cause.{about};
 ghost use Rattle.tks_tcl.specs.Meets.{GivesSo, TellsSo};
 ghost use Rattle.tks_event.specs.Canonical.{virtual_text};
-ghost use Rattle.tks_cmd.specs.VirtualEvents.{name_in, name_read, is_of_name, physical_in, physical_read, all_read, with_all, virtuals_within, added, add_does, without_all, deleted, delete_does, names, spelled, names_text, sequences_text, info_does};
+ghost use Rattle.tks_cmd.specs.VirtualEvents.{name_in, name_read, physical_in, physical_read, all_read, with_all, virtuals_within, added, add_does, without_all, deleted, delete_does, names, spelled, names_text, sequences_text, info_does};
 ghost use Rattle.tks_cmd.specs.Meets.{KeepsSo};
 
 use std::alloc::{AllocError, Global};
-use tks_bind::{Virtuals, is_virtual};
+use tks_bind::{Virtuals, is_of_name, is_virtual};
 use tks_event::{Repeated, Sequence, parse_pattern, parse_sequence};
 use tks_list::join;
 use tks_state::World;
@@ -39,16 +39,6 @@ fn name_read(alloc: Global, text: &Txt) -> Result<Txt, Interrupt>
 {
     let repeated = parse_pattern(alloc, text)?;
     name_in(text, repeated)
-}
-
-// Whether it is the sequence of a virtual event.
-fn is_of_name(sequence: &Sequence) -> bool
-    ensures { result ≡ is_of_name sequence.now }
-{
-    match sequence.as_slice() {
-        [pattern, ..] => is_virtual(pattern.kind),
-        [] => false,
-    }
 }
 
 // The sequence of physical events that a text spells.

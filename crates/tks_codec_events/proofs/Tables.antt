@@ -1,13 +1,18 @@
 -- What holds of the spellings of bindings and virtual events.
-use Rattle.std.proofs.Common.{ℕ, refl, ap, arith}
+use Rattle.std.proofs.Common.{◌≡◌, ℕ, true, List, [], ◌∷◌, Option, Some, None, Ok, refl, ap, arith}
+use Rattle.std.specs.Prelude.{◌&&◌}
+use Rattle.std.specs.List.{AllByRecursion}
 use Rattle.std.specs.Int.{w64}
+use Rattle.tks_text.proofs.Texts.{both}
+use Rattle.tks_event.specs.Sequences.{is_name}
 use Rattle.tks_bind.specs.declared.binding.Binding.{Binding}
 use Rattle.tks_bind.specs.declared.virtual_event.VirtualEvent.{VirtualEvent}
-use Rattle.tks_codec.specs.Spelling.{Lawful, list}
+use Rattle.tks_codec.specs.Spelling.{Lawful, IsBytes, AreLegal, list}
 use Rattle.tks_codec.proofs.EachKind.{wide64, number_lawful, test_lawful, field_lawful, through_lawful, list_lawful, text_lawful}
 use Rattle.tks_codec_events.specs.Sequence.{sequence}
-use Rattle.tks_codec_events.specs.Bindings.{binding, are_bindings, bindings}
-use Rattle.tks_codec_events.specs.Virtuals.{is_met, named, virtual_event, are_virtuals, virtuals}
+use Rattle.tks_bind.specs.WellFormed.{are_bindings, is_met, are_virtuals}
+use Rattle.tks_codec_events.specs.Bindings.{binding, bindings}
+use Rattle.tks_codec_events.specs.Virtuals.{are_physical, is_virtual_event, named, virtual_event, virtuals}
 use Rattle.tks_codec_events.proofs.Sequencing.{sequence_lawful}
 
 binding_lawful : Lawful binding
@@ -26,7 +31,15 @@ named_lawful =
     through_lawful (λ v. v.sequences) _ _ (λ sequences k. refl) (list_lawful (λ before. sequence) (λ before. sequence_lawful)))
 
 virtual_event_lawful : Lawful virtual_event
-virtual_event_lawful = test_lawful is_met named (λ v h. omega arith) named_lawful
+virtual_event_lawful = test_lawful is_virtual_event named (λ v h. omega arith) named_lawful
+
+-- those that are read have sequences, which differ
+pub read_met : (bytes : List ℕ) (vs : List VirtualEvent) (rest : List ℕ) → IsBytes bytes → (list virtual_event).read bytes ≡ Ok (vs, rest) → AllByRecursion (λ v. is_met v ≡ true) vs
+read_met bytes vs rest fits e = met None vs ((list_lawful (λ before. virtual_event) (λ before. virtual_event_lawful)).nothing_else bytes vs rest fits e).legal.1
+  where
+    met : (before : Option VirtualEvent) (vs : List VirtualEvent) → AreLegal (λ before. virtual_event) before vs → AllByRecursion (λ v. is_met v ≡ true) vs
+    met before [] h = tt
+    met before (v ∷ vs) h = ((both (are_physical v.sequences) (is_met v) (both (is_name v.name) (are_physical v.sequences && is_met v) h.0.1).1).1, met (Some v) vs h.1)
 
 pub virtuals_lawful : Lawful virtuals
 virtuals_lawful = test_lawful are_virtuals (list virtual_event) (λ v h. omega arith) (list_lawful (λ before. virtual_event) (λ before. virtual_event_lawful))

@@ -10,7 +10,8 @@ use Rattle.tks_codec.proofs.EachKind.{wide64, number_lawful, test_lawful, field_
 use Rattle.tks_codec_events.specs.Event.{event}
 use Rattle.tks_codec_events.specs.History.{is_history, history}
 use Rattle.tks_codec_events.specs.Queue.{queued, queue}
-use Rattle.tks_codec_events.specs.Timers.{timer, idle, are_waiting, lists, waiting}
+use Rattle.tks_timer.specs.WellFormed.{are_waiting}
+use Rattle.tks_codec_events.specs.Timers.{timer, idle, lists, waiting}
 use Rattle.tks_codec_events.proofs.Eventful.{event_lawful}
 
 pub history_lawful : Lawful history

@@ -1,11 +1,10 @@
 -- Bindings as bytes (this project's own format).
-use Rattle.std.specs.Prelude.{ℕ, ◌<◌, ◌^◌, Bool, ◌&&◌, ◌==◌, not, nat_lt, List, [], ◌∷◌, length}
+use Rattle.std.specs.Prelude.{ℕ, ◌<◌, ◌^◌, List, [], ◌∷◌, length}
 use Rattle.std.specs.Int.{w64}
-use Rattle.std.specs.List.{list_all, AllByRecursion}
+use Rattle.std.specs.List.{AllByRecursion}
 use Rattle.tks_bind.specs.declared.binding.Binding.{Binding}
-use Rattle.tks_bind.specs.Binding.{is_for}
+use Rattle.tks_bind.specs.WellFormed.{are_bindings}
 use Rattle.tks_codec.specs.Spelling.{Read, Spelling, number, such_that, field, through, list, text}
-use Rattle.tks_codec_events.specs.Distinct.{all_differ}
 use Rattle.tks_codec_events.specs.Sequence.{sequence, HasShortDetail}
 
 -- a binding: its number, its tag, its sequence, its script
@@ -23,14 +22,6 @@ binding_parts b = (number w64).write b.number ∷ text.write b.tag ∷ sequence.
 -- the binding at the front of bytes, and what stands behind it
 unfoldable pub binding_at : List ℕ → Read Binding
 binding_at bytes = binding.read bytes
-
--- whether two bindings have other numbers, and other tags or other sequences
-abbrev pub differ : Binding → Binding → Bool
-differ b c = not (b.number == c.number) && not (is_for b.tag b.sequence c)
-
--- whether numbers are below the next one, and bindings differ
-abbrev pub are_bindings : ℕ → List Binding → Bool
-are_bindings next bs = list_all (λ b. nat_lt b.number next) bs && all_differ differ bs
 
 -- bindings in the order in which they were made, given the next number
 abbrev pub bindings : ℕ → Spelling (List Binding)

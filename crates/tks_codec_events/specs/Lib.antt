@@ -1,7 +1,6 @@
 pub mod Kind
 pub mod Sequence
 pub mod Event
-pub mod Distinct
 pub mod Bindings
 pub mod Virtuals
 pub mod History

@@ -1,12 +1,13 @@
 //! Bindings.
-ghost use Rattle.std.specs.Prelude.{◌≡◌, ◌<◌, ◌^◌, length, nat_lt, true, None, IfOk, OnOk};
+ghost use Rattle.std.specs.Prelude.{◌≡◌, ◌<◌, ◌≤◌, ◌^◌, length, nat_lt, true, None, IfOk, OnOk};
 ghost use Rattle.std.specs.List.{AllByRecursion, list_all};
+ghost use Rattle.tks_bind.specs.WellFormed.{are_bindings};
 ghost use Rattle.tks_codec.specs.Reading.{Gives};
 ghost use Rattle.tks_codec.specs.Writing.{PutsSo, joined};
 ghost use Rattle.tks_codec_events.specs.Bindings as tables;
-ghost use Rattle.tks_codec_events.specs.Bindings.{binding_at, binding_parts, are_bindings, bindings_at, IsShortBinding};
+ghost use Rattle.tks_codec_events.specs.Bindings.{binding_at, binding_parts, bindings_at, IsShortBinding};
 
-use crate::distinct::{Distinct, items_differ};
+use crate::distinct::{Distinct, all_differ};
 use crate::member::{Member, is_short, list_of, put_items};
 use crate::sequence::{put_sequence, sequence_of};
 use std::alloc::{AllocError, Global};
@@ -15,7 +16,6 @@ use tks_codec::Unread;
 use tks_codec::reading::{text_of, u64_of};
 use tks_codec::writing::{put_text, put_u64};
 use tks_event::are_equal;
-use tks_mark::Items;
 
 // A binding.
 #[tactic(auto, unfolding(crate::specs::Bindings::binding_at, crate::specs::Sequence::sequence_at))]
@@ -73,7 +73,7 @@ impl Member for Binding {
 }
 
 impl Distinct for Binding {
-    ghost use Rattle.tks_codec_events.specs.Bindings.{differ};
+    ghost use Rattle.tks_bind.specs.WellFormed.{differ};
 
     ghost differs = { differ };
 
@@ -85,41 +85,36 @@ impl Distinct for Binding {
 }
 
 // Whether numbers are below the next one.
-fn are_below(bindings: Items<'_, Binding>, next: u64) -> bool
-    ensures { result ≡ list_all (λ b. nat_lt b.number next) bindings.entry }
+fn are_below(bindings: &[Binding], next: u64) -> bool
+    ensures { result ≡ list_all (λ b. nat_lt b.number next) bindings.now }
 {
-    for binding in bindings {
-        if binding.number >= next {
-            return false;
-        }
-    }
-    true
+    bindings.iter().all(|binding| binding.number < next)
 }
 
-/// Whether numbers are below the next one, and bindings differ in their numbers, and in their tags or their sequences.
-pub fn are_bindings(bindings: &Bindings) -> bool
-    ensures { result ≡ are_bindings bindings.now.present.next bindings.now.present.bindings }
+// Whether numbers are below the next one, and bindings differ in their numbers, and in their tags or their sequences.
+fn are_bindings(bindings: &[Binding], next: u64) -> bool
+    ensures { result ≡ are_bindings next bindings.now }
 {
-    are_below(bindings.bindings(), bindings.next()) && items_differ(bindings.bindings())
+    are_below(bindings, next) && all_differ(bindings)
 }
 
 /// Bindings with this next number, with no mark.
 #[tactic(auto, unfolding(crate::specs::Bindings::bindings_at))]
 pub fn bindings_of(alloc: Global, next: u64, bytes: &[u8]) -> Result<(Bindings, &[u8]), Unread>
+    requires { next ≤ 2 ^ 62 }
     ensures reads { Gives (λ x. (x.0.present.bindings, x.1.now)) result (bindings_at next bytes.now) }
     ensures next { IfOk result (λ x. x.0.present.next ≡ next) }
     ensures unmarked { IfOk result (λ x. x.0.at_mark ≡ None) }
 {
     let (bindings, rest) = list_of::<Binding>(alloc, bytes)?;
-    let bindings = Bindings::restore(alloc, bindings, next)?;
-    if !are_bindings(&bindings) {
+    if !are_bindings(&bindings, next) {
         return Err(Unread::Left(rest.len() + 1));
     }
+    let bindings = Bindings::restore(alloc, bindings, next)?;
     Ok((bindings, rest))
 }
 
-/// Adds bindings, but not the next number. They are read back where they are bindings
-/// (`are_bindings`).
+/// Adds bindings, but not the next number.
 pub fn put_bindings(out: &mut Vec<u8>, bindings: &Bindings) -> Result<(), AllocError>
     requires few { length bindings.now.present.bindings < 2 ^ 32 }
     requires short { AllByRecursion IsShortBinding bindings.now.present.bindings }

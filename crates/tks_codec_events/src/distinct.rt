@@ -1,9 +1,7 @@
 //! Lists whose members differ.
 ghost use Rattle.std.specs.Prelude.{◌≡◌};
 ghost use Rattle.std.specs.List.{list_all};
-ghost use Rattle.tks_codec_events.specs.Distinct.{first_differs, all_differ};
-
-use tks_mark::Items;
+ghost use Rattle.tks_bind.specs.Distinct.{first_differs, all_differ};
 
 /// What may be compared with others of a list.
 pub trait Distinct {
@@ -40,31 +38,6 @@ pub fn all_differ<T: Distinct>(items: &[T]) -> bool
     for index in 0..items.len() {
         let (_, rest) = items.split_at(index);
         if !first_differs(rest) {
-            return false;
-        }
-    }
-    true
-}
-
-// Whether one differs from each of these items.
-fn differs_from_items<T: Distinct>(item: &T, others: Items<'_, T>) -> bool
-    ensures { result ≡ list_all (T.differs item.now) others.entry }
-{
-    for other in others {
-        if !item.differs(other) {
-            return false;
-        }
-    }
-    true
-}
-
-/// Whether each item of a list with a mark differs from those behind it.
-pub fn items_differ<T: Distinct>(items: Items<'_, T>) -> bool
-    ensures { result ≡ all_differ T.differs items.entry }
-{
-    let mut rest = items;
-    while let Some(item) = rest.next() {
-        if !differs_from_items(item, rest.rest()) {
             return false;
         }
     }

@@ -15,8 +15,8 @@ mod sequence;
 mod timers;
 mod virtuals;
 
-pub use bindings::{are_bindings, bindings_of, put_bindings};
-pub use distinct::{Distinct, all_differ, items_differ};
+pub use bindings::{bindings_of, put_bindings};
+pub use distinct::{Distinct, all_differ};
 pub use event::{event_of, is_event, put_event};
 pub use held::{held_of, put_held};
 pub use history::{history_of, put_history};
@@ -28,5 +28,5 @@ pub use member::{
 pub use memory::{are_memories, memories_of, put_memories};
 pub use queue::{put_queue, queue_of};
 pub use sequence::{put_sequence, sequence_of};
-pub use timers::{are_waiting, put_waiting, waiting_of};
-pub use virtuals::{are_virtuals, put_virtuals, virtuals_of};
+pub use timers::{put_waiting, waiting_of};
+pub use virtuals::{put_virtuals, virtuals_of};

@@ -1,17 +1,18 @@
 //! Timers and idle scripts.
-ghost use Rattle.std.specs.Prelude.{◌≡◌, ◌<◌, ◌^◌, length, true, None, IfOk, OnOk};
+ghost use Rattle.std.specs.Prelude.{◌≡◌, ◌<◌, ◌≤◌, ◌^◌, length, true, None, IfOk, OnOk};
 ghost use Rattle.std.specs.List.{AllByRecursion};
 ghost use Rattle.tks_codec.specs.Reading.{Gives};
 ghost use Rattle.tks_codec.specs.Writing.{PutsSo, joined};
 ghost use Rattle.tks_codec_events.specs.Timers as waits;
-ghost use Rattle.tks_codec_events.specs.Timers.{timer_at, timer_parts, idle_at, idle_parts, waiting, waiting_at, rise_below, is_apart, are_apart, are_due, are_waiting, IsShortTimer, IsShortIdle};
+ghost use Rattle.tks_codec_events.specs.Timers.{timer_at, timer_parts, idle_at, idle_parts, waiting, waiting_at, IsShortTimer, IsShortIdle};
+ghost use Rattle.tks_timer.specs.WellFormed.{rise_below, is_apart, are_apart, are_due, are_waiting};
 
 use crate::member::{Member, is_short, list_of, put_items};
 use std::alloc::{AllocError, Global};
 use tks_codec::Unread;
 use tks_codec::reading::{text_of, u64_of};
 use tks_codec::writing::{put_text, put_u64};
-use tks_mark::{Items, Numbered};
+use tks_mark::Numbered;
 use tks_timer::{Idle, Timer, Timers};
 
 /// No timer is due later.
@@ -110,8 +111,8 @@ impl Member for Idle {
 }
 
 // Whether numbers rise, below the next one.
-fn rise_below<T: Numbered>(items: Items<'_, T>, next: u64) -> bool
-    ensures { result ≡ rise_below T.number_of 0 next items.entry }
+fn rise_below<T: Numbered>(items: &[T], next: u64) -> bool
+    ensures { result ≡ rise_below T.number_of 0 next items.now }
 {
     let mut least = 0;
     for item in items {
@@ -125,74 +126,66 @@ fn rise_below<T: Numbered>(items: Items<'_, T>, next: u64) -> bool
 }
 
 // Whether no idle script has an id.
-fn is_apart(id: u64, idles: Items<'_, Idle>) -> bool
-    ensures { result ≡ is_apart id idles.entry }
+fn is_apart(id: u64, idles: &[Idle]) -> bool
+    ensures { result ≡ is_apart id idles.now }
 {
-    for idle in idles {
-        if idle.id == id {
-            return false;
-        }
-    }
-    true
+    idles.iter().all(|idle| idle.id != id)
 }
 
 // Whether no timer has the id of an idle script.
-fn are_apart(timers: &Timers) -> bool
-    ensures { result ≡ are_apart timers.now.present.idles timers.now.present.timers }
-{
-    for timer in timers.timers() {
-        if !is_apart(timer.id, timers.idles()) {
-            return false;
-        }
-    }
-    true
-}
-
-// Whether each timer is due when there is a time.
-fn are_due(timers: Items<'_, Timer>) -> bool
-    ensures { result ≡ are_due timers.entry }
+fn are_apart(idles: &[Idle], timers: &[Timer]) -> bool
+    ensures { result ≡ are_apart idles.now timers.now }
 {
     for timer in timers {
-        if timer.due > MAX_DUE {
+        if !is_apart(timer.id, idles) {
             return false;
         }
     }
     true
 }
 
-/// Whether ids rise and differ, below the next one, and each timer is due when there is a time.
-pub fn are_waiting(timers: &Timers) -> bool
-    ensures { result ≡ are_waiting timers.now.present }
+// Whether each timer is due when there may be a time.
+fn are_due(timers: &[Timer]) -> bool
+    ensures { result ≡ are_due timers.now }
 {
-    rise_below(timers.timers(), timers.next())
-        && rise_below(timers.idles(), timers.next())
-        && are_apart(timers)
-        && are_due(timers.timers())
+    timers.iter().all(|timer| timer.due <= MAX_DUE)
+}
+
+// Whether ids rise and differ, below the next one, and each timer is due when there may be a time.
+fn are_waiting(timers: &[Timer], idles: &[Idle], next: u64) -> bool
+    ensures { result ≡ are_waiting (record { timers = timers.now; idles = idles.now; next = next }) }
+{
+    rise_below(timers, next)
+        && rise_below(idles, next)
+        && are_apart(idles, timers)
+        && are_due(timers)
 }
 
 /// Timers and idle scripts with this next id, with no mark.
 #[tactic(auto, unfolding(crate::specs::Timers::waiting_at))]
 pub fn waiting_of(alloc: Global, next: u64, bytes: &[u8]) -> Result<(Timers, &[u8]), Unread>
+    requires { next ≤ 2 ^ 62 }
     ensures reads { Gives (λ x. (x.0.present, x.1.now)) result (waiting_at next bytes.now) }
     ensures unmarked { IfOk result (λ x. x.0.at_mark ≡ None) }
 {
     let (timers, rest) = list_of::<Timer>(alloc, bytes)?;
     let (idles, rest) = list_of::<Idle>(alloc, rest)?;
-    let timers = Timers::restore(alloc, timers, idles, next)?;
-    if !are_waiting(&timers) {
+    if !are_waiting(&timers, &idles, next) {
         return Err(Unread::Left(rest.len() + 1));
     }
+    let timers = Timers::restore(alloc, timers, idles, next)?;
     Ok((timers, rest))
 }
 
-/// Adds timers and idle scripts, but not the next id. They are read back where they are what may wait
-/// (`are_waiting`).
+/// Adds timers and idle scripts, but not the next id.
 pub fn put_waiting(out: &mut Vec<u8>, timers: &Timers) -> Result<(), AllocError>
     requires few { (length timers.now.present.timers < 2 ^ 32) × (length timers.now.present.idles < 2 ^ 32) }
     requires short { AllByRecursion IsShortTimer timers.now.present.timers × AllByRecursion IsShortIdle timers.now.present.idles }
     ensures puts { PutsSo result out.old.items out.new.items ((waiting timers.now.present.next).write timers.now.present) }
-    ensures legal { OnOk result (are_waiting timers.now.present ≡ true → (waiting timers.now.present.next).Legal timers.now.present) }
+    ensures legal { OnOk result ((waiting timers.now.present.next).Legal timers.now.present) }
 {
+    // What holds of all timers is asked for here.
+    let _ = timers.next();
     put_items(out, timers.timers(), timers.timer_count())?;
     put_items(out, timers.idles(), timers.idle_count())
 }

@@ -1,23 +1,24 @@
 //! Virtual events.
-ghost use Rattle.std.specs.Prelude.{◌≡◌, ◌<◌, ◌^◌, ◌&&◌, length, true, None, IfOk, OnOk};
+ghost use Rattle.std.specs.Prelude.{◌≡◌, ◌<◌, ◌^◌, length, true, None, IfOk, OnOk};
 ghost use Rattle.std.specs.List.{AllByRecursion};
 ghost use Rattle.tks_codec.specs.Reading.{Gives};
 ghost use Rattle.tks_codec.specs.Writing.{PutsSo, joined};
-ghost use Rattle.tks_codec_events.specs.Distinct.{all_differ};
+ghost use Rattle.tks_bind.specs.WellFormed.{is_some, are_virtuals};
 ghost use Rattle.tks_codec_events.specs.Virtuals as tables;
-ghost use Rattle.tks_codec_events.specs.Virtuals.{sequences_differ, is_some, is_met, named_parts, virtual_event_at, virtuals_at, are_virtuals, IsShortVirtual};
+ghost use Rattle.tks_codec_events.specs.Virtuals.{are_physical, is_virtual_event, named_parts, virtual_event_at, virtuals_at, IsShortVirtual};
 
-use crate::distinct::{Distinct, all_differ, items_differ};
+use crate::distinct::{Distinct, all_differ};
 use crate::member::{Member, all_have_spellings, is_short, list_of, put_items, put_list};
 use std::alloc::{AllocError, Global};
-use tks_bind::{VirtualEvent, Virtuals};
+use tks_bind::{VirtualEvent, Virtuals, is_of_name};
 use tks_codec::Unread;
 use tks_codec::reading::text_of;
 use tks_codec::writing::put_text;
-use tks_event::{Sequence, are_equal};
+use tks_event::{Sequence, are_equal, is_name};
+use tks_text::Txt;
 
 impl Distinct for Sequence {
-    ghost use Rattle.tks_codec_events.specs.Virtuals.{sequences_differ};
+    ghost use Rattle.tks_bind.specs.WellFormed.{sequences_differ};
 
     ghost differs = { sequences_differ };
 
@@ -36,11 +37,28 @@ fn is_some(sequences: &[Sequence]) -> bool
     }
 }
 
-// Whether there are sequences, and they differ.
-fn are_sequences(sequences: &[Sequence]) -> bool
-    ensures { result ≡ (is_some sequences.now && all_differ sequences_differ sequences.now) }
+// Whether none is the sequence of a virtual event.
+fn are_physical(sequences: &[Sequence]) -> bool
+    ensures { result ≡ are_physical sequences.now }
 {
-    is_some(sequences) && all_differ(sequences)
+    sequences.iter().all(|sequence| !is_of_name(sequence))
+}
+
+// Whether a virtual event may have this name and these sequences.
+fn is_virtual_event(name: &Txt, sequences: &[Sequence]) -> bool
+    ensures { result ≡ is_virtual_event (record { name = name.now; sequences = sequences.now }) }
+{
+    is_name(name.as_bytes())
+        && are_physical(sequences)
+        && is_some(sequences)
+        && all_differ(sequences)
+}
+
+// Whether names differ.
+fn are_virtuals(events: &[VirtualEvent]) -> bool
+    ensures { result ≡ are_virtuals events.now }
+{
+    all_differ(events)
 }
 
 // A virtual event.
@@ -50,7 +68,7 @@ fn virtual_event_of(alloc: Global, bytes: &[u8]) -> Result<(VirtualEvent, &[u8])
 {
     let (name, rest) = text_of(alloc, bytes)?;
     let (sequences, rest) = list_of::<Sequence>(alloc, rest)?;
-    if !are_sequences(&sequences) {
+    if !is_virtual_event(&name, &sequences) {
         return Err(Unread::Left(rest.len() + 1));
     }
     let event = VirtualEvent::restore(alloc, name, sequences)?;
@@ -70,20 +88,20 @@ fn put_parts(out: &mut Vec<u8>, event: &VirtualEvent) -> Result<(), AllocError>
 
 impl Member for VirtualEvent {
     ghost use Rattle.std.specs.Prelude.{◌≡◌, true};
-    ghost use Rattle.tks_codec_events.specs.Virtuals.{virtual_event, is_met, IsShortVirtual};
+    ghost use Rattle.tks_codec_events.specs.Virtuals.{virtual_event, is_virtual_event, IsShortVirtual};
 
     ghost spelling = { virtual_event };
 
     ghost IsShort = { IsShortVirtual };
 
-    ghost IsSound = { λ v. is_met v ≡ true };
+    ghost IsSound = { λ v. is_virtual_event v ≡ true };
 
     fn has_spelling(&self) -> bool {
         let sequences = self.sequences.as_slice();
         is_short(&self.name)
             && sequences.len() < 1 << 32
             && all_have_spellings(sequences)
-            && are_sequences(sequences)
+            && is_virtual_event(&self.name, sequences)
     }
 
     #[tactic(auto, unfolding(crate::specs::Virtuals::virtual_event_at))]
@@ -98,20 +116,13 @@ impl Member for VirtualEvent {
 }
 
 impl Distinct for VirtualEvent {
-    ghost use Rattle.tks_codec_events.specs.Virtuals.{names_differ};
+    ghost use Rattle.tks_bind.specs.WellFormed.{names_differ};
 
     ghost differs = { names_differ };
 
     fn differs(&self, other: &VirtualEvent) -> bool {
         self.name != other.name
     }
-}
-
-/// Whether names differ.
-pub fn are_virtuals(virtuals: &Virtuals) -> bool
-    ensures { result ≡ are_virtuals virtuals.now.present }
-{
-    items_differ(virtuals.events())
 }
 
 /// Virtual events, with no mark.
@@ -121,19 +132,19 @@ pub fn virtuals_of(alloc: Global, bytes: &[u8]) -> Result<(Virtuals, &[u8]), Unr
     ensures unmarked { IfOk result (λ x. x.0.at_mark ≡ None) }
 {
     let (events, rest) = list_of::<VirtualEvent>(alloc, bytes)?;
-    let virtuals = Virtuals::restore(alloc, events)?;
-    if !are_virtuals(&virtuals) {
+    if !are_virtuals(&events) {
         return Err(Unread::Left(rest.len() + 1));
     }
+    let virtuals = Virtuals::restore(alloc, events)?;
     Ok((virtuals, rest))
 }
 
-/// Adds virtual events. They are read back where names differ (`are_virtuals`), and each has sequences, which differ.
+/// Adds virtual events. They are read back where each has a name that one may have, and sequences of physical events.
 pub fn put_virtuals(out: &mut Vec<u8>, virtuals: &Virtuals) -> Result<(), AllocError>
     requires few { length virtuals.now.present < 2 ^ 32 }
     requires short { AllByRecursion IsShortVirtual virtuals.now.present }
     ensures puts { PutsSo result out.old.items out.new.items (tables.virtuals.write virtuals.now.present) }
-    ensures legal { OnOk result (are_virtuals virtuals.now.present ≡ true → AllByRecursion (λ v. is_met v ≡ true) virtuals.now.present → tables.virtuals.Legal virtuals.now.present) }
+    ensures legal { OnOk result (are_virtuals virtuals.now.present ≡ true → AllByRecursion (λ v. is_virtual_event v ≡ true) virtuals.now.present → tables.virtuals.Legal virtuals.now.present) }
 {
     put_items(out, virtuals.events(), virtuals.len())
 }

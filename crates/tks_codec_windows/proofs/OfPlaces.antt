@@ -1,5 +1,5 @@
 -- The tree and what is packed in its windows are made again of their places, and of nothing else.
-use Rattle.std.proofs.Common.{◌≡◌, ℕ, ◌+◌, ◌<◌, ◌≤◌, Bool, true, false, ◌&&◌, not, nat_le, nat_lt, List, [], ◌∷◌, ◌++◌, length, map, Option, Some, None, is_some, refl, sym, ap, subst, ◌∙◌, true≢false, append_assoc, arith, if◌then◌else◌, Ok, Err, Result}
+use Rattle.std.proofs.Common.{◌≡◌, ℕ, ◌+◌, ◌<◌, ◌≤◌, Bool, true, false, ◌&&◌, ◌||◌, not, nat_le, nat_lt, List, [], ◌∷◌, ◌++◌, length, map, Option, Some, None, is_some, refl, sym, ap, subst, ◌∙◌, true≢false, append_assoc, arith, if◌then◌else◌, Ok, Err, Result}
 use Rattle.std.specs.Prelude.{◌==◌}
 use Rattle.std.specs.List.{AllByRecursion}
 use Rattle.std.specs.Cmp.Lexicographic.{bytes_decides}
@@ -26,7 +26,7 @@ use Rattle.tks_pack.specs.declared.settings.Side.TheVariants.{Top, Bottom, Left,
 use Rattle.tks_pack.specs.declared.settings.Fill.{Fill}
 use Rattle.tks_pack.specs.declared.settings.Fill.TheVariants.{Neither, X, Y, Both}
 use Rattle.tks_codec_windows.specs.Packing as kinds
-use Rattle.tks_codec_windows.specs.Places.{packed_as, place_of, places_from, places_of, on_tree, tree_made, with_place, with_places, is_first, ended, tree_of, or_default, settings_of, content_of, packed_in, packings_in, same_flag, same_settings, same_packing, are_packed, agreeing, placed, IsFound, AreFound, PacksEach}
+use Rattle.tks_codec_windows.specs.Places.{packed_as, place_of, places_from, places_of, on_tree, tree_made, is_widget_class, with_number, with_place, with_places, is_first, ended, tree_of, or_default, settings_of, content_of, packed_in, packings_in, same_flag, same_settings, same_packing, are_packed, agreeing, placed, IsFound, AreFound, PacksEach, HaveOwnClasses}
 use Rattle.tks_codec_windows.specs.declared.place.Place.{Place}
 
 -- ---- settings that are the same
@@ -139,11 +139,15 @@ created_told t u path class h = by (free_path t.windows path) h
     by (Err why) h = absurd (some_is_none (sym h))
 
 place_told : (t u : Windows) (p : Place) → with_place t p ≡ Some u → u.windows ≡ t.windows ++ window_of p ∷ []
-place_told t u p h = by (may_skip t p.window) h
+place_told t u p h = by_class (is_widget_class p.class) h
   where
     by : (b : Bool) → (if b then tree_made (created (if b then record t { next = p.window } else t) p.path p.class) else None) ≡ Some u → u.windows ≡ t.windows ++ window_of p ∷ []
     by true h = ap (λ (x : Windows). x.windows) (created_told (record t { next = p.window }) u p.path p.class h)
     by false h = absurd (some_is_none (sym h))
+
+    by_class : (b : Bool) → (if b then with_number t p else None) ≡ Some u → u.windows ≡ t.windows ++ window_of p ∷ []
+    by_class true h = by (may_skip t p.window) h
+    by_class false h = absurd (some_is_none (sym h))
 
 places_told : (t u : Windows) (places : List Place) → with_places t places ≡ Some u → u.windows ≡ t.windows ++ map window_of places
 places_told t u [] h = ap (λ (o : Option Windows). (from_some t o).windows) (sym h) ∙ sym (append-nil t.windows)
@@ -242,11 +246,12 @@ may_again : (t : Windows) (n : ℕ) → t.next ≤ n → n ≤ max_number → ma
 may_again t n low high = both (nat_le t.next n) (nat_le n max_number) (le-leb t.next n low) (le-leb n max_number high)
 
 -- a window is made again behind those before it
-window_again : (t : Windows) (w : Window) (qs : List Packed) (p : Packed) → t.next ≤ w.number → w.number < max_number → Follows t.windows w
+window_again : (t : Windows) (w : Window) (qs : List Packed) (p : Packed) → t.next ≤ w.number → w.number < max_number → is_widget_class w.class ≡ true → Follows t.windows w
     → with_place t (place_of qs w p) ≡ Some (record { windows = t.windows ++ w ∷ []; next = w.number + 1 })
-window_again t w qs p low high f =
+window_again t w qs p low high own f =
     let may = may_again t w.number low (omega (arith, high)) in
-    ap (λ (b : Bool). if b then tree_made (created (if b then record t { next = w.number } else t) w.path w.class) else None) may
+    ap (λ (b : Bool). if b then with_number t (place_of qs w p) else None) own
+    ∙ ap (λ (b : Bool). if b then tree_made (created (if b then record t { next = w.number } else t) w.path w.class) else None) may
     ∙ ap tree_made (made (record t { next = w.number }) w.path w.class (free_again t.windows w f) high)
 
 -- the next number behind some windows
@@ -262,23 +267,33 @@ below_next : (low : ℕ) (w : Window) (ws : List Window) (high : ℕ) → Rise l
 below_next low w [] high r = omega (arith, r.1)
 below_next low w (v ∷ ws) high r = omega (arith, r.1.0, below_next (w.number + 1) v ws high r.1)
 
-windows_again : (t : Windows) (later : List Window) (qs ps : List Packed) (high : ℕ) → length ps ≡ length later → Rise t.next later high → high ≤ max_number → AllFollow t.windows later
+windows_again : (t : Windows) (later : List Window) (qs ps : List Packed) (high : ℕ) → length ps ≡ length later → Rise t.next later high → high ≤ max_number
+    → AllByRecursion (λ w. is_widget_class w.class ≡ true) later → AllFollow t.windows later
     → with_places t (places_from qs later ps) ≡ Some (record { windows = t.windows ++ later; next = next_behind t.next later })
-windows_again t [] qs ps high count r bound f = ap (λ ws. Some (record { windows = ws; next = t.next })) (sym (append-nil t.windows))
-windows_again t (w ∷ later) qs [] high count r bound f = absurd cc
-windows_again t (w ∷ later) qs (p ∷ ps) high count r bound f =
+windows_again t [] qs ps high count r bound own f = ap (λ ws. Some (record { windows = ws; next = t.next })) (sym (append-nil t.windows))
+windows_again t (w ∷ later) qs [] high count r bound own f = absurd cc
+windows_again t (w ∷ later) qs (p ∷ ps) high count r bound own f =
     let u : Windows = record { windows = t.windows ++ w ∷ []; next = w.number + 1 } in
-    ap (λ o. on_tree o (λ v. with_places v (places_from qs later ps))) (window_again t w qs p r.0 (omega (arith, bound, below_next t.next w later high r)) f.0)
-    ∙ windows_again u later qs ps high (omega (arith, count)) r.1 bound f.1
+    ap (λ o. on_tree o (λ v. with_places v (places_from qs later ps))) (window_again t w qs p r.0 (omega (arith, bound, below_next t.next w later high r)) own.0 f.0)
+    ∙ windows_again u later qs ps high (omega (arith, count)) r.1 bound own.1 f.1
     ∙ ap (λ ws. Some (record { windows = ws; next = next_behind (w.number + 1) later })) (append_assoc t.windows (w ∷ []) later)
 
+-- windows behind `.` are of classes of widgets
+widget_classes : (low : ℕ) (later : List Window) (high : ℕ) → 0 < low → Rise low later high → HaveOwnClasses later → AllByRecursion (λ w. is_widget_class w.class ≡ true) later
+widget_classes low [] high some r own = tt
+widget_classes low (w ∷ later) high some r own = (by (w.number == 0) refl own.0, widget_classes (w.number + 1) later high (omega arith) r.1 own.1)
+  where
+    by : (b : Bool) → (w.number == 0) ≡ b → (b || is_widget_class w.class) ≡ true → is_widget_class w.class ≡ true
+    by true e h = absurd (omega (arith, some, r.0, eqb-true w.number 0 e))
+    by false e h = h
+
 tree_again : (later : List Window) (next : ℕ) (qs ps : List Packed) → length ps ≡ length (root ∷ later) → WellFormed (record { windows = root ∷ later; next = next })
-    → tree_of next (places_from qs (root ∷ later) ps) ≡ Some (record { windows = root ∷ later; next = next })
-tree_again later next qs [] count w = absurd cc
-tree_again later next qs (p ∷ ps) count w =
+    → HaveOwnClasses later → tree_of next (places_from qs (root ∷ later) ps) ≡ Some (record { windows = root ∷ later; next = next })
+tree_again later next qs [] count w own = absurd cc
+tree_again later next qs (p ∷ ps) count w own =
     let u : Windows = record { windows = root ∷ later; next = next_behind 1 later } in
     let below = behind_below 1 later next w.numbered.1 in
-    ap (λ o. on_tree o (ended next)) (windows_again first_windows later qs ps next (omega (arith, count)) w.numbered.1 w.bounded w.founded.1)
+    ap (λ o. on_tree o (ended next)) (windows_again first_windows later qs ps next (omega (arith, count)) w.numbered.1 w.bounded (widget_classes 1 later next (omega arith) w.numbered.1 own) w.founded.1)
     ∙ ap (λ (b : Bool). if b then Some (if b then record u { next = next } else u) else None) (may_again u next below w.bounded)
 
 settings_at : (qs : List Packed) (ws : List Window) (ps : List Packed) (n : ℕ) → length ps ≡ length ws → is_some (of_number ws n) ≡ true → settings_of (places_from qs ws ps) n ≡ or_default (packed_as qs n)
@@ -320,12 +335,12 @@ agrees_again qs (w ∷ ws) [] = refl
 agrees_again qs (w ∷ ws) (p ∷ ps) = both _ _ (packing_again (packed_as qs w.number)) (agrees_again qs ws ps)
 
 -- windows are made again of their places
-pub placed_again : (t : Windows) (ps : List Packed) → WellFormed t → PacksEach t ps → placed t.next (places_of t ps) ≡ Some (t, ps)
-placed_again t ps w f =
+pub placed_again : (t : Windows) (ps : List Packed) → WellFormed t → HaveOwnClasses t.windows → PacksEach t ps → placed t.next (places_of t ps) ≡ Some (t, ps)
+placed_again t ps w own f =
     let later = w.first.0 in
     let same : t ≡ record { windows = root ∷ later; next = t.next } = ap (λ ws. record t { windows = ws }) w.first.1 in
     let tree : tree_of t.next (places_of t ps) ≡ Some t =
-    ap (λ (x : Windows). tree_of x.next (places_of x ps)) same ∙ tree_again later t.next ps ps (f.count ∙ ap (λ (x : Windows). length x.windows) same) (subst WellFormed same w) ∙ ap (λ x. Some x) (sym same) in
+    ap (λ (x : Windows). tree_of x.next (places_of x ps)) same ∙ tree_again later t.next ps ps (f.count ∙ ap (λ (x : Windows). length x.windows) same) (subst WellFormed same w) (subst HaveOwnClasses w.first.1 own).1 ∙ ap (λ x. Some x) (sym same) in
     let packings : packings_in (places_of t ps) ≡ ps = packings_again t ps f.count t.windows ps f.count f.found in
     ap (λ o. on_tree o (agreeing (places_of t ps) (packings_in (places_of t ps)))) tree
     ∙ ap (λ qs. agreeing (places_of t ps) qs t) packings

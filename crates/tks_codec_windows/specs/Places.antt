@@ -1,8 +1,9 @@
 -- The places of windows, as bytes tell them (this project's own format): the number of each, its path and class, what is packed
 -- in it, and how it is packed itself. The tree and what is packed in each window are made of them again.
-use Rattle.std.specs.Prelude.{◌≡◌, ℕ, Bool, true, false, ◌&&◌, ◌==◌, not, is_some, if◌then◌else◌, List, [], ◌∷◌, map, length, Option, Some, None, Result, Ok, Err}
+use Rattle.std.specs.Prelude.{◌≡◌, ℕ, Bool, true, false, ◌&&◌, ◌||◌, ◌==◌, not, is_some, if◌then◌else◌, List, [], ◌∷◌, map, length, Option, Some, None, Result, Ok, Err}
 use Rattle.std.specs.List.{AllByRecursion, list_all}
 use Rattle.tks_text.specs.Text.{same_text}
+use Rattle.tks_text.specs.declared.class.Class.{Class}
 use Rattle.tks_opt.specs.Numbers.{class_number, anchor_number}
 use Rattle.tks_tree.specs.Path.{root_path}
 use Rattle.tks_tree.specs.Windows.{Window, Windows, Refusal, first_windows, of_number, created, may_skip, skipped}
@@ -59,9 +60,17 @@ abbrev pub tree_made : Result (ℕ × Windows) Refusal → Option Windows
 tree_made (Ok x) = Some x.1
 tree_made (Err why) = None
 
+-- whether it is a class of windows other than `.`
+abbrev pub is_widget_class : Class → Bool
+is_widget_class c = not (class_number c == 0)
+
 -- a window more, with its own number; none where it may not have it, or where no window may be made there
+abbrev pub with_number : Windows → Place → Option Windows
+with_number t p = if may_skip t p.window then tree_made (created (skipped t p.window) p.path p.class) else None
+
+-- the same, where it is of such a class
 abbrev pub with_place : Windows → Place → Option Windows
-with_place t p = if may_skip t p.window then tree_made (created (skipped t p.window) p.path p.class) else None
+with_place t p = if is_widget_class p.class then with_number t p else None
 
 abbrev pub with_places : Windows → List Place → Option Windows
 with_places t [] = Some t
@@ -132,6 +141,13 @@ abbrev pub placed : ℕ → List Place → Option (Windows × List Packed)
 placed next places = on_tree (tree_of next places) (agreeing places (packings_in places))
 
 -- ---- windows that have places
+
+-- only `.` is of the root's class
+abbrev pub has_own_class : Window → Bool
+has_own_class w = (w.number == 0) || is_widget_class w.class
+
+abbrev pub HaveOwnClasses : List Window → Type 0
+HaveOwnClasses windows = AllByRecursion (λ w. has_own_class w ≡ true) windows
 
 -- a packed window is there, and how it is packed is found
 pub record IsFound (t : Windows) (packings : List Packed) (c : Content) : Type 0 where

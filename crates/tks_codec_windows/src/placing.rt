@@ -1,7 +1,7 @@
 //! The tree of windows, and what is packed in each, made again of their places.
 ghost use Rattle.std.specs.Prelude.{◌≡◌, map, if◌then◌else◌, Some, None, option_map, IfOk};
 ghost use Rattle.tks_codec_windows.specs.Places as kinds;
-ghost use Rattle.tks_codec_windows.specs.Places.{with_place, with_places, is_first, tree_of, settings_of, content_of, packed_in, packings_in, packed_as, are_packed};
+ghost use Rattle.tks_codec_windows.specs.Places.{with_number, with_place, with_places, is_first, tree_of, settings_of, content_of, packed_in, packings_in, packed_as, are_packed};
 
 use crate::place::{Place, same_packing, settings_in};
 use std::alloc::{AllocError, Global};
@@ -11,8 +11,8 @@ use tks_text::Class;
 use tks_tree::{CreateFault, Tree, WindowId};
 
 // Adds a window with its own number, and says whether it may be.
-fn add_place(tree: &mut Tree, place: &Place) -> Result<bool, AllocError>
-    ensures { IfOk result (λ made. with_place tree.old place.now ≡ (if made then Some tree.new else None)) }
+fn add_numbered(tree: &mut Tree, place: &Place) -> Result<bool, AllocError>
+    ensures { IfOk result (λ made. with_number tree.old place.now ≡ (if made then Some tree.new else None)) }
 {
     if !tree.skip_to(place.window.number()) {
         return Ok(false);
@@ -22,6 +22,16 @@ fn add_place(tree: &mut Tree, place: &Place) -> Result<bool, AllocError>
         Err(CreateFault::NoMemory) => Err(AllocError),
         Err(_) => Ok(false),
     }
+}
+
+// Adds a window other than `.`, and says whether it may be.
+fn add_place(tree: &mut Tree, place: &Place) -> Result<bool, AllocError>
+    ensures { IfOk result (λ made. with_place tree.old place.now ≡ (if made then Some tree.new else None)) }
+{
+    if class_number(place.class) == class_number(Class::Root) {
+        return Ok(false);
+    }
+    add_numbered(tree, place)
 }
 
 // Adds windows, and says whether all may be.

@@ -5,6 +5,7 @@ use Rattle.std.specs.List.{AllByRecursion}
 use Rattle.tks_text.specs.Text.{is_text, IsText, is_text_byte, IsTextByte}
 use Rattle.tks_app.specs.declared.memories.Memory.{Memory}
 use Rattle.tks_bind.specs.Binding.{Content}
+use Rattle.tks_bind.specs.WellFormed.{are_bindings, are_virtuals}
 use Rattle.tks_bind.specs.declared.binding.Binding.{Binding}
 use Rattle.tks_bind.specs.declared.virtual_event.VirtualEvent.{VirtualEvent}
 use Rattle.tks_event.specs.declared.event.Event.{Event}
@@ -25,13 +26,14 @@ use Rattle.tks_vars.specs.declared.content.Content as globals
 use Rattle.tks_vars.specs.declared.content.Content.TheVariants.{Scalar, Array}
 use Rattle.tks_vars.specs.declared.procedure.Parameter.{Parameter}
 use Rattle.tks_vars.specs.declared.procedure.Procedure.{Procedure}
-use Rattle.tks_codec_events.specs.Bindings.{IsShortBinding, are_bindings}
+use Rattle.tks_codec_events.specs.Bindings.{IsShortBinding}
 use Rattle.tks_codec_events.specs.Event.{is_event, HasShortTexts}
 use Rattle.tks_codec_events.specs.Memories.{IsShortMemory, are_memories}
 use Rattle.tks_codec_events.specs.Queue as queues
 use Rattle.tks_codec_events.specs.Sequence.{HasShortDetail}
-use Rattle.tks_codec_events.specs.Timers.{IsShortTimer, IsShortIdle, are_waiting}
-use Rattle.tks_codec_events.specs.Virtuals.{IsShortVirtual, is_met, are_virtuals}
+use Rattle.tks_codec_events.specs.Timers.{IsShortTimer, IsShortIdle}
+use Rattle.tks_timer.specs.WellFormed.{are_waiting}
+use Rattle.tks_codec_events.specs.Virtuals.{IsShortVirtual, is_virtual_event}
 use Rattle.tks_codec_variables.specs.Globals.{IsAny, IsShortText, IsShortContent, IsSoundContent}
 use Rattle.tks_codec_variables.specs.Procedures.{HasShortDefault, IsShortParameter, IsShortProcedure}
 use Rattle.tks_codec_variables.specs.Table.{HasShort, HasText, IsShortTable, IsSoundTable}
@@ -39,6 +41,7 @@ use Rattle.tks_codec_windows.specs.Lines as lines
 use Rattle.tks_codec_windows.specs.Listbox as listboxes
 use Rattle.tks_codec_windows.specs.Packing.{HasPaddings}
 use Rattle.tks_codec_windows.specs.Texts.{IsShort, AreShort, AreShortTags}
+use Rattle.tks_codec_windows.specs.Places.{has_own_class}
 use Rattle.tks_state.specs.Restoring.{is_whole}
 use Rattle.tks_state.specs.Widget.{options_of}
 use Rattle.tks_state.specs.Windows.{Windows}
@@ -105,8 +108,9 @@ kept_short k =
 
 pub windows_short : (x : Windows) → Decides (windows_fit x) (WindowsFit x)
 windows_short x =
-    by (λ h. record { count = h.0; paths = h.1.0; kept = h.1.1 }) (λ r. (r.count, (r.paths, r.kept)))
-    (both (short x.kept) (both (each (λ w. fits w.path) HasShortPath (λ w. short w.path) x.tree.windows) (each kept_fits KeptFits kept_short x.kept)))
+    by (λ h. record { count = h.0; paths = h.1.0; classes = h.1.1.0; kept = h.1.1.1 }) (λ r. (r.count, (r.paths, (r.classes, r.kept))))
+    (both (short x.kept) (both (each (λ w. fits w.path) HasShortPath (λ w. short w.path) x.tree.windows)
+    (both (each has_own_class (λ w. has_own_class w ≡ true) (λ w. itself (has_own_class w)) x.tree.windows) (each kept_fits KeptFits kept_short x.kept))))
 
 -- ---- variables and procedures
 
@@ -184,7 +188,7 @@ virtual_short v =
 virtuals_short : (xs : List VirtualEvent) → Decides (virtuals_fit xs) (VirtualsFit xs)
 virtuals_short xs =
     by (λ h. record { count = h.0; short = h.1.0; met = h.1.1.0; sound = h.1.1.1 }) (λ r. (r.count, (r.short, (r.met, r.sound))))
-    (both (short xs) (both (each virtual_fits IsShortVirtual virtual_short xs) (both (each is_met (λ v. is_met v ≡ true) (λ v. itself (is_met v)) xs) (itself (are_virtuals xs)))))
+    (both (short xs) (both (each virtual_fits IsShortVirtual virtual_short xs) (both (each is_virtual_event (λ v. is_virtual_event v ≡ true) (λ v. itself (is_virtual_event v)) xs) (itself (are_virtuals xs)))))
 
 event_short : (e : Event) → Decides (event_fits e) (HasShortTexts e)
 event_short e = both (short e.detail) (short e.payload)

@@ -11,7 +11,7 @@ use Rattle.tks_pack.specs.declared.packing.Content.{Content}
 use Rattle.tks_pack.specs.declared.settings.Settings.{Settings}
 use Rattle.tks_codec.specs.Spelling.{Lawful, list}
 use Rattle.tks_codec.proofs.EachKind.{test_lawful, through_lawful, list_lawful}
-use Rattle.tks_codec_windows.specs.Places.{place_of, places_from, placed, packed_as, settings_in, or_else, on_tree, tree_of, agreeing, are_packed, packings_in, IsFound, AreFound}
+use Rattle.tks_codec_windows.specs.Places.{place_of, places_from, placed, packed_as, settings_in, or_else, on_tree, tree_of, agreeing, are_packed, packings_in, IsFound, AreFound, HaveOwnClasses}
 use Rattle.tks_codec_windows.specs.declared.place.Place.{Place}
 use Rattle.tks_codec_windows.specs.Packing.{HasPaddings, IsPacking}
 use Rattle.tks_codec_windows.proofs.OfPlaces.{placed_again, placed_from}
@@ -225,13 +225,13 @@ module _ (t : tree.Windows) where
   all_found ps [] h f = tt
   all_found ps (k ∷ ks) h f = (found_in ps k.window k.packing.contents h.0.children f.0, all_found ps ks h.1 f.1)
 
-made_again : (x : Windows) → WellFormedWindows x → windows_made x.tree.next (lines_of x) ≡ Some x
-made_again x w =
+made_again : (x : Windows) → WellFormedWindows x → HaveOwnClasses x.tree.windows → windows_made x.tree.next (lines_of x) ≡ Some x
+made_again x w own =
     let ps = packings_of x.kept in
     let count : length ps ≡ length x.tree.windows =
     mapped_length (λ (k : Kept). k.packing) x.kept ∙ sym (mapped_length mark_of x.kept) ∙ ap (λ (ms : List (ℕ × Class)). length ms) w.in_step ∙ mapped_length window_mark x.tree.windows in
     let packed : EachPackedSo x.tree ps x.kept = each_packed x.tree 0 x.kept (kept_rises x.tree x.kept w) w.packs in
-    let again = placed_again x.tree ps w.windows (record { count = count; found = all_found x.tree ps x.kept w.packs packed }) in
+    let again = placed_again x.tree ps w.windows own (record { count = count; found = all_found x.tree ps x.kept w.packs packed }) in
     ap (λ (places : List Place). with_kept (lines_of x) (placed x.tree.next places)) (places_again ps x.tree.windows x.kept)
     ∙ ap (with_kept (lines_of x)) again
     ∙ ap (λ (ks : List Kept). Some (record { tree = x.tree; kept = ks })) (kept_again ps x.tree.windows x.kept w.in_step)
@@ -262,9 +262,9 @@ pub windows_next : (next : ℕ) (x : Windows) → (windows next).Legal x → x.t
 windows_next next x h = ap (λ (y : Windows). y.tree.next) h.1 ∙ next_kept next (lines_of x) h.0.1
 
 -- windows that stand have a spelling where each of their lines has one
-pub windows_legal : (x : Windows) → WellFormedWindows x → (list line).Legal (lines_of x) → (windows x.tree.next).Legal x
-windows_legal x w h =
-    let again = made_again x w in (
+pub windows_legal : (x : Windows) → WellFormedWindows x → HaveOwnClasses x.tree.windows → (list line).Legal (lines_of x) → (windows x.tree.next).Legal x
+windows_legal x w own h =
+    let again = made_again x w own in (
       (h, ap (λ (o : Option Windows). is_some o) again),
       sym (ap or_first again),
     )

@@ -5,6 +5,7 @@ use Rattle.std.specs.List.{list_all}
 use Rattle.tks_text.specs.Text.{is_text}
 use Rattle.tks_app.specs.declared.memories.Memory.{Memory}
 use Rattle.tks_bind.specs.Binding.{Content}
+use Rattle.tks_bind.specs.WellFormed.{are_bindings, are_virtuals}
 use Rattle.tks_bind.specs.declared.binding.Binding.{Binding}
 use Rattle.tks_bind.specs.declared.virtual_event.VirtualEvent.{VirtualEvent}
 use Rattle.tks_event.specs.declared.event.Event.{Event}
@@ -25,11 +26,11 @@ use Rattle.tks_vars.specs.declared.content.Content as globals
 use Rattle.tks_vars.specs.declared.content.Content.TheVariants.{Scalar, Array}
 use Rattle.tks_vars.specs.declared.procedure.Parameter.{Parameter}
 use Rattle.tks_vars.specs.declared.procedure.Procedure.{Procedure}
-use Rattle.tks_codec_events.specs.Bindings.{are_bindings}
 use Rattle.tks_codec_events.specs.Event.{is_event}
 use Rattle.tks_codec_events.specs.Memories.{are_memories}
-use Rattle.tks_codec_events.specs.Timers.{are_waiting}
-use Rattle.tks_codec_events.specs.Virtuals.{is_met, are_virtuals}
+use Rattle.tks_timer.specs.WellFormed.{are_waiting}
+use Rattle.tks_codec_events.specs.Virtuals.{is_virtual_event}
+use Rattle.tks_codec_windows.specs.Places.{has_own_class}
 use Rattle.tks_state.specs.Restoring.{is_whole}
 use Rattle.tks_state.specs.Widget.{options_of}
 use Rattle.tks_state.specs.Windows.{Windows}
@@ -82,7 +83,7 @@ abbrev pub kept_fits : Kept → Bool
 kept_fits k = all_fit (values_in_order (options_of k.widget)) && (tags_fit k.tags && (packing_fits k.packing && content_fits k.widget))
 
 abbrev pub windows_fit : Windows → Bool
-windows_fit x = fits x.kept && (list_all (λ w. fits w.path) x.tree.windows && list_all kept_fits x.kept)
+windows_fit x = fits x.kept && (list_all (λ w. fits w.path) x.tree.windows && (list_all has_own_class x.tree.windows && list_all kept_fits x.kept))
 
 -- ---- variables and procedures
 
@@ -129,7 +130,7 @@ abbrev pub virtual_fits : VirtualEvent → Bool
 virtual_fits v = fits v.name && (fits v.sequences && list_all sequence_fits v.sequences)
 
 abbrev pub virtuals_fit : List VirtualEvent → Bool
-virtuals_fit xs = fits xs && (list_all virtual_fits xs && (list_all is_met xs && are_virtuals xs))
+virtuals_fit xs = fits xs && (list_all virtual_fits xs && (list_all is_virtual_event xs && are_virtuals xs))
 
 abbrev pub event_fits : Event → Bool
 event_fits e = fits e.detail && fits e.payload

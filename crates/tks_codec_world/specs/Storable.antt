@@ -4,6 +4,7 @@ use Rattle.std.specs.List.{AllByRecursion}
 use Rattle.tks_app.specs.declared.memories.Memory.{Memory}
 use Rattle.tks_pack.specs.Packing.{Packed}
 use Rattle.tks_bind.specs.Binding.{Content}
+use Rattle.tks_bind.specs.WellFormed.{are_bindings, are_virtuals}
 use Rattle.tks_bind.specs.declared.virtual_event.VirtualEvent.{VirtualEvent}
 use Rattle.tks_event.specs.declared.event.Event.{Event}
 use Rattle.tks_vars.specs.Variables.{Variables}
@@ -13,16 +14,18 @@ use Rattle.tks_timer.specs.declared.entry.Timer.{Timer}
 use Rattle.tks_timer.specs.declared.entry.Idle.{Idle}
 use Rattle.tks_tree.specs.Windows as tree
 use Rattle.tks_opt.specs.Options.{values_in_order}
-use Rattle.tks_codec_events.specs.Bindings.{IsShortBinding, are_bindings}
+use Rattle.tks_codec_events.specs.Bindings.{IsShortBinding}
 use Rattle.tks_codec_events.specs.Event.{HasShortTexts, is_event}
 use Rattle.tks_codec_events.specs.Memories.{IsShortMemory, are_memories}
 use Rattle.tks_codec_events.specs.Queue as queues
-use Rattle.tks_codec_events.specs.Timers.{IsShortTimer, IsShortIdle, are_waiting}
-use Rattle.tks_codec_events.specs.Virtuals.{IsShortVirtual, is_met, are_virtuals}
+use Rattle.tks_codec_events.specs.Timers.{IsShortTimer, IsShortIdle}
+use Rattle.tks_timer.specs.WellFormed.{are_waiting}
+use Rattle.tks_codec_events.specs.Virtuals.{IsShortVirtual, is_virtual_event}
 use Rattle.tks_codec_variables.specs.Variables as variables
 use Rattle.tks_codec_windows.specs.Lines as lines
 use Rattle.tks_codec_windows.specs.Listbox as listboxes
 use Rattle.tks_codec_windows.specs.Packing.{HasPaddings}
+use Rattle.tks_codec_windows.specs.Places.{HaveOwnClasses}
 use Rattle.tks_codec_windows.specs.Texts.{IsShort, AreShort, AreShortTags}
 use Rattle.tks_state.specs.Restoring.{is_whole}
 use Rattle.tks_state.specs.Widget.{options_of}
@@ -64,6 +67,7 @@ HasShortPath w = length w.path < 2 ^ 32
 pub record WindowsFit (x : Windows) : Type 0 where
   pub count : length x.kept < 2 ^ 32
   pub paths : AllByRecursion HasShortPath x.tree.windows
+  pub classes : HaveOwnClasses x.tree.windows
   pub kept : AllByRecursion KeptFits x.kept
 
 -- ---- what scripts bound to events rest on
@@ -77,7 +81,7 @@ pub record BindingsFit (x : Content) : Type 0 where
 pub record VirtualsFit (xs : List VirtualEvent) : Type 0 where
   pub count : length xs < 2 ^ 32
   pub short : AllByRecursion IsShortVirtual xs
-  pub met : AllByRecursion (λ v. is_met v ≡ true) xs
+  pub met : AllByRecursion (λ v. is_virtual_event v ≡ true) xs
   pub sound : are_virtuals xs ≡ true
 
 pub record HistoryFits (xs : List Event) : Type 0 where

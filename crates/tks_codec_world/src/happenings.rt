@@ -1,5 +1,5 @@
 //! What scripts bound to events rest on.
-ghost use Rattle.std.specs.Prelude.{◌≡◌, ◌↔◌, true, OnOk};
+ghost use Rattle.std.specs.Prelude.{◌≡◌, ◌↔◌, ◌≤◌, ◌^◌, true, OnOk};
 ghost use Rattle.tks_codec.specs.Reading.{Gives};
 ghost use Rattle.tks_codec.specs.Writing.{PutsSo, joined};
 ghost use Rattle.tks_codec_world.specs.Happenings as kinds;
@@ -11,8 +11,8 @@ use std::alloc::{AllocError, Global};
 use tks_bind::{Bindings, History, Virtuals};
 use tks_codec::Unread;
 use tks_codec_events::{
-    all_have_spellings, are_bindings, are_virtuals, bindings_of, history_of, items_have_spellings,
-    put_bindings, put_history, put_virtuals, virtuals_of,
+    all_have_spellings, bindings_of, history_of, items_have_spellings, put_bindings, put_history,
+    put_virtuals, virtuals_of,
 };
 use tks_state::World;
 
@@ -27,6 +27,7 @@ pub struct Happenings {
 /// Bindings with this next number, virtual events, and the history.
 #[tactic(auto, unfolding(crate::specs::Happenings::happenings_at, tks_codec_events::specs::Bindings::bindings_at, tks_codec_events::specs::Virtuals::virtuals_at, tks_codec_events::specs::History::history_at))]
 pub fn happenings_of(alloc: Global, next: u64, bytes: &[u8]) -> Result<(Happenings, &[u8]), Unread>
+    requires { next ≤ 2 ^ 62 }
     ensures { Gives (λ x. (happenings_seen x.0, x.1.now)) result (happenings_at next bytes.now) }
 {
     let (bindings, rest) = bindings_of(alloc, next, bytes)?;
@@ -67,7 +68,9 @@ fn bindings_fit(world: &World) -> bool
     ensures { (result ≡ true) ↔ BindingsFit world.now.bindings }
 {
     let bindings = world.bindings();
-    bindings.len() < 1 << 32 && items_have_spellings(bindings.bindings()) && are_bindings(bindings)
+    // What holds of all bindings is asked for here.
+    let _ = bindings.next();
+    bindings.len() < 1 << 32 && items_have_spellings(bindings.bindings())
 }
 
 // Whether virtual events have a spelling.
@@ -75,7 +78,9 @@ fn virtuals_fit(world: &World) -> bool
     ensures { (result ≡ true) ↔ VirtualsFit world.now.virtuals }
 {
     let virtuals = world.virtuals();
-    virtuals.len() < 1 << 32 && items_have_spellings(virtuals.events()) && are_virtuals(virtuals)
+    // What holds of all virtual events is asked for here.
+    let _ = virtuals.is_marked();
+    virtuals.len() < 1 << 32 && items_have_spellings(virtuals.events())
 }
 
 // Whether a history has a spelling.

@@ -1,9 +1,9 @@
 //! Events and scripts that wait.
 ghost use Rattle.std.specs.Prelude.{◌≡◌, ◌↔◌, true};
-ghost use Rattle.tks_codec_events.specs.Timers.{are_waiting};
+ghost use Rattle.tks_timer.specs.WellFormed.{are_waiting};
 ghost use Rattle.tks_codec_world.specs.Storable.{QueueFits, WaitingFits, TimersFit, IdlesFit};
 
-use tks_codec_events::{are_waiting, items_have_spellings};
+use tks_codec_events::items_have_spellings;
 use tks_queue::Queue;
 use tks_timer::Timers;
 
@@ -32,5 +32,7 @@ fn idles_fit(timers: &Timers) -> bool
 pub fn is_waiting(timers: &Timers) -> bool
     ensures { (result ≡ true) ↔ WaitingFits timers.now.present }
 {
-    timers_fit(timers) && idles_fit(timers) && are_waiting(timers)
+    // What holds of all timers is asked for here.
+    let _ = timers.next();
+    timers_fit(timers) && idles_fit(timers)
 }

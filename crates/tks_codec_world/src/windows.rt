@@ -4,7 +4,8 @@ ghost use Rattle.std.specs.List.{AllByRecursion};
 ghost use Rattle.tks_codec.specs.Spelling.{members};
 ghost use Rattle.tks_codec.specs.Reading.{Gives};
 ghost use Rattle.tks_codec.specs.Writing.{PutsSo};
-ghost use Rattle.tks_codec_windows.specs.Places.{packed_as};
+ghost use Rattle.tks_tree.specs.View.{window_seen};
+ghost use Rattle.tks_codec_windows.specs.Places.{packed_as, has_own_class, HaveOwnClasses};
 ghost use Rattle.tks_codec_world.specs.Line.{line};
 ghost use Rattle.tks_codec_world.specs.Windows as kinds;
 ghost use Rattle.tks_codec_world.specs.Windows.{packings_of, lines_from, held_of, parts_from, windows_seen, windows_at};
@@ -18,10 +19,11 @@ use std::alloc::{AllocError, Global};
 use tks_codec::Unread;
 use tks_codec::writing::put_u32;
 use tks_codec_windows::{Place, placed, settings_in};
+use tks_opt::class_number;
 use tks_pack::{Packing, Settings};
 use tks_state::{Kept, Widget, WindowParts, World};
-use tks_text::{Seq, Txt};
-use tks_tree::{Tree, WindowId};
+use tks_text::{Class, Seq, Txt};
+use tks_tree::{Tree, Window, WindowId};
 
 // What is read of a window besides its place.
 #[derive(Drop)]
@@ -152,6 +154,13 @@ pub fn put_windows(alloc: Global, out: &mut Vec<u8>, world: &World) -> Result<()
     put_each(alloc, out, world.tree(), kept)
 }
 
+// Whether this is `.`, or a window of another class.
+fn has_own_class(window: &Window<'_>) -> bool
+    ensures { result ≡ has_own_class (window_seen window.now) }
+{
+    window.id.is_root() || class_number(window.class) != class_number(Class::Root)
+}
+
 // Whether the length of each path can be told.
 fn paths_fit(tree: &Tree) -> bool
     ensures { (result ≡ true) ↔ AllByRecursion HasShortPath tree.now.windows }
@@ -167,10 +176,28 @@ fn paths_fit(tree: &Tree) -> bool
     true
 }
 
+// Whether only `.` is of the root's class.
+fn classes_fit(tree: &Tree) -> bool
+    ensures { (result ≡ true) ↔ HaveOwnClasses tree.now.windows }
+{
+    for index in 0..tree.len() {
+        let Some(window) = tree.nth(index) else {
+            unreachable!()
+        };
+        if !has_own_class(&window) {
+            return false;
+        }
+    }
+    true
+}
+
 /// Whether the windows of a world have a spelling.
 pub fn are_windows(world: &World) -> bool
     ensures { (result ≡ true) ↔ WindowsFit (windows_of world.now) }
 {
     let kept = world.all_kept();
-    kept.len() < 1 << 32 && paths_fit(world.tree()) && all_kept_fit(kept)
+    kept.len() < 1 << 32
+        && paths_fit(world.tree())
+        && classes_fit(world.tree())
+        && all_kept_fit(kept)
 }

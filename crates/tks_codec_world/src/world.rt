@@ -107,11 +107,13 @@ fn numbers_of(world: &World) -> Counts
 
 /// Whether a world has a spelling: no list has 2^32 members, no text 2^32 bytes, no number is above 2^62, no frame was begun,
 /// and what stands in it is such as is read.
+#[tactic(auto, using(tks_state::proofs::Whole::whole))]
 pub fn has_spelling(world: &World) -> bool
     ensures { (result ≡ true) ↔ HasSpelling world.now }
 {
-    world.is_whole()
-        && are_counts(&numbers_of(world))
+    // What holds of all worlds is asked for here.
+    let _ = world.accepted();
+    are_counts(&numbers_of(world))
         && are_windows(world)
         && are_variables(world.variables())
         && are_happenings(world)

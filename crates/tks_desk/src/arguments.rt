@@ -18,12 +18,19 @@ const NO_MEMORY: u8 = 5;
 /// What `--help` ends with.
 const LINES: &str = "
 Lines that it reads, and answers one by one:
-  cmd SCRIPT    runs a script: what stands behind one space
-  load N        runs a script with newlines: the next N bytes
-  screen        shows the rows of the grid, each between bars
-  faults        shows the errors of scripts that ran by themselves
-  commit        puts what was accepted on the disk
-  quit          ends the session
+  cmd SCRIPT     runs a script: what stands behind one space
+  load N         runs a script with newlines: the next N bytes
+  key NAME       a key goes down; its event waits for a turn
+  keyup NAME     a key goes up
+  press B X Y    button B goes down in the cell of column X, row Y
+  release B X Y  button B goes up there
+  clock MS       sets the clock, in milliseconds
+  turn           runs one thing that waits
+  drain N        runs N turns, or fewer where nothing more waits
+  screen         shows the rows of the grid, each between bars
+  faults         shows the errors of scripts that ran by themselves
+  commit         puts what was accepted on the disk
+  quit           ends the session, without a commit
 
 For example the lines
   cmd label .title -text \"Order 7\"; pack .title

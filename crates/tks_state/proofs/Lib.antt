@@ -7,3 +7,4 @@ mod Linked
 mod Holding
 pub mod Restored
 pub mod Whole
+mod Looping

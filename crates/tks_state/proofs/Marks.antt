@@ -29,11 +29,11 @@ map_both f [] ys = refl
 map_both f (x ∷ xs) ys = ap (λ zs. f x ∷ zs) (map_both f xs ys)
 
 -- the window that was made
-abbrev made : Result (ℕ × Windows) Refusal → Windows → List ℕ → Class → Type 0
+abbrev pub made : Result (ℕ × Windows) Refusal → Windows → List ℕ → Class → Type 0
 made (Ok x) t path class = x.1.windows ≡ t.windows ++ record { number = x.0; path = path; class = class } ∷ []
 made (Err why) t path class = Unit {0}
 
-created_made : (t : Windows) (path : List ℕ) (class : Class) → made (created t path class) t path class
+pub created_made : (t : Windows) (path : List ℕ) (class : Class) → made (created t path class) t path class
 created_made t path class = by (free_path t.windows path)
   where
     then_numbered : (b : Bool) → made (if b then Ok (t.next, with_window t path class) else Err tree.OutOfNumbers) t path class

@@ -9,11 +9,12 @@ use Rattle.tks_opt.specs.Numbers.{class_number, class_numbered}
 use Rattle.tks_tree.proofs.Trees.{first_true, second_true, some_is_none}
 use Rattle.tks_bind.specs.History.{max_history}
 use Rattle.tks_state.specs.Events.{Events, max_faults}
-use Rattle.tks_state.specs.World.{World, windows_of, events_of}
+use Rattle.tks_state.specs.EventLoop.{EventLoop, all_in}
+use Rattle.tks_state.specs.World.{World, windows_of, events_of, loop_of}
 use Rattle.tks_state.specs.declared.restoring.WorldParts.{WorldParts}
 use Rattle.tks_tree.specs.WellFormed as trees
 use Rattle.tks_tree.specs.Windows as tree
-use Rattle.tks_state.specs.Restoring.{kept_with, kept_of_parts, is_kept_of, are_in_step, is_among, are_distinct, is_number, packs_children, are_windows, all_there, is_whole, world_of, restored}
+use Rattle.tks_state.specs.Restoring.{kept_with, kept_of_parts, is_kept_of, are_in_step, is_among, are_distinct, is_number, packs_children, are_windows, is_whole, world_of, restored}
 use Rattle.tks_state.specs.WellFormed.{WellFormedWindows, PacksChildren, AllPackChildren, InStep, packed_windows, mark_of, window_mark}
 use Rattle.tks_state.specs.Widget.{class_of}
 use Rattle.tks_state.specs.Windows.{Windows}
@@ -157,7 +158,7 @@ told false y x h = absurd (some_is_none (sym h))
 abbrev made : WorldParts → Windows → Events → World
 made p x e = record (world_of p) { tree = x.tree; kept = x.kept; bindings = e.bindings; virtuals = e.virtuals; history = e.history; faults = e.faults }
 
-pub whole : (p : WorldParts) (x : Windows) (e : Events) → p.accepted ≤ 2 ^ 62 → all_there (world_of p) ≡ true → length p.history.present ≤ max_history
+pub whole : (p : WorldParts) (x : Windows) (e : Events) → p.accepted ≤ 2 ^ 62 → all_in p.tree.windows (loop_of (world_of p)) ≡ true → length p.history.present ≤ max_history
     → (if are_windows (windows_of (world_of p)) then Some (windows_of (world_of p)) else None) ≡ Some x
     → (if nat_le (length p.faults) max_faults then Some (events_of (world_of p)) else None) ≡ Some e
     → Some (made p x e) ≡ restored p
@@ -170,3 +171,10 @@ whole p x e few there short windows events =
     let remembered : nat_le (length w.history) max_history ≡ true = le-leb (length w.history) max_history short in
     let all : is_whole w ≡ true = rw (counted, a.0, remembered, b.0, there) refl in
     ap (λ (v : Windows). Some (made p v e)) (sym a.1) ∙ ap (λ (v : Events). Some (made p (windows_of w) v)) (sym b.1) ∙ ap (λ (t : Bool). if t then Some w else None) (sym all)
+
+-- what is of windows that are there is of those that are made again
+pub there_again : (p : WorldParts) (x : Windows) (loop : EventLoop) → all_in p.tree.windows loop ≡ true
+    → (if are_windows (windows_of (world_of p)) then Some (windows_of (world_of p)) else None) ≡ Some x → all_in x.tree.windows loop ≡ true
+there_again p x loop there windows =
+    let a = told (are_windows (windows_of (world_of p))) (windows_of (world_of p)) x windows in
+    ap (λ (v : Windows). all_in v.tree.windows loop) (sym a.1) ∙ there

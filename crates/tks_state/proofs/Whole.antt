@@ -1,6 +1,6 @@
--- Worlds that stand are whole where the focus and the events that wait are of windows that are there.
-use Rattle.std.proofs.Common.{◌≡◌, ℕ, Bool, true, false, ◌&&◌, ◌||◌, not, map, List, [], ◌∷◌, length, Option, Some, None, refl, sym, ap, ◌∙◌}
-use Rattle.std.specs.Prelude.{◌==◌, ◌≤◌, ◌^◌, nat_le}
+-- Worlds that stand are whole.
+use Rattle.std.proofs.Common.{◌≡◌, ℕ, true, false, map, List, [], ◌∷◌, length, Some, refl, ap}
+use Rattle.std.specs.Prelude.{◌==◌, ◌^◌, nat_le}
 use Rattle.std.specs.List.{AllByRecursion, IsDistinct, list_all}
 use Rattle.std.proofs.lemmas.Bool.{eq-eqb, le-leb}
 use Rattle.tks_text.specs.declared.class.Class.{Class}
@@ -8,10 +8,10 @@ use Rattle.tks_bind.specs.History.{max_history}
 use Rattle.tks_opt.specs.Numbers.{class_number}
 use Rattle.tks_tree.specs.Windows as tree
 use Rattle.tks_state.specs.Events.{max_faults}
-use Rattle.tks_state.specs.Restoring.{is_kept_of, are_in_step, is_among, are_distinct, is_number, packs_children, are_windows, all_there, is_whole}
-use Rattle.tks_state.specs.WellFormed.{WellFormed, PacksChildren, AllPackChildren, InStep, packed_windows, mark_of, window_mark}
+use Rattle.tks_state.specs.Restoring.{is_kept_of, are_in_step, is_among, are_distinct, is_number, packs_children, is_whole}
+use Rattle.tks_state.specs.WellFormed.{WellFormed, AllPackChildren, InStep, packed_windows, mark_of, window_mark}
 use Rattle.tks_state.specs.Widget.{class_of}
-use Rattle.tks_state.specs.World.{World, windows_of}
+use Rattle.tks_state.specs.World.{World}
 use Rattle.tks_state.specs.declared.kept.Kept.{Kept}
 
 first_or : {X : Type 0} → X → List X → X
@@ -62,12 +62,12 @@ packs : (t : tree.Windows) (ks : List Kept) → AllPackChildren t ks → list_al
 packs t [] h = refl
 packs t (k ∷ ks) h = rw (distinct (packed_windows k) h.0.distinct, children t k.window (packed_windows k) h.0.children, packs t ks h.1) refl
 
-pub whole_where : (w : World) → WellFormed w → all_there w ≡ is_whole w
+pub whole : (w : World) → WellFormed w → is_whole w ≡ true
 unfolding is_whole
-whole_where w h =
+whole w h =
     let counted : nat_le w.accepted (2 ^ 62) ≡ true = le-leb w.accepted (2 ^ 62) h.counted in
     let step = in_step w.tree.windows w.kept h.windows.in_step in
     let each = packs w.tree w.kept h.windows.packs in
     let remembered : nat_le (length w.history) max_history ≡ true = le-leb (length w.history) max_history h.events.history in
     let faults : nat_le (length w.faults) max_faults ≡ true = le-leb (length w.faults) max_faults h.events.faults in
-    rw (counted, step, each, remembered, faults) refl
+    rw (counted, step, each, remembered, faults, h.there) refl

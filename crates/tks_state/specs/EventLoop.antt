@@ -1,7 +1,7 @@
 -- What turns work on (event(n), after(n), focus(n); the clock, and that a turn runs one thing, are this project's own):
 -- the clock, the events and scripts that wait, the window that has the focus, and what an operator holds down.
-use Rattle.std.specs.Prelude.{ℕ, Bool, is_some, if◌then◌else◌, List, [], Option, Some, None}
-use Rattle.std.specs.List.{filter}
+use Rattle.std.specs.Prelude.{ℕ, ◌≡◌, Bool, true, ◌&&◌, is_some, if◌then◌else◌, List, [], Option, Some, None}
+use Rattle.std.specs.List.{filter, list_all}
 use Rattle.tks_event.specs.Held.{nothing_held}
 use Rattle.tks_event.specs.declared.held.Held.{Held}
 use Rattle.tks_queue.specs.declared.queued.Queued.{Queued}
@@ -31,9 +31,22 @@ first_loop = record { clock = 0; queue = []; timers = nothing; focus = 0; held =
 abbrev pub is_there : List Window → ℕ → Bool
 is_there windows number = is_some (of_number windows number)
 
+-- the windows that were there are there
+abbrev pub Stay : List Window → List Window → Type 0
+Stay before after = (number : ℕ) → is_there before number ≡ true → is_there after number ≡ true
+
 -- whether an event stays: its window is there
 abbrev pub is_for : List Window → Queued → Bool
 is_for windows q = is_there windows q.event.window
+
+-- whether the window that took the last press is there, if one did
+abbrev pub is_press : List Window → Option ℕ → Bool
+is_press windows None = true
+is_press windows (Some number) = is_there windows number
+
+-- whether the focus, the events that wait and the last press are of windows that are there
+abbrev pub all_in : List Window → EventLoop → Bool
+all_in windows x = is_there windows x.focus && (list_all (is_for windows) x.queue && is_press windows x.pressed)
 
 -- the events of windows that are there
 abbrev pub left_queue : List Window → List Queued → List Queued

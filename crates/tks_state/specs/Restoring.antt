@@ -5,12 +5,12 @@ use Rattle.std.specs.List.{list_all}
 use Rattle.tks_bind.specs.History.{max_history}
 use Rattle.tks_opt.specs.Numbers.{class_number}
 use Rattle.tks_tree.specs.Windows as tree
-use Rattle.tks_state.specs.EventLoop.{is_there, is_for}
+use Rattle.tks_state.specs.EventLoop.{all_in}
 use Rattle.tks_state.specs.Events.{max_faults}
 use Rattle.tks_state.specs.Widget.{class_of}
 use Rattle.tks_state.specs.WellFormed.{packed_windows}
 use Rattle.tks_state.specs.Windows.{Windows}
-use Rattle.tks_state.specs.World.{World, windows_of}
+use Rattle.tks_state.specs.World.{World, windows_of, loop_of}
 use Rattle.tks_state.specs.declared.kept.Kept.{Kept}
 use Rattle.tks_state.specs.declared.restoring.WindowParts.{WindowParts}
 use Rattle.tks_state.specs.declared.restoring.WorldParts.{WorldParts}
@@ -59,15 +59,11 @@ are_windows x = are_in_step x.tree.windows x.kept && list_all (packs_children x.
 
 -- ---- the world
 
--- whether the focus and the events that wait are of windows that are there
-abbrev pub all_there : World → Bool
-all_there w = is_there w.tree.windows w.focus && list_all (is_for w.tree.windows) w.queue
-
 -- whether a world with such a tree is one that there may be
 unfoldable pub is_whole : World → Bool
 is_whole w =
     nat_le w.accepted (2 ^ 62)
-    && (are_windows (windows_of w) && (nat_le (length w.history) max_history && (nat_le (length w.faults) max_faults && all_there w)))
+    && (are_windows (windows_of w) && (nat_le (length w.history) max_history && (nat_le (length w.faults) max_faults && all_in w.tree.windows (loop_of w))))
 
 -- the world of these parts
 abbrev pub world_of : WorldParts → World

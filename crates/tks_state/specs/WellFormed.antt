@@ -1,14 +1,17 @@
 -- What holds of all worlds (this project's own rules; that what is packed stands in its container, pack(n)).
-use Rattle.std.specs.Prelude.{ℕ, ◌≡◌, ◌==◌, ◌≤◌, ◌^◌, List, length, map, Some}
+use Rattle.std.specs.Prelude.{ℕ, ◌≡◌, ◌==◌, ◌≤◌, ◌^◌, true, List, length, map, Some}
 use Rattle.std.specs.List.{AllByRecursion, IsDistinct}
 use Rattle.tks_text.specs.declared.class.Class.{Class}
 use Rattle.tks_tree.specs.Windows as tree
 use Rattle.tks_tree.specs.WellFormed as trees
 use Rattle.tks_bind.specs.History.{max_history}
+use Rattle.tks_bind.specs.WellFormed.{AreBindings, AreVirtuals}
+use Rattle.tks_timer.specs.WellFormed.{AreWaiting}
 use Rattle.tks_state.specs.Events.{Events, max_faults}
 use Rattle.tks_state.specs.Widget.{class_of}
 use Rattle.tks_state.specs.Windows.{Windows}
-use Rattle.tks_state.specs.World.{World, windows_of, events_of}
+use Rattle.tks_state.specs.EventLoop.{all_in}
+use Rattle.tks_state.specs.World.{World, windows_of, events_of, loop_of}
 use Rattle.tks_state.specs.declared.kept.Kept.{Kept}
 
 -- whose something is: the number of the window, and its class
@@ -43,6 +46,10 @@ pub record WellFormedWindows (x : Windows) : Type 0 where
 
 -- what holds of what scripts bound to events rest on
 pub record WellFormedEvents (x : Events) : Type 0 where
+  -- numbers are below the next one, and bindings differ in them and in their tags or sequences
+  pub bindings : AreBindings x.bindings
+  -- names differ, and each has sequences, which differ
+  pub virtuals : AreVirtuals x.virtuals
   pub history : length x.history ≤ max_history
   pub faults : length x.faults ≤ max_faults
 
@@ -50,3 +57,7 @@ pub record WellFormed (w : World) : Type 0 where
   pub counted : w.accepted ≤ 2 ^ 62
   pub windows : WellFormedWindows (windows_of w)
   pub events : WellFormedEvents (events_of w)
+  -- the focus, the events that wait and the last press are of windows that are there, and what waits has ids that rise and
+  -- differ
+  pub there : all_in w.tree.windows (loop_of w) ≡ true
+  pub timers : AreWaiting w.timers

@@ -1,11 +1,12 @@
 //! What turns work on: the clock, what waits to be delivered or run, the focus, and what is held down.
-ghost use Rattle.std.specs.Prelude.{◌≡◌, ◌↔◌, ◌≤◌, ◌^◌, ◌&&◌, Err, is_some, IfOk, IfErr, OnOk, OnErr};
+ghost use Rattle.std.specs.Prelude.{◌≡◌, ◌↔◌, ◌≤◌, ◌^◌, Err, is_some, IfOk, IfErr, OnOk, OnErr};
 ghost use Rattle.std.specs.List.{list_all};
 ghost use Rattle.tks_queue.specs.EventQueue.{put, first, without_first};
 ghost use Rattle.tks_timer.specs.After as after;
 ghost use Rattle.tks_timer.specs.After.{script_in, kept_under, with_script};
 ghost use Rattle.tks_tree.specs.Windows.{of_number};
-ghost use Rattle.tks_state.specs.EventLoop.{first_loop, is_there, is_for, left_queue, left_focus, left_pressed, left};
+ghost use Rattle.tks_timer.specs.WellFormed.{AreWaiting};
+ghost use Rattle.tks_state.specs.EventLoop.{first_loop, is_there, is_for, is_press, all_in, left_queue, left_focus, left_pressed, left};
 ghost use Rattle.tks_state.specs.Lost.{first_lost};
 
 use std::alloc::{AllocError, AllocFailed, Global};
@@ -72,11 +73,13 @@ impl EventLoop {
         }
     }
 
-    /// Whether the focus and the events that wait are of windows that are there.
+    /// Whether the focus, the events that wait and the last press are of windows that are there.
     pub fn is_in(&self, tree: &Tree) -> bool
-        ensures { result ≡ (is_there tree.now.windows self.now.focus && list_all (is_for tree.now.windows) self.now.queue) }
+        ensures { result ≡ all_in tree.now.windows self.now }
     {
-        is_there(tree, self.focus) && are_for(tree, self.queue.events())
+        is_there(tree, self.focus)
+            && are_for(tree, self.queue.events())
+            && is_press(tree, self.pressed)
     }
 
     /// The time, in milliseconds.
@@ -120,8 +123,11 @@ impl EventLoop {
 
     /// The scripts that wait to be run.
     pub fn timers(&self) -> &Timers
-        ensures { result.now.present ≡ self.now.timers }
+        ensures value { result.now.present ≡ self.now.timers }
+        ensures formed { AreWaiting self.now.timers }
     {
+        // What holds of all timers is asked for here.
+        let _ = self.timers.next();
         &self.timers
     }
 
@@ -259,6 +265,16 @@ pub fn left_pressed(tree: &Tree, window: Option<WindowId>) -> Option<WindowId>
     match window {
         Some(window) if is_there(tree, window) => Some(window),
         _ => None,
+    }
+}
+
+// Whether the window that took the last press is there, if one did.
+fn is_press(tree: &Tree, pressed: Option<WindowId>) -> bool
+    ensures { result ≡ is_press tree.now.windows pressed }
+{
+    match pressed {
+        Some(window) => is_there(tree, window),
+        None => true,
     }
 }
 

@@ -92,6 +92,8 @@ impl Events {
         ensures value { result.now ≡ self.now.faults }
         ensures formed { WellFormedEvents self.now }
     {
+        let _ = self.bindings.next();
+        let _ = self.virtuals.is_marked();
         let _ = self.history.events();
         self.faults.as_slice()
     }

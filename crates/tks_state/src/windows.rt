@@ -7,6 +7,7 @@ ghost use Rattle.tks_tree.specs.WellFormed as trees;
 ghost use Rattle.tks_tree.specs.WellFormed.{Rises};
 ghost use Rattle.tks_state.specs.Widget.{class_of};
 ghost use Rattle.tks_state.specs.Windows.{kept_of, with_widget_at, with_tags_at, packed_at, forgotten_at, propagating, still_there, first_windows, created, destroyed, changed, tagged, packed, unpacked, with_propagation};
+ghost use Rattle.tks_state.specs.EventLoop.{Stay};
 ghost use Rattle.tks_state.specs.WellFormed.{WellFormedWindows, mark_of};
 ghost use Rattle.tks_state.specs.Restoring.{are_windows};
 
@@ -211,6 +212,7 @@ impl Windows {
     pub fn add(&mut self, path: &Txt, widget: Widget) -> Result<WindowId, CreateFault>
         ensures value { MakesSo (λ id. (id, self.new)) result (created self.old path.now widget) }
         ensures err { OnErr result (self.new ≡ self.old) }
+        ensures stay { Stay self.old.tree.windows self.new.tree.windows }
     {
         let class = widget.options().class();
         self.kept.reserve(1)?;
@@ -240,14 +242,16 @@ impl Windows {
     /// Puts another widget of its class in the place of a window's. Where no window has the number, nothing is done.
     pub fn set_widget(&mut self, window: WindowId, widget: Widget)
         requires { IfSome (kept_of self.old.kept window) (λ k. class_of k.widget ≡ class_of widget) }
-        ensures { self.new ≡ changed self.old window widget }
+        ensures value { self.new ≡ changed self.old window widget }
+        ensures tree { self.new.tree ≡ self.old.tree }
     {
         set_widget_at(&mut self.kept, window, widget);
     }
 
     /// Sets the tags of a window, or takes away those that were set. Where no window has the number, nothing is done.
     pub fn set_tags(&mut self, window: WindowId, tags: Option<Seq<Txt>>)
-        ensures { self.new ≡ tagged self.old window tags }
+        ensures value { self.new ≡ tagged self.old window tags }
+        ensures tree { self.new.tree ≡ self.old.tree }
     {
         set_tags_at(&mut self.kept, window, tags);
     }
@@ -256,6 +260,7 @@ impl Windows {
     pub fn pack(&mut self, window: WindowId, options: &[Txt]) -> Result<(), Failure>
         ensures value { Gives (λ _. self.new) result (packed self.old window options.now) }
         ensures err { OnErr result (self.new ≡ self.old) }
+        ensures tree { self.new.tree ≡ self.old.tree }
     {
         let container = self.tree.parent(window);
         pack_at(&mut self.kept, container, window, options)?;
@@ -264,7 +269,8 @@ impl Windows {
 
     /// Takes a window out of the container that it is packed in, if it is.
     pub fn forget(&mut self, window: WindowId)
-        ensures { self.new ≡ unpacked self.old window }
+        ensures value { self.new ≡ unpacked self.old window }
+        ensures tree { self.new.tree ≡ self.old.tree }
     {
         let container = self.tree.parent(window);
         forget_at(&mut self.kept, container, window);
@@ -272,7 +278,8 @@ impl Windows {
 
     /// Says whether a container asks to be as large as its contents need.
     pub fn set_propagates(&mut self, window: WindowId, propagates: bool)
-        ensures { self.new ≡ with_propagation self.old window propagates }
+        ensures value { self.new ≡ with_propagation self.old window propagates }
+        ensures tree { self.new.tree ≡ self.old.tree }
     {
         set_propagates_at(&mut self.kept, window, propagates);
     }

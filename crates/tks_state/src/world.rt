@@ -58,7 +58,10 @@ impl Model for World {
 
     ghost view = { λ w. record { accepted = w.accepted; clock = w.event_loop.clock; tree = w.windows.tree; kept = w.windows.kept; variables = w.variables; bindings = w.events.bindings; virtuals = w.events.virtuals; history = w.events.history; queue = w.event_loop.queue; timers = w.event_loop.timers; focus = w.event_loop.focus; held = w.event_loop.held; pressed = w.event_loop.pressed; memories = w.memories; faults = w.events.faults; grid = w.grid } };
 
-    ghost invariant = { λ w. w.accepted ≤ 2 ^ 62 };
+    ghost use Rattle.std.specs.Prelude.{◌≡◌, true};
+    ghost use Rattle.tks_state.specs.EventLoop.{all_in};
+
+    ghost invariant = { λ w. (w.accepted ≤ 2 ^ 62) × (all_in w.windows.tree.windows w.event_loop ≡ true) };
 }
 
 impl World {
@@ -80,7 +83,7 @@ impl World {
 
     /// The world of these parts, where there may be such a world: one of these is kept of each window, of its class; what is
     /// packed in a window are distinct windows that stand right in it; no more inputs were accepted than may be, and no more
-    /// faults are kept; and the focus and the events that wait are of windows that are there.
+    /// faults are kept; and the focus, the events that wait and the last press are of windows that are there.
     #[tactic(auto, unfolding(crate::specs::Restoring::is_whole))]
     pub fn restore(alloc: Global, parts: WorldParts) -> Result<Option<World>, AllocError>
         ensures { IfOk result (λ world. world ≡ restored parts) }
@@ -129,16 +132,6 @@ impl World {
         }))
     }
 
-    /// Whether the focus and the events that wait are of windows that are there: such a world can be made again of its parts
-    /// (`restore`).
-    pub fn is_whole(&self) -> bool
-        ensures { result ≡ is_whole self.now }
-    {
-        // What holds of all worlds is asked for here.
-        let _ = self.accepted();
-        self.event_loop.is_in(self.windows.tree())
-    }
-
     // Where the world's memory comes from.
     pub(crate) fn alloc(&self) -> Global {
         self.alloc
@@ -151,6 +144,7 @@ impl World {
     {
         let _ = self.windows.tree();
         let _ = self.events.faults();
+        let _ = self.event_loop.timers();
         self.accepted
     }
 

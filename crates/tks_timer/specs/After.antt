@@ -1,5 +1,5 @@
 -- What is kept to be run later (after(n)).
-use Rattle.std.specs.Prelude.{ℕ, ◌+◌, ◌==◌, ◌&&◌, ◌||◌, nat_lt, not, Bool, if◌then◌else◌, List, [], ◌∷◌, ◌++◌, map, Option, Some, None, Result, Ok, Err, option_map}
+use Rattle.std.specs.Prelude.{ℕ, ◌+◌, ◌-◌, ◌^◌, ◌==◌, ◌&&◌, ◌||◌, nat_le, nat_lt, not, Bool, if◌then◌else◌, List, [], ◌∷◌, ◌++◌, map, Option, Some, None, Result, Ok, Err, option_map}
 use Rattle.std.specs.List.{filter}
 use Rattle.tks_text.specs.declared.fault.ScriptFault.{ScriptFault}
 use Rattle.tks_text.specs.declared.fault.ErrorNumber.TheVariants as number
@@ -22,9 +22,17 @@ pub record Views : Type 0 where
 abbrev pub nothing : Content
 nothing = record { timers = []; idles = []; next = 0 }
 
--- `after ms script`
+-- the last time that there is, in milliseconds (this project's own rule)
+abbrev pub last_time : ℕ
+last_time = 2 ^ 62 - 1
+
+-- a time, or the last one where it is later
+abbrev pub no_later : ℕ → ℕ
+no_later time = if nat_le time last_time then time else last_time
+
+-- `after ms script`, due at a time or at the last one
 abbrev pub with_timer : ℕ → List ℕ → Content → Content
-with_timer due script c = record c { timers = c.timers ++ (record { id = c.next; due = due; script = script }) ∷ []; next = c.next + 1 }
+with_timer due script c = record c { timers = c.timers ++ (record { id = c.next; due = no_later due; script = script }) ∷ []; next = c.next + 1 }
 
 -- `after idle script`
 abbrev pub with_idle : List ℕ → Content → Content

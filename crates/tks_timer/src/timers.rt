@@ -1,9 +1,10 @@
-ghost use Rattle.std.specs.Prelude.{◌≡◌, ◌↔◌, ◌<◌, ◌≤◌, ◌^◌, ◌++◌, ℕ, length, map, Some, None, Err, IsSome, is_some, IfSome, IfOk, OnOk, OnErr, option_copied, option_map, IsPermutation};
+ghost use Rattle.std.specs.Prelude.{◌≡◌, ◌↔◌, ◌<◌, ◌≤◌, ◌^◌, ◌++◌, ℕ, true, length, map, Some, None, Err, IsSome, is_some, IfSome, IfOk, OnOk, OnErr, option_copied, option_map, IsPermutation};
 ghost use Rattle.std.specs.List.Sorted.{IsSorted};
 ghost use Rattle.std.specs.Ordering.{nat_cmp};
 ghost use Rattle.tks_text.specs.Fault.{Gives};
-ghost use Rattle.tks_timer.specs.After.{Content, nothing, with_timer, with_idle, without, without_found, is_sooner, soonest, lesser, first_due, due_at, first_idle, timer_script, idle_script, kept_under, script_in, told_about, timer_with, idle_with, with_script, ids};
+ghost use Rattle.tks_timer.specs.After.{Content, nothing, no_later, with_timer, with_idle, without, without_found, is_sooner, soonest, lesser, first_due, due_at, first_idle, timer_script, idle_script, kept_under, script_in, told_about, timer_with, idle_with, with_script, ids};
 ghost use Rattle.tks_timer.specs.Waits.{waiting_seen};
+ghost use Rattle.tks_timer.specs.WellFormed.{are_waiting, WellFormedTimers};
 
 use crate::entry::{Idle, Timer};
 use crate::fault::AfterFault;
@@ -14,6 +15,9 @@ use tks_text::{ErrorNumber, Failure, Txt};
 
 /// The id that none reaches.
 const MAX_ID: u64 = 1 << 62;
+
+/// The last time that there is, in milliseconds.
+const LAST_TIME: u64 = (1 << 62) - 1;
 
 /// A script that waits, and what for.
 #[derive(Clone, Copy)]
@@ -42,7 +46,9 @@ impl Model for Timers {
 
     ghost view = { λ t. record { present = record { timers = t.timers.present; idles = t.idles.present; next = t.next }; at_mark = then_of t.timers.at_mark t.idles.at_mark t.next_at_mark } };
 
-    ghost invariant = { λ t. Together t.timers.at_mark t.idles.at_mark };
+    ghost use Rattle.tks_timer.specs.WellFormed.{WellFormedTimers};
+
+    ghost invariant = { λ t. Together t.timers.at_mark t.idles.at_mark × WellFormedTimers (record { present = record { timers = t.timers.present; idles = t.idles.present; next = t.next }; at_mark = then_of t.timers.at_mark t.idles.at_mark t.next_at_mark }) };
 }
 
 impl Timers {
@@ -60,13 +66,15 @@ impl Timers {
     }
 
     /// These timers and idle scripts, in order, and this next id, with no mark, so that they are made again from what
-    /// there was.
+    /// there was. Their ids rise and differ, below the next one.
     pub fn restore(
         alloc: Global,
         timers: Vec<Timer>,
         idles: Vec<Idle>,
         next: u64,
     ) -> Result<Timers, AllocError>
+        requires small { next ≤ 2 ^ 62 }
+        requires formed { are_waiting (record { timers = timers.items; idles = idles.items; next = next }) ≡ true }
         ensures { IfOk result (λ made. made ≡ record { present = record { timers = timers.items; idles = idles.items; next = next }; at_mark = None }) }
     {
         let timers = Marked::of(alloc, timers)?;
@@ -96,7 +104,8 @@ impl Timers {
 
     /// The id that the next script gets.
     pub fn next(&self) -> u64
-        ensures { result ≡ self.now.present.next }
+        ensures value { result ≡ self.now.present.next }
+        ensures formed { WellFormedTimers self.now }
     {
         self.next
     }
@@ -115,7 +124,8 @@ impl Timers {
         self.idles.len()
     }
 
-    /// Keeps a script that is due at a time, in milliseconds. It answers the script's id.
+    /// Keeps a script that is due at a time, in milliseconds, or at the last time that there is. It answers the
+    /// script's id.
     pub fn after(&mut self, due: u64, script: Txt) -> Result<u64, AfterFault>
         ensures id { IfOk result (λ id. id ≡ self.old.present.next) }
         ensures ok { OnOk result (self.new ≡ record self.old { present = with_timer due script self.old.present }) }
@@ -126,6 +136,7 @@ impl Timers {
         if id >= MAX_ID {
             return Err(AfterFault::OutOfNumbers);
         }
+        let due = no_later(due);
         self.timers.push(Timer { id, due, script })?;
         self.next = id + 1;
         Ok(id)
@@ -292,6 +303,13 @@ impl Timers {
             next_at_mark: 0,
         })
     }
+}
+
+// A time, or the last one where it is later.
+fn no_later(time: u64) -> u64
+    ensures { result ≡ no_later time }
+{
+    time.min(LAST_TIME)
 }
 
 // Whether the first is due sooner, or together with the second and of a lesser id.

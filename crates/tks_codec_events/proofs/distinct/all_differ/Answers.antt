@@ -1,5 +1,5 @@
 use Rattle.std.proofs.Common.{sym, ap, ◌∙◌}
-use Rattle.tks_codec_events.specs.Distinct.{first_differs}
+use Rattle.tks_bind.specs.Distinct.{first_differs}
 use Rattle.tks_codec_events.proofs.Differing.{one_apart}
 use Rattle.tks_codec_events.proofs.distinct.all_differ.Goals as goal
 

@@ -1,5 +1,5 @@
 use Rattle.std.proofs.Common.{◌≡◌, drop}
-use Rattle.tks_codec_events.specs.Distinct.{all_differ}
+use Rattle.tks_bind.specs.Distinct.{all_differ}
 use Rattle.tks_codec_events.proofs.distinct.all_differ.Given as goal
 
 -- those further on decide

@@ -20,4 +20,6 @@ returns-clause-puts c =
 pub returns-clause-legal : goal.returns-clause-legal
 returns-clause-legal c =
     let timers = subst (λ ts. (list timer).Legal ts) c.timers.ensures (c.in_ok-put_items.ensures.legal (nothing_asked c.timers.result)) in
-    where_put c.put_items-2.result (λ legal is. ((timers, (subst (λ is. (list idle).Legal is) c.idles.ensures (legal (nothing_asked c.idles.result)), refl)), is)) c.put_items-2.ensures.legal
+    where_put c.put_items-2.result
+    (λ legal. ((timers, (subst (λ is. (list idle).Legal is) c.idles.ensures (legal (nothing_asked c.idles.result)), refl)), c.next.ensures.formed.present.waiting))
+    c.put_items-2.ensures.legal

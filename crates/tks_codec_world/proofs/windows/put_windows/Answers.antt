@@ -40,4 +40,4 @@ returns-clause-legal c =
     ap (λ (ks : List Kept). lines_from (packings_of ks) c.tree.result.now.windows ks) kept
     ∙ ap (λ (t : tree.Windows). lines_from (packings_of w.kept) t.windows w.kept) c.tree.ensures.value in
     let few : length lines < 2 ^ 32 = omega (arith, lines_count (packings_of w.kept) w.tree.windows w.kept formed.in_step, c.requires.count) in
-    where_put c.put_each.result (λ h. windows_legal (windows_of w) formed (few, each_is_legal line None lines (subst (λ (ls : List Line). AllByRecursion line.Legal ls) same h))) c.put_each.ensures.legal
+    where_put c.put_each.result (λ h. windows_legal (windows_of w) formed c.requires.classes (few, each_is_legal line None lines (subst (λ (ls : List Line). AllByRecursion line.Legal ls) same h))) c.put_each.ensures.legal

@@ -1,3 +1,4 @@
+use Rattle.std.proofs.Common.{arith}
 use Rattle.std.proofs.lemmas.Result.{err_from_is_err_and}
 use Rattle.tks_codec_events.specs.Timers.{waiting_at}
 use Rattle.tks_codec_variables.specs.Variables.{variables_at}
@@ -6,6 +7,7 @@ use Rattle.tks_codec_world.specs.Ends.{ends_at}
 use Rattle.tks_codec_world.specs.Happenings.{happenings_at, happenings_seen}
 use Rattle.tks_codec_world.specs.Windows.{windows_at, windows_seen}
 use Rattle.tks_codec_world.specs.World.{fields_at}
+use Rattle.tks_codec_world.proofs.OfParts.{binding_within, timer_within}
 use Rattle.tks_codec_world.proofs.OfWorlds.{fails_behind, fails_first}
 use Rattle.tks_codec_world.proofs.world.parts_of.Goals as goal
 
@@ -22,3 +24,11 @@ returns-in_err-ends c =
     fails_behind e _ (c.in_ok-queue.queue.present, c.in_ok-queue.rest.now) _ c.in_ok-queue.ensures.reads (
     fails_behind e _ (c.in_ok-timers.timers.present, c.in_ok-timers.rest.now) _ c.in_ok-timers.ensures.reads (
     fails_first e _ _ c.in_err-ends.ensures)))))))
+
+pub happenings_of-requires : goal.happenings_of-requires
+unfolding counts_at
+happenings_of-requires c = binding_within c.args.bytes.now c.in_ok-counts.rest.now c.in_ok-counts.counts (λ i. omega (arith, c.type_inv.bytes i)) c.in_ok-counts.ensures
+
+pub waiting_of-requires : goal.waiting_of-requires
+unfolding counts_at
+waiting_of-requires c = timer_within c.args.bytes.now c.in_ok-counts.rest.now c.in_ok-counts.counts (λ i. omega (arith, c.type_inv.bytes i)) c.in_ok-counts.ensures

@@ -1,6 +1,8 @@
-use Rattle.std.proofs.Common.{rules, ◌≡◌, Some, None, sym, ◌∙◌}
+use Rattle.std.proofs.Common.{rules, ◌≡◌, ◌==◌, false, length, Some, None, refl, sym, ◌∙◌}
 use Rattle.tks_bind.specs.VirtualEvents.{other_sequences}
 use Rattle.tks_bind.specs.VirtualIndexes.{found}
+use Rattle.tks_bind.specs.declared.virtual_event.VirtualEvent.{VirtualEvent}
+use Rattle.tks_bind.proofs.VirtualForming.{removed_apart, replaced_apart, found_differs, met_less}
 use Rattle.tks_bind.proofs.Virtually.{none_deleted, last_deleted, one_deleted, found_inside, empty_list}
 use Rattle.tks_bind.proofs.virtuals.Virtuals.event_delete_sequence.Goals as goal
 
@@ -35,3 +37,19 @@ returns-clause-ok c =
     let there : found c.args.name.now c.args.self.now.present ≡ Some c.in-Some.event.now = search rules in
     let one = one_deleted c.args.name.now c.args.sequence.now c.in-Some.event.now c.in_ok-left.left c.args.self.now.present there (search rules) (search rules) in
     search rules
+
+pub invariant_of-self : goal.invariant_of-self
+invariant_of-self c =
+    rw c.remove.ensures (record { present = removed_apart c.self.inside.events.present c.index_of-index.result c.self.invariant.present; at_mark = c.self.invariant.at_mark })
+
+pub invariant_of-self-2 : goal.invariant_of-self-2
+invariant_of-self-2 c =
+    let there : found c.args.name.now c.self.inside.events.present ≡ Some c.in-Some.event.now = search rules in
+    let name : c.in_ok-try_clone.field-0 ≡ c.in-Some.event.now.name = search rules in
+    let gives : c.in_ok-left.left ≡ other_sequences c.args.sequence.now c.in-Some.event.now.sequences = search rules in
+    let some : (length c.in_ok-left.left == 0) ≡ false = search rules in
+    let differ = found_differs c.args.name.now c.in-Some.event.now c.self.inside.events.present there c.self.invariant.present in
+    let met = met_less c.in-Some.event.now.name c.args.sequence.now c.in-Some.event.now.sequences c.in_ok-left.left differ gives some in
+    let new : VirtualEvent = record { name = c.in-Some.event.now.name; sequences = c.in_ok-left.left } in
+    let all = replaced_apart c.args.name.now c.in-Some.event.now new c.self.inside.events.present there refl met c.self.invariant.present in
+    rw (c.in_ok-replace.ensures.ok, name, c.index_of-index.ensures) (record { present = all; at_mark = c.self.invariant.at_mark })

@@ -1,11 +1,13 @@
 use Rattle.std.proofs.Common.{◌≤◌, ◌+◌, ◌++◌, ◌∷◌, [], ap, sym, subst, ◌∙◌, arith}
 use Rattle.std.specs.Vec.{vec_len, vec_capacity}
 use Rattle.tks_opt.specs.Options.{Options}
-use Rattle.tks_state.specs.Windows.{new_kept}
+use Rattle.tks_state.specs.EventLoop.{Stay}
+use Rattle.tks_state.specs.Windows.{Windows, new_kept}
 use Rattle.tks_tree.proofs.Parents.{made_so}
 use Rattle.tks_state.specs.WellFormed.{InStep, AllPackChildren}
 use Rattle.tks_state.proofs.Marks.{added, pushed}
 use Rattle.tks_state.proofs.Children.{added_packs}
+use Rattle.tks_state.proofs.Looping.{made_stay}
 use Rattle.tks_state.proofs.windows.Windows.add.Goals as goal
 
 pub invariant_of-self-2 : goal.invariant_of-self-2
@@ -26,3 +28,8 @@ invariant_of-self-2 c =
       packs = subst (AllPackChildren u) (ap (λ p. old ++ record (new_kept c.in_ok-window.window c.args.widget) { packing = p } ∷ []) (sym c.new.ensures) ∙ grown)
           (added_packs t u old c.in_ok-window.window c.args.widget behind.stands c.self.invariant.packs);
     }
+
+pub returns-clause-stay : goal.returns-clause-stay
+returns-clause-stay c =
+    let u = c.create.new.self in
+    subst (λ (x : Windows). Stay x.tree.windows u.windows) c.self.view_is (made_stay c.self.inside.tree u c.args.path.now c.class-class.result c.in_ok-window.window c.in_ok-window.ensures.value)
