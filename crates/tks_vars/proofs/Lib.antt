@@ -2,3 +2,6 @@ pub mod Tables
 pub mod Changes
 pub mod Frames
 pub mod Entries
+pub mod Keeping
+pub mod Scripting
+pub mod Linking

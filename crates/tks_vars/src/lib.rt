@@ -3,6 +3,7 @@
 
 mod clones;
 mod content;
+mod laws;
 mod name;
 mod procedure;
 mod table;
@@ -10,6 +11,9 @@ mod vars;
 mod writing;
 
 pub use content::Content;
+pub use laws::{
+    a_frame_leaves_nothing, a_link_is_the_global, what_is_set_is_got, what_is_unset_is_gone,
+};
 pub use name::names_whole;
 pub use procedure::{Argument, Parameter, Procedure};
 pub use table::Table;

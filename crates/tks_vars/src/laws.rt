@@ -1,0 +1,30 @@
+//! What holds of variables, in the words of scripts.
+ghost use Rattle.std.specs.Prelude.{◌≡◌, List, ℕ};
+ghost use Rattle.tks_vars.specs.Laws.{SetIsGot, SetLeavesOthers, UnsetIsGone, UnsetLeavesOthers, LinkReads, LinkWrites};
+ghost use Rattle.tks_vars.specs.Variables.{Variables, pushed, pushed_global, pushed_with, popped};
+ghost use Rattle.tks_vars.specs.declared.procedure.Argument.{Argument};
+
+/// A variable or an element has the value that it was given; other variables and elements have what they had.
+pub fn what_is_set_is_got()
+    ensures got { (v new : Variables) (name value : List ℕ) → SetIsGot v name value new }
+    ensures others { (v new : Variables) (name value : List ℕ) → SetLeavesOthers v name value new }
+{}
+
+/// A variable or an element that is taken out isn't there; other variables and elements have what they had.
+pub fn what_is_unset_is_gone()
+    ensures gone { (v new : Variables) (name : List ℕ) → UnsetIsGone v name new }
+    ensures others { (v new : Variables) (name : List ℕ) → UnsetLeavesOthers v name new }
+{}
+
+/// A name that was made a link has the value of the global, and what it is given the global is given.
+pub fn a_link_is_the_global()
+    ensures reads { (v new : Variables) (name : List ℕ) → LinkReads v name new }
+    ensures writes { (v new : Variables) (name : List ℕ) → LinkWrites v name new }
+{}
+
+/// A frame that is begun and ended leaves all as it was.
+pub fn a_frame_leaves_nothing()
+    ensures empty { (v : Variables) → popped (pushed v) ≡ v }
+    ensures of_globals { (v : Variables) → popped (pushed_global v) ≡ v }
+    ensures with_arguments { (v : Variables) (arguments : List Argument) → popped (pushed_with arguments v) ≡ v }
+{}
