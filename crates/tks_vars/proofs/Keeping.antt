@@ -128,7 +128,7 @@ content_put v name c = with_by v.globals v.locals v.procedures name c
 
 with_apart_by : (globals : Map Content) (locals : List (Option Frame)) (procedures : Map Procedure) (name : List ℕ) (c : Content) (q : List ℕ) → q ≢ name
     → content_of (with_content (record { globals = globals; locals = locals; procedures = procedures }) name c) q
-      ≡ content_of (record { globals = globals; locals = locals; procedures = procedures }) q
+    ≡ content_of (record { globals = globals; locals = locals; procedures = procedures }) q
 with_apart_by globals [] procedures name c q other = put_elsewhere globals name c q other
 with_apart_by globals (None ∷ below) procedures name c q other = put_elsewhere globals name c q other
 with_apart_by globals (Some frame ∷ below) procedures name c q other = put_apart globals below procedures name c frame (fin.get frame name) q other refl
@@ -147,7 +147,7 @@ content_gone v name = without_by v.globals v.locals v.procedures name
 
 without_apart_by : (globals : Map Content) (locals : List (Option Frame)) (procedures : Map Procedure) (name q : List ℕ) → q ≢ name
     → content_of (without_content (record { globals = globals; locals = locals; procedures = procedures }) name) q
-      ≡ content_of (record { globals = globals; locals = locals; procedures = procedures }) q
+    ≡ content_of (record { globals = globals; locals = locals; procedures = procedures }) q
 without_apart_by globals [] procedures name q other = taken_elsewhere globals name q other
 without_apart_by globals (None ∷ below) procedures name q other = taken_elsewhere globals name q other
 without_apart_by globals (Some frame ∷ below) procedures name q other = taken_apart globals below procedures name frame (fin.get frame name) q other refl

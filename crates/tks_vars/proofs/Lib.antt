@@ -5,3 +5,4 @@ pub mod Entries
 pub mod Keeping
 pub mod Scripting
 pub mod Linking
+pub mod Spelled

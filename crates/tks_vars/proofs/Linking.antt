@@ -77,7 +77,7 @@ module _ (new : Variables) (text : List ℕ) where
 
   writes_by : (value : List ℕ) (n : Option Name) → ((name : Name) → n ≡ Some name → is_global (innermost new.locals) name.variable ≡ true)
       → about text (on_name n (λ name. after (written (content_of new name.variable) name.index value) (with_content new name.variable)))
-        ≡ back (about text (on_name n (λ name. after (written (content_of (pushed_global new) name.variable) name.index value) (with_content (pushed_global new) name.variable))))
+      ≡ back (about text (on_name n (λ name. after (written (content_of (pushed_global new) name.variable) name.index value) (with_content (pushed_global new) name.variable))))
   writes_by value None global = refl
   writes_by value (Some n) global =
       ap (λ (o : Option Content). about text (after (written o n.index value) (with_content new n.variable))) (read_global new.globals (innermost new.locals) n.variable (global n refl))

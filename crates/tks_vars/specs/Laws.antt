@@ -1,5 +1,6 @@
 -- What holds of variables, in the words of scripts (set(n), unset(n), global(n), proc(n)).
-use Rattle.std.specs.Prelude.{◌≡◌, ◌≢◌, ◌⊎◌, ℕ, List, Option, Some, None, Ok, Err}
+use Rattle.std.specs.Prelude.{◌≡◌, ◌≢◌, ◌⊎◌, ◌==◌, true, not, ℕ, List, [], ◌++◌, codes, Option, Some, None, Ok, Err}
+use Rattle.std.specs.List.{list_all}
 use Rattle.tks_text.specs.declared.fault.ErrorNumber.TheVariants.{NoSuchVariable}
 use Rattle.tks_text.specs.Fault.{fault_about}
 use Rattle.tks_vars.specs.Names.{Name, named}
@@ -45,3 +46,9 @@ LinkReads v name new = linked v name ≡ Ok new → value_of new name ≡ global
 -- what a link is given the global is given
 abbrev pub LinkWrites : Variables → List ℕ → Variables → Type 0
 LinkWrites v name new = (value : List ℕ) → linked v name ≡ Ok new → with_value new name value ≡ with_global_value new name value
+
+-- a text names an element: the variable, `(`, the index, `)`, and no `(` in the variable, which has a name
+pub record NamesElement (text variable index : List ℕ) : Type 0 where
+  pub spelled : text ≡ variable ++ (codes "(" ++ (index ++ codes ")"))
+  pub some : variable ≢ []
+  pub first : list_all (λ b. not (b == 40)) variable ≡ true

@@ -1,8 +1,14 @@
 //! What holds of variables, in the words of scripts.
-ghost use Rattle.std.specs.Prelude.{◌≡◌, List, ℕ};
-ghost use Rattle.tks_vars.specs.Laws.{SetIsGot, SetLeavesOthers, UnsetIsGone, UnsetLeavesOthers, LinkReads, LinkWrites};
+ghost use Rattle.std.specs.Prelude.{◌≡◌, ◌↔◌, List, ℕ, Some};
+ghost use Rattle.tks_vars.specs.Laws.{NamesElement, SetIsGot, SetLeavesOthers, UnsetIsGone, UnsetLeavesOthers, LinkReads, LinkWrites};
+ghost use Rattle.tks_vars.specs.Names.{named, element};
 ghost use Rattle.tks_vars.specs.Variables.{Variables, pushed, pushed_global, pushed_with, popped};
 ghost use Rattle.tks_vars.specs.declared.procedure.Argument.{Argument};
+
+/// A text names an element just where it is the name of a variable, `(`, an index and `)`, and this is the first `(`.
+pub fn an_element_has_an_index()
+    ensures { (text variable index : List ℕ) → (named text ≡ Some (element variable index)) ↔ NamesElement text variable index }
+{}
 
 /// A variable or an element has the value that it was given; other variables and elements have what they had.
 pub fn what_is_set_is_got()
