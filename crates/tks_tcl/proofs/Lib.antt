@@ -1,3 +1,5 @@
 pub mod Causes
 pub mod Limits
 pub mod Parts
+pub mod Listing
+pub mod Erring
