@@ -1,3 +1,4 @@
 pub mod Values
 pub mod Growing
 pub mod Restored
+pub mod Given

@@ -5,3 +5,4 @@ pub mod Options
 pub mod Cells
 pub mod Calls
 pub mod Numbers
+pub mod Laws

@@ -19,7 +19,9 @@ pub use anchor::Anchor;
 pub use calls::{are_pairs, wrong_words};
 pub use cells::{blank_row, blank_rows, line_row};
 pub use classes::{class_number, class_numbered};
-pub use laws::{anchors_have_numbers, classes_have_numbers, options_are_restored};
+pub use laws::{
+    anchors_have_numbers, classes_have_numbers, options_are_restored, the_last_value_is_told,
+};
 pub use name::OptionName;
 pub use number::{boolean_of, number_within};
 pub use options::Options;
