@@ -3,3 +3,4 @@ pub mod Limits
 pub mod Parts
 pub mod Listing
 pub mod Erring
+pub mod Framing

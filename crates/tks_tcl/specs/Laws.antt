@@ -4,6 +4,7 @@ use Rattle.std.specs.Prelude.{◌≡◌, ◌≢◌, ◌↔◌, ◌<◌, ◌+◌,
 use Rattle.std.specs.List.{slice_get}
 use Rattle.tks_text.specs.Text.{same_text}
 use Rattle.tks_text.specs.declared.limits.Limits.{Limits}
+use Rattle.tks_vars.specs.Laws.{FramesStay}
 use Rattle.tks_vars.specs.Variables.{Variables}
 use Rattle.tks_tcl.specs.Cause.{after}
 use Rattle.tks_tcl.specs.Index.{place, before}
@@ -23,6 +24,11 @@ OthersStay limits wider = (words : List (List ℕ)) (variables : Variables) → 
 -- a command that ends with an error leaves the variables as they were
 abbrev pub ErrorsChangeNothing : Type 0
 ErrorsChangeNothing = (limits : Limits) (words : List (List ℕ)) (variables new : Variables) (text : List ℕ) → plain limits words variables ≡ Some (Answers 1 text new) → new ≡ variables
+
+-- a command leaves the frames below the innermost
+abbrev pub LeavesFrames : Type 0
+LeavesFrames =
+    (limits : Limits) (words : List (List ℕ)) (variables new : Variables) (code : ℕ) (text : List ℕ) → plain limits words variables ≡ Some (Answers code text new) → FramesStay variables new
 
 -- a text is split and joined by the same
 abbrev pub JoinsBack : List ℕ → Type 0

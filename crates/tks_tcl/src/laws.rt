@@ -1,7 +1,7 @@
 ghost use Rattle.std.specs.Prelude.{◌≡◌, ℕ, List, [], ◌∷◌};
 ghost use Rattle.std.specs.List.{slice_get};
 ghost use Rattle.tks_tcl.specs.Index.{range};
-ghost use Rattle.tks_tcl.specs.Laws.{AnswersStay, OthersStay, ErrorsChangeNothing, JoinsBack, member_of_range, FindsFirst, MissesNone};
+ghost use Rattle.tks_tcl.specs.Laws.{AnswersStay, OthersStay, ErrorsChangeNothing, LeavesFrames, JoinsBack, member_of_range, FindsFirst, MissesNone};
 ghost use Rattle.tks_tcl.specs.declared.index.Index.{Index};
 ghost use Rattle.tks_text.specs.Limits.{Wider};
 ghost use Rattle.tks_text.specs.declared.limits.Limits.{Limits};
@@ -15,6 +15,11 @@ pub fn wider_limits_keep_answers()
 /// A command that ends with an error of its own has changed no variable.
 pub fn errors_change_nothing()
     ensures { ErrorsChangeNothing }
+{}
+
+/// A command leaves all frames but the innermost, and as many of them.
+pub fn commands_leave_frames()
+    ensures { LeavesFrames }
 {}
 
 /// A text that is split at a character, or into its characters, and joined by the same is the text.

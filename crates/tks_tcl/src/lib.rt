@@ -17,8 +17,8 @@ pub use calls::plain;
 pub use command::is_built_in;
 pub use interrupt::{Interrupt, error_about, fits, within, wrong_words};
 pub use laws::{
-    a_range_goes_place_by_place, a_search_finds_the_first, errors_change_nothing, fields_join_back,
-    wider_limits_keep_answers,
+    a_range_goes_place_by_place, a_search_finds_the_first, commands_leave_frames,
+    errors_change_nothing, fields_join_back, wider_limits_keep_answers,
 };
 pub use lists::{concatenated, joined_by};
 pub use stop::Stop;

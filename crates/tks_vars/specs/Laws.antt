@@ -1,5 +1,5 @@
 -- What holds of variables, in the words of scripts (set(n), unset(n), global(n), proc(n)).
-use Rattle.std.specs.Prelude.{◌≡◌, ◌≢◌, ◌⊎◌, ◌==◌, true, not, ℕ, List, [], ◌++◌, codes, Option, Some, None, Ok, Err}
+use Rattle.std.specs.Prelude.{◌≡◌, ◌≢◌, ◌⊎◌, ◌==◌, true, not, ℕ, List, [], ◌++◌, length, drop, codes, Option, Some, None, Ok, Err}
 use Rattle.std.specs.List.{list_all}
 use Rattle.tks_text.specs.declared.fault.ErrorNumber.TheVariants.{NoSuchVariable}
 use Rattle.tks_text.specs.Fault.{fault_about}
@@ -52,3 +52,8 @@ pub record NamesElement (text variable index : List ℕ) : Type 0 where
   pub spelled : text ≡ variable ++ (codes "(" ++ (index ++ codes ")"))
   pub some : variable ≢ []
   pub first : list_all (λ b. not (b == 40)) variable ≡ true
+
+-- the frames below the innermost stay, and there are as many
+pub record FramesStay (before after : Variables) : Type 0 where
+  pub below : drop 1 after.locals ≡ drop 1 before.locals
+  pub count : length after.locals ≡ length before.locals

@@ -1,9 +1,10 @@
 //! What holds of variables, in the words of scripts.
-ghost use Rattle.std.specs.Prelude.{◌≡◌, ◌↔◌, List, ℕ, Some};
-ghost use Rattle.tks_vars.specs.Laws.{NamesElement, SetIsGot, SetLeavesOthers, UnsetIsGone, UnsetLeavesOthers, LinkReads, LinkWrites};
+ghost use Rattle.std.specs.Prelude.{◌≡◌, ◌↔◌, List, ℕ, Some, IfOk};
+ghost use Rattle.tks_vars.specs.Laws.{NamesElement, SetIsGot, SetLeavesOthers, UnsetIsGone, UnsetLeavesOthers, LinkReads, LinkWrites, FramesStay};
 ghost use Rattle.tks_vars.specs.Names.{named, element};
-ghost use Rattle.tks_vars.specs.Variables.{Variables, pushed, pushed_global, pushed_with, popped};
+ghost use Rattle.tks_vars.specs.Variables.{Variables, with_value, with_global_value, without, linked, with_procedure, pushed, pushed_global, pushed_with, popped};
 ghost use Rattle.tks_vars.specs.declared.procedure.Argument.{Argument};
+ghost use Rattle.tks_vars.specs.declared.procedure.Procedure.{Procedure};
 
 /// A text names an element just where it is the name of a variable, `(`, an index and `)`, and this is the first `(`.
 pub fn an_element_has_an_index()
@@ -33,4 +34,14 @@ pub fn a_frame_leaves_nothing()
     ensures empty { (v : Variables) → popped (pushed v) ≡ v }
     ensures of_globals { (v : Variables) → popped (pushed_global v) ≡ v }
     ensures with_arguments { (v : Variables) (arguments : List Argument) → popped (pushed_with arguments v) ≡ v }
+{}
+
+/// A change of a variable or an element, of a global, of a link or of a procedure leaves all frames but the innermost, and
+/// as many of them.
+pub fn frames_stay()
+    ensures given { (v : Variables) (name value : List ℕ) → IfOk (with_value v name value) (FramesStay v) }
+    ensures given_to_global { (v : Variables) (name value : List ℕ) → IfOk (with_global_value v name value) (FramesStay v) }
+    ensures taken { (v : Variables) (name : List ℕ) → IfOk (without v name) (FramesStay v) }
+    ensures linked { (v : Variables) (name : List ℕ) → IfOk (linked v name) (FramesStay v) }
+    ensures defined { (v : Variables) (name : List ℕ) (procedure : Procedure) → FramesStay v (with_procedure v name procedure) }
 {}

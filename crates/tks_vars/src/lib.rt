@@ -12,8 +12,8 @@ mod writing;
 
 pub use content::Content;
 pub use laws::{
-    a_frame_leaves_nothing, a_link_is_the_global, an_element_has_an_index, what_is_set_is_got,
-    what_is_unset_is_gone,
+    a_frame_leaves_nothing, a_link_is_the_global, an_element_has_an_index, frames_stay,
+    what_is_set_is_got, what_is_unset_is_gone,
 };
 pub use name::names_whole;
 pub use procedure::{Argument, Parameter, Procedure};
