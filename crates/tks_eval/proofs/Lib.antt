@@ -5,3 +5,4 @@ pub mod Runs
 pub mod Spending
 pub mod Turns
 pub mod Wider
+pub mod Framing

@@ -3,9 +3,11 @@
 use Rattle.std.specs.Prelude.{◌≡◌, ◌≢◌, ◌≤◌, ℕ, zero, suc, ◌+◌, List}
 use Rattle.tks_text.specs.declared.limits.Limits.{Limits}
 use Rattle.tks_parse.specs.Tree.{Script, no_command, join_scripts}
+use Rattle.tks_vars.specs.Laws.{FramesStay}
 use Rattle.tks_vars.specs.Variables.{Variables}
 use Rattle.tks_eval.specs.Outcome.{Outcome, End, Stopped, Answer, Unknown, Comes, PassesLimit, Meaning, mapped, Next, after}
 use Rattle.tks_eval.specs.Evaluation.{tested, turn_does, loop_does, done, evaluate}
+use Rattle.tks_eval.specs.declared.host.Plan.{Plan}
 use Rattle.tks_eval.specs.declared.loops.Loop.{Loop}
 
 -- ---- two halves of a script
@@ -62,6 +64,17 @@ EndsStay {S = S} host limits wider = (depth deeper : ℕ) → depth ≤ deeper
     → (script : Script) (state : S) (variables : Variables) (fuel more : ℕ) (code : ℕ) (text : List ℕ) (state' : S) (variables' : Variables) (left : ℕ)
     → evaluate host limits depth script state variables fuel ≡ End code text state' variables' left
     → evaluate host wider deeper script state variables (fuel + more) ≡ End code text state' variables' (left + more)
+
+-- ---- frames
+
+-- a host's commands leave the frames below the innermost
+pub record HostLeavesFrames {S : Type 0} (host : Meaning S) : Type 0 where
+  pub commands : (state : S) (variables : Variables) (words : List (List ℕ)) (plan : Plan) (state' : S) (variables' : Variables) → host.commands state variables words ≡ Comes plan state' variables' → FramesStay variables variables'
+
+-- and so does a script that ends
+abbrev pub LeavesFrames : {S : Type 0} → Meaning S → Type 0
+LeavesFrames {S = S} host = (limits : Limits) (depth : ℕ) (script : Script) (state : S) (variables : Variables) (fuel : ℕ) (code : ℕ) (text : List ℕ) (state' : S) (variables' : Variables) (left : ℕ)
+    → evaluate host limits depth script state variables fuel ≡ End code text state' variables' left → FramesStay variables variables'
 
 -- ---- loops
 

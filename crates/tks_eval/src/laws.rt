@@ -1,4 +1,4 @@
-ghost use Rattle.tks_eval.specs.Laws.{EndsStay, RunsAsHalves, TextIsOfSecondHalf, Unrolls};
+ghost use Rattle.tks_eval.specs.Laws.{EndsStay, HostLeavesFrames, LeavesFrames, RunsAsHalves, TextIsOfSecondHalf, Unrolls};
 ghost use Rattle.tks_text.specs.Limits.{Wider};
 ghost use Rattle.tks_text.specs.declared.limits.Limits.{Limits};
 
@@ -18,4 +18,9 @@ pub fn wider_limits_keep_ends<H: Host>()
 /// A loop is a test of its condition and, where that holds, its body, the script behind it, and the loop again.
 pub fn loops_unroll<H: Host>()
     ensures { Unrolls H.meaning }
+{}
+
+/// A script that ends leaves all frames but the innermost, and as many of them, for each host whose commands do.
+pub fn scripts_leave_frames<H: Host>()
+    ensures { HostLeavesFrames H.meaning → LeavesFrames H.meaning }
 {}

@@ -20,5 +20,7 @@ mod words;
 
 pub use ended::Ended;
 pub use host::{Host, Plan};
-pub use laws::{loops_unroll, script_runs_as_its_halves, wider_limits_keep_ends};
+pub use laws::{
+    loops_unroll, script_runs_as_its_halves, scripts_leave_frames, wider_limits_keep_ends,
+};
 pub use machine::{eval, eval_plan};

@@ -19,12 +19,12 @@ use Rattle.tks_tcl.specs.declared.variables.VariableCommand.{VariableCommand}
 use Rattle.tks_tcl.specs.declared.variables.VariableCommand.TheVariants as command
 
 -- what follows has P, whatever it follows on
-follows : {X Y : Type 0} (P : Y → Type 0) (r : Result X Cause) (next : X → Result Y Cause) → ((x : X) → IfOk (next x) P) → IfOk (after r next) P
+pub follows : {X Y : Type 0} (P : Y → Type 0) (r : Result X Cause) (next : X → Result Y Cause) → ((x : X) → IfOk (next x) P) → IfOk (after r next) P
 follows P (Ok x) next h = h x
 follows P (Err cause) next h = tt
 
 -- the same, where what it follows on has Q
-follows_on : {X Y : Type 0} (Q : X → Type 0) (P : Y → Type 0) (r : Result X Cause) (next : X → Result Y Cause) → IfOk r Q → ((x : X) → Q x → IfOk (next x) P) → IfOk (after r next) P
+pub follows_on : {X Y : Type 0} (Q : X → Type 0) (P : Y → Type 0) (r : Result X Cause) (next : X → Result Y Cause) → IfOk r Q → ((x : X) → Q x → IfOk (next x) P) → IfOk (after r next) P
 follows_on Q P (Ok x) next q h = h x q
 follows_on Q P (Err cause) next q h = tt
 
@@ -33,7 +33,7 @@ told P (Ok x) h = h
 told P (Err fault) h = tt
 
 -- one of two, whatever is asked
-one_of : {X : Type 0} (P : X → Type 0) (holds : Bool) (r s : Result X Cause) → IfOk r P → IfOk s P → IfOk (if holds then r else s) P
+pub one_of : {X : Type 0} (P : X → Type 0) (holds : Bool) (r s : Result X Cause) → IfOk r P → IfOk s P → IfOk (if holds then r else s) P
 one_of P true r s h k = h
 one_of P false r s h k = k
 
