@@ -2,11 +2,11 @@
 use Rattle.std.specs.Prelude.{ℕ, List, [], ◌∷◌}
 use Rattle.tks_text.specs.Size.{Extent}
 use Rattle.tks_codec.specs.Spelling.{Read, Spelling, such_that, field, through}
-use Rattle.tks_codec.specs.Writing.{joined}
+use Rattle.tks_codec.specs.Writing.{flattened}
 use Rattle.tks_codec_events.specs.Queue.{queue}
 use Rattle.tks_codec_events.specs.Timers.{waiting}
 use Rattle.tks_codec_variables.specs.Variables.{variables}
-use Rattle.tks_state.specs.Restoring.{is_whole}
+use Rattle.tks_state.specs.Restoring.{is_possible}
 use Rattle.tks_state.specs.World.{World, windows_of}
 use Rattle.tks_codec_world.specs.Counts.{counts}
 use Rattle.tks_codec_world.specs.Ends.{Ends, ends}
@@ -66,7 +66,7 @@ waits_parts w = queue.write w.queue ∷ (waiting w.timers.next).write w.timers �
 abbrev pub fields_parts : World → List (List ℕ)
 fields_parts w =
     counts.write (counts_of w) ∷ (windows w.tree.next).write (windows_of w) ∷ variables.write w.variables ∷ (happenings w.bindings.next).write (happenings_of w)
-    ∷ joined (waits_parts w) ∷ []
+    ∷ flattened (waits_parts w) ∷ []
 
 -- the last three of them have spellings
 pub record WaitsAreLegal (w : World) : Type 0 where
@@ -76,7 +76,7 @@ pub record WaitsAreLegal (w : World) : Type 0 where
 
 -- a world
 abbrev pub world : Extent → Spelling World
-world grid = such_that is_whole (fields grid)
+world grid = such_that is_possible (fields grid)
 
 -- the world at the front of bytes, and what stands behind it
 unfoldable pub world_at : Extent → List ℕ → Read World

@@ -15,15 +15,15 @@ use Rattle.tks_tcl.specs.Plain as commands
 use Rattle.tks_tcl.specs.Plain.{plain}
 use Rattle.tks_tcl.specs.Lists.{concatenated, joined_by}
 use Rattle.tks_tcl.specs.Variables.{stores}
-use Rattle.tks_expr.specs.Tree.{Expr, Literal, Made, One, Two, Both, Either, Choice}
+use Rattle.tks_expr.specs.Tree.{Expr, Literal, Made, One, Two, Both, Either, Conditional}
 use Rattle.tks_expr.specs.Operation.{truth_of, applied, applied_unary, result_of}
 use Rattle.tks_expr.specs.Reading.{expr_of}
-use Rattle.tks_expr.specs.Value.{choice}
-use Rattle.tks_eval.specs.Outcome.{Outcome, End, Stopped, TooLarge, Next, Level, Answer, Unknown, Comes, PassesLimit, Meaning, after_step, after, after_body, after_next, caught, joined, fails, given}
+use Rattle.tks_expr.specs.Value.{by_condition}
+use Rattle.tks_eval.specs.Outcome.{Outcome, End, Stopped, TooLarge, Next, Level, Answer, Unknown, Comes, PassesLimit, Meaning, after_step, after, after_body, after_next, caught, appended, fails, given}
 use Rattle.tks_eval.specs.Names.{control_named}
 use Rattle.tks_eval.specs.Branches.{Condition, branches}
 use Rattle.tks_eval.specs.Procedures.{entered, proc_form}
-use Rattle.tks_eval.specs.Evaluation.{element_name, with_value, words_in, foreach_form, text_done, and_then, done, without_frame, returned, at_global, global_does, after_script, scripts_do, plan_does, parts_do, made_text, value_does, expression_does, chosen, after_truth, tested, wrong_words, result_told, expr_does, script_does, branches_do, form_does, behind_body, turn_does, turns, loop_does, while_does, for_does, catch_ends, catch_does, each, settled, procedure_does, control_does, host_does, plain_does, command_does, call, words_do, commands_do, evaluate}
+use Rattle.tks_eval.specs.Evaluation.{element_name, with_value, words_in, foreach_form, text_done, and_then, done, without_frame, returned, at_global, global_does, after_script, scripts_do, plan_does, parts_do, made_text, value_does, expression_does, if_holds, after_truth, tested, wrong_words, result_told, expr_does, script_does, branches_do, form_does, behind_body, turn_does, turns, loop_does, while_does, for_does, catch_ends, catch_does, each, settled, procedure_does, control_does, host_does, plain_does, command_does, call, words_do, commands_do, evaluate}
 use Rattle.tks_eval.specs.Values.{told_text, by_truth, truth_told}
 use Rattle.tks_eval.specs.declared.branches.Branches.{Branches}
 use Rattle.tks_eval.specs.declared.branches.Test.{Test}
@@ -139,7 +139,7 @@ module _ {S : Type 0} where
       parts_spend : (parts : Parts) (made : List ℕ) (bound : ℕ) → Within bound (parts_do limits inner parts made)
       parts_spend no_part made bound state variables fuel h = h
       parts_spend (char c rest) made bound state variables fuel h =
-          given_spends bound (joined limits made (c ∷ [])) state variables fuel (λ made. parts_do limits inner rest made state variables fuel) h
+          given_spends bound (appended limits made (c ∷ [])) state variables fuel (λ made. parts_do limits inner rest made state variables fuel) h
           (λ made. parts_spend rest made bound state variables fuel h)
       parts_spend (variable name rest) made bound state variables fuel h =
           given_spends bound (with_value limits variables name made) state variables fuel (λ made. parts_do limits inner rest made state variables fuel) h
@@ -151,25 +151,25 @@ module _ {S : Type 0} where
           (λ at s v u k. given_spends bound (with_value limits v (element_name name at) made) s v u (λ made. parts_do limits inner rest made s v u) k
           (λ made. parts_spend rest made bound s v u k))
       parts_spend (nested script rest) made bound state variables fuel h =
-          after_spends bound (inner script state variables fuel) (λ text s v u. given limits (joined limits made text) s v u (λ made. parts_do limits inner rest made s v u))
+          after_spends bound (inner script state variables fuel) (λ text s v u. given limits (appended limits made text) s v u (λ made. parts_do limits inner rest made s v u))
           (script_spends inner thrifty script bound state variables fuel h)
-          (λ text s v u k. given_spends bound (joined limits made text) s v u (λ made. parts_do limits inner rest made s v u) k (λ made. parts_spend rest made bound s v u k))
+          (λ text s v u k. given_spends bound (appended limits made text) s v u (λ made. parts_do limits inner rest made s v u) k (λ made. parts_spend rest made bound s v u k))
 
       told_spends : (value : Result (List ℕ) ScriptFault) (bound : ℕ) → Within bound (told_text limits inner value)
       told_spends (Ok x) bound state variables fuel h = h
       told_spends (Err fault) bound state variables fuel h = fails_spends fault bound state variables fuel h
 
-      choice_spends : (value : Result Bool ScriptFault) (first second : Next S) (bound : ℕ) → Within bound first → Within bound second
-          → Within bound (choice text_done (fails limits) and_then (made_text limits inner) value first second)
-      choice_spends (Ok true) first second bound f g state variables fuel h = f state variables fuel h
-      choice_spends (Ok false) first second bound f g state variables fuel h = g state variables fuel h
-      choice_spends (Err fault) first second bound f g state variables fuel h = fails_spends fault bound state variables fuel h
+      by_condition_spends : (value : Result Bool ScriptFault) (first second : Next S) (bound : ℕ) → Within bound first → Within bound second
+          → Within bound (by_condition text_done (fails limits) and_then (made_text limits inner) value first second)
+      by_condition_spends (Ok true) first second bound f g state variables fuel h = f state variables fuel h
+      by_condition_spends (Ok false) first second bound f g state variables fuel h = g state variables fuel h
+      by_condition_spends (Err fault) first second bound f g state variables fuel h = fails_spends fault bound state variables fuel h
 
       text_spends : (text : List ℕ) (bound : ℕ) → Within bound (text_done text)
       text_spends text bound state variables fuel h = h
 
       truth_spends : (text : List ℕ) (bound : ℕ) → Within bound (truth_told limits inner text)
-      truth_spends text bound = choice_spends (truth_of text) (text_done (codes "1")) (text_done (codes "0")) bound (text_spends (codes "1") bound) (text_spends (codes "0") bound)
+      truth_spends text bound = by_condition_spends (truth_of text) (text_done (codes "1")) (text_done (codes "0")) bound (text_spends (codes "1") bound) (text_spends (codes "0") bound)
 
       value_spends : (e : Expr) (bound : ℕ) → Within bound (value_does limits inner e)
       value_spends (Literal text) bound state variables fuel h = h
@@ -186,33 +186,33 @@ module _ {S : Type 0} where
           λ s v u k. after_spends bound (value_does limits inner b s v u) (truth_told limits inner) (value_spends b bound s v u k) (λ y. truth_spends y bound) in
           after_spends bound (value_does limits inner a state variables fuel) (λ x. by_truth limits inner x (and_then (value_does limits inner b) (truth_told limits inner)) (text_done (codes "0")))
           (value_spends a bound state variables fuel h)
-          (λ x. choice_spends (truth_of x) (and_then (value_does limits inner b) (truth_told limits inner)) (text_done (codes "0")) bound right (text_spends (codes "0") bound))
+          (λ x. by_condition_spends (truth_of x) (and_then (value_does limits inner b) (truth_told limits inner)) (text_done (codes "0")) bound right (text_spends (codes "0") bound))
       value_spends (Either a b) bound state variables fuel h =
           let right : Within bound (and_then (value_does limits inner b) (truth_told limits inner)) =
           λ s v u k. after_spends bound (value_does limits inner b s v u) (truth_told limits inner) (value_spends b bound s v u k) (λ y. truth_spends y bound) in
           after_spends bound (value_does limits inner a state variables fuel) (λ x. by_truth limits inner x (text_done (codes "1")) (and_then (value_does limits inner b) (truth_told limits inner)))
           (value_spends a bound state variables fuel h)
-          (λ x. choice_spends (truth_of x) (text_done (codes "1")) (and_then (value_does limits inner b) (truth_told limits inner)) bound (text_spends (codes "1") bound) right)
-      value_spends (Choice c a b) bound state variables fuel h =
+          (λ x. by_condition_spends (truth_of x) (text_done (codes "1")) (and_then (value_does limits inner b) (truth_told limits inner)) bound (text_spends (codes "1") bound) right)
+      value_spends (Conditional c a b) bound state variables fuel h =
           after_spends bound (value_does limits inner c state variables fuel) (λ x. by_truth limits inner x (value_does limits inner a) (value_does limits inner b))
           (value_spends c bound state variables fuel h)
-          (λ x. choice_spends (truth_of x) (value_does limits inner a) (value_does limits inner b) bound (value_spends a bound) (value_spends b bound))
+          (λ x. by_condition_spends (truth_of x) (value_does limits inner a) (value_does limits inner b) bound (value_spends a bound) (value_spends b bound))
 
       pub expression_spends : (text : List ℕ) (bound : ℕ) → Within bound (expression_does limits inner text)
       expression_spends text bound state variables fuel h =
           given_spends bound (value_or_fault (expr_of text)) state variables fuel (λ e. value_does limits inner e state variables fuel) h (λ e. value_spends e bound state variables fuel h)
 
-      chosen_spends : (holds : Bool) (first second : Next S) (bound : ℕ) → Within bound first → Within bound second → Within bound (chosen holds first second)
-      chosen_spends true first second bound f g = f
-      chosen_spends false first second bound f g = g
+      if_holds_spends : (holds : Bool) (first second : Next S) (bound : ℕ) → Within bound first → Within bound second → Within bound (if_holds holds first second)
+      if_holds_spends true first second bound f g = f
+      if_holds_spends false first second bound f g = g
 
       pub tested_spends : (condition : List ℕ) (first second : Next S) (bound : ℕ) → Within bound first → Within bound second → Within bound (tested limits inner condition first second)
       tested_spends condition first second bound f g state variables fuel h =
           step_spends bound fuel (λ u. after_truth limits (expression_does limits inner condition state variables u) first second) h (λ less k.
           after_spends bound (expression_does limits inner condition state variables less)
-          (λ text s v u. given limits (value_or_fault (truth_of text)) s v u (λ holds. chosen holds first second s v u))
+          (λ text s v u. given limits (value_or_fault (truth_of text)) s v u (λ holds. if_holds holds first second s v u))
           (expression_spends condition bound state variables less k)
-          (λ text s v u l. given_spends bound (value_or_fault (truth_of text)) s v u (λ holds. chosen holds first second s v u) l (λ holds. chosen_spends holds first second bound f g s v u l)))
+          (λ text s v u l. given_spends bound (value_or_fault (truth_of text)) s v u (λ holds. if_holds holds first second s v u) l (λ holds. if_holds_spends holds first second bound f g s v u l)))
 
       -- ---- commands that run scripts
 

@@ -6,13 +6,13 @@ use Rattle.tks_text.specs.declared.fault.ScriptFault.{ScriptFault}
 use Rattle.tks_text.specs.declared.limits.Limits.{Limits}
 use Rattle.tks_vars.specs.Variables.{Variables}
 use Rattle.tks_tcl.specs.Cause.{fits, value_or_fault}
-use Rattle.tks_expr.specs.Tree.{Expr, Literal, Made, One, Two, Both, Either, Choice}
-use Rattle.tks_expr.specs.Sign.{joined}
-use Rattle.tks_expr.specs.View.{linked}
+use Rattle.tks_expr.specs.Tree.{Expr, Literal, Made, One, Two, Both, Either, Conditional}
+use Rattle.tks_expr.specs.Sign.{combined}
+use Rattle.tks_expr.specs.View.{chained}
 use Rattle.tks_expr.specs.Reading.{under}
 use Rattle.tks_expr.specs.Operation as texts
 use Rattle.tks_expr.specs.Operation.{truth_of, applied, applied_unary, result_of}
-use Rattle.tks_expr.specs.Value.{choice}
+use Rattle.tks_expr.specs.Value.{by_condition}
 use Rattle.tks_expr.specs.declared.operator.Unary.{Unary}
 use Rattle.tks_expr.specs.declared.sign.Join.{Join}
 use Rattle.tks_expr.specs.declared.sign.Join.TheVariants.{Of, And, Or}
@@ -104,19 +104,19 @@ module _ {S : Type 0} where
       links_fail (link ∷ links) fault state variables fuel =
           ap (links_do limits inner links) (after_fails fault state variables fuel (join_on limits inner link.join link.right)) ∙ links_fail links fault state variables fuel
 
-      joined_does : (op : Join) (left right : Expr) (state : S) (variables : Variables) (fuel : ℕ)
-          → value_does limits inner (joined op left right) state variables fuel ≡ after (value_does limits inner left state variables fuel) (join_on limits inner op right)
-      joined_does (Of op) left right state variables fuel = refl
-      joined_does And left right state variables fuel = refl
-      joined_does Or left right state variables fuel = refl
+      combined_does : (op : Join) (left right : Expr) (state : S) (variables : Variables) (fuel : ℕ)
+          → value_does limits inner (combined op left right) state variables fuel ≡ after (value_does limits inner left state variables fuel) (join_on limits inner op right)
+      combined_does (Of op) left right state variables fuel = refl
+      combined_does And left right state variables fuel = refl
+      combined_does Or left right state variables fuel = refl
 
       -- the value of a chain is what its links make of its first operand's
-      pub linked_does : (left : Expr) (links : List Link) (state : S) (variables : Variables) (fuel : ℕ)
-          → value_does limits inner (linked left links) state variables fuel ≡ links_do limits inner links (value_does limits inner left state variables fuel)
-      linked_does left [] state variables fuel = refl
-      linked_does left (link ∷ links) state variables fuel =
-          linked_does (joined link.join left link.right) links state variables fuel
-          ∙ ap (links_do limits inner links) (joined_does link.join left link.right state variables fuel)
+      pub chained_does : (left : Expr) (links : List Link) (state : S) (variables : Variables) (fuel : ℕ)
+          → value_does limits inner (chained left links) state variables fuel ≡ links_do limits inner links (value_does limits inner left state variables fuel)
+      chained_does left [] state variables fuel = refl
+      chained_does left (link ∷ links) state variables fuel =
+          chained_does (combined link.join left link.right) links state variables fuel
+          ∙ ap (links_do limits inner links) (combined_does link.join left link.right state variables fuel)
 
       -- ---- signs
 
@@ -150,15 +150,15 @@ module _ {S : Type 0} where
 
       -- ---- frames
 
-      abbrev by_choice : Result Bool ScriptFault → Next S
-      by_choice r = choice text_done (fails limits) and_then (made_text limits inner) r (text_done (codes "1")) (text_done (codes "0"))
+      abbrev one_or_zero : Result Bool ScriptFault → Next S
+      one_or_zero r = by_condition text_done (fails limits) and_then (made_text limits inner) r (text_done (codes "1")) (text_done (codes "0"))
 
       -- the truth of a text, told as a text
       pub truth_tells : (text : List ℕ) (state : S) (variables : Variables) (fuel : ℕ)
           → truth_told limits inner text state variables fuel ≡ told_text limits inner (truth_shown text) state variables fuel
       truth_tells text state variables fuel = elim (truth_of text) as (λ r.
-          by_choice r state variables fuel ≡ told_text limits inner (texts.after r (λ holds. Ok (cond holds (codes "1") (codes "0")))) state variables fuel) [
-            | Ok holds ↦ elim holds as (λ h. by_choice (Ok h) state variables fuel ≡ told_text limits inner (Ok (cond h (codes "1") (codes "0"))) state variables fuel) [
+          one_or_zero r state variables fuel ≡ told_text limits inner (texts.after r (λ holds. Ok (cond holds (codes "1") (codes "0")))) state variables fuel) [
+            | Ok holds ↦ elim holds as (λ h. one_or_zero (Ok h) state variables fuel ≡ told_text limits inner (Ok (cond h (codes "1") (codes "0"))) state variables fuel) [
               | true ↦ refl
               | false ↦ refl
             ]
@@ -174,7 +174,7 @@ module _ {S : Type 0} where
       value_passes (frame.Truth links) code text state variables fuel h =
           ap (links_do limits inner links) (after_other code text state variables fuel (truth_told limits inner) h) ∙ links_pass links code text state variables fuel h
       value_passes (frame.Signs signs) code text state variables fuel h = after_other code text state variables fuel (λ x. told_text limits inner (signs_applied signs x)) h
-      value_passes (frame.Choice a b) code text state variables fuel h =
+      value_passes (frame.Conditional a b) code text state variables fuel h =
           after_other code text state variables fuel (λ x. by_truth limits inner x (value_does limits inner a) (value_does limits inner b)) h
       value_passes frame.Whole code text state variables fuel h =
           after_other code text state variables fuel
@@ -185,7 +185,7 @@ module _ {S : Type 0} where
       value_stops (frame.Right operator x links) why = links_stop links why
       value_stops (frame.Truth links) why = links_stop links why
       value_stops (frame.Signs signs) why = refl
-      value_stops (frame.Choice a b) why = refl
+      value_stops (frame.Conditional a b) why = refl
       value_stops frame.Whole why = refl
 
 -- ---- weights
@@ -197,7 +197,7 @@ value_weighs (One op a) = omega arith
 value_weighs (Two op a b) = omega arith
 value_weighs (Both a b) = omega arith
 value_weighs (Either a b) = omega arith
-value_weighs (Choice c a b) = omega arith
+value_weighs (Conditional c a b) = omega arith
 
 links_weigh_some : (links : List Link) → 0 < links_weight links
 links_weigh_some [] = omega arith
@@ -208,21 +208,21 @@ frame_weighs (frame.Links links) = links_weigh_some links
 frame_weighs (frame.Right operator x links) = omega arith
 frame_weighs (frame.Truth links) = omega arith
 frame_weighs (frame.Signs signs) = omega arith
-frame_weighs (frame.Choice a b) = omega arith
+frame_weighs (frame.Conditional a b) = omega arith
 frame_weighs frame.Whole = omega arith
 
-joined_weighs : (op : Join) (a b : Expr) → value_weight (joined op a b) ≡ value_weight a + value_weight b + 5
-joined_weighs (Of op) a b = refl
-joined_weighs And a b = refl
-joined_weighs Or a b = refl
+combined_weighs : (op : Join) (a b : Expr) → value_weight (combined op a b) ≡ value_weight a + value_weight b + 5
+combined_weighs (Of op) a b = refl
+combined_weighs And a b = refl
+combined_weighs Or a b = refl
 
-links_weigh : (left : Expr) (links : List Link) → value_weight left + links_weight links ≤ value_weight (linked left links) + 1
+links_weigh : (left : Expr) (links : List Link) → value_weight left + links_weight links ≤ value_weight (chained left links) + 1
 links_weigh left [] = omega arith
-links_weigh left (link ∷ links) = omega (arith, joined_weighs link.join left link.right, links_weigh (joined link.join left link.right) links)
+links_weigh left (link ∷ links) = omega (arith, combined_weighs link.join left link.right, links_weigh (combined link.join left link.right) links)
 
 pub chain_weighs : (first : Expr) (link : Link) (links : List Link)
-    → value_weight first + links_weight (link ∷ links) < value_weight (linked (joined link.join first link.right) links)
-chain_weighs first link links = omega (arith, joined_weighs link.join first link.right, links_weigh (joined link.join first link.right) links)
+    → value_weight first + links_weight (link ∷ links) < value_weight (chained (combined link.join first link.right) links)
+chain_weighs first link links = omega (arith, combined_weighs link.join first link.right, links_weigh (combined link.join first link.right) links)
 
 pub under_weighs : (ops : List Unary) (e : Expr) → value_weight e ≤ value_weight (under ops e)
 under_weighs [] e = omega arith

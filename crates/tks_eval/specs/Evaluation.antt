@@ -17,7 +17,7 @@ use Rattle.tks_tcl.specs.Lists.{concatenated, joined_by}
 use Rattle.tks_tcl.specs.Plain as commands
 use Rattle.tks_tcl.specs.Plain.{plain}
 use Rattle.tks_tcl.specs.Variables.{stores}
-use Rattle.tks_eval.specs.Outcome.{Outcome, End, Stopped, TooDeep, TooLarge, OutOfSteps, Next, Level, Answer, Unknown, Comes, PassesLimit, Meaning, after_step, after, after_body, after_next, caught, joined, fails, given}
+use Rattle.tks_eval.specs.Outcome.{Outcome, End, Stopped, TooDeep, TooLarge, OutOfSteps, Next, Level, Answer, Unknown, Comes, PassesLimit, Meaning, after_step, after, after_body, after_next, caught, appended, fails, given}
 use Rattle.tks_eval.specs.Names.{control_named}
 use Rattle.tks_expr.specs.Tree.{Expr}
 use Rattle.tks_expr.specs.Value.{value}
@@ -39,7 +39,7 @@ element_name name index = name ++ 40 ∷ (index ++ 41 ∷ [])
 
 -- the value of a variable behind what is made of a word
 abbrev pub with_value : Limits → Variables → List ℕ → List ℕ → Result (List ℕ) tcl.Cause
-with_value limits variables name made = tcl.after (value_or_fault (value_of variables name)) (joined limits made)
+with_value limits variables name made = tcl.after (value_or_fault (value_of variables name)) (appended limits made)
 
 -- the words that a word's text stands for: itself, or the elements that it splits into
 abbrev pub words_in : Bool → List ℕ → Result (List (List ℕ)) tcl.Cause
@@ -64,8 +64,8 @@ module _ {S : Type 0} where
   done state variables fuel = End 0 [] state variables fuel
 
   -- the first of two things where something holds, else the second
-  abbrev pub chosen : Bool → Next S → Next S → Next S
-  chosen holds first second state variables fuel = if holds then first state variables fuel else second state variables fuel
+  abbrev pub if_holds : Bool → Next S → Next S → Next S
+  if_holds holds first second state variables fuel = if holds then first state variables fuel else second state variables fuel
 
   -- a script that may be left out
   abbrev pub script_does : Level S → Option (List ℕ) → Next S
@@ -106,7 +106,7 @@ module _ {S : Type 0} (limits : Limits) where
   abbrev pub parts_do : Level S → Parts → List ℕ → Next S
   parts_do inner no_part made state variables fuel = End 0 made state variables fuel
   parts_do inner (char c rest) made state variables fuel =
-      given limits (joined limits made (c ∷ [])) state variables fuel (λ made. parts_do inner rest made state variables fuel)
+      given limits (appended limits made (c ∷ [])) state variables fuel (λ made. parts_do inner rest made state variables fuel)
   parts_do inner (variable name rest) made state variables fuel =
       given limits (with_value limits variables name made) state variables fuel (λ made. parts_do inner rest made state variables fuel)
   parts_do inner (element name index rest) made state variables fuel =
@@ -115,7 +115,7 @@ module _ {S : Type 0} (limits : Limits) where
       parts_do inner rest made state variables fuel))
   parts_do inner (nested script rest) made state variables fuel =
       after (inner script state variables fuel) (λ text state variables fuel.
-      given limits (joined limits made text) state variables fuel (λ made. parts_do inner rest made state variables fuel))
+      given limits (appended limits made text) state variables fuel (λ made. parts_do inner rest made state variables fuel))
 
   -- ---- expressions
 
@@ -136,7 +136,7 @@ module _ {S : Type 0} (limits : Limits) where
   abbrev pub after_truth : Outcome S → Next S → Next S → Outcome S
   after_truth outcome first second =
       after outcome (λ text state variables fuel.
-      given limits (value_or_fault (truth_of text)) state variables fuel (λ holds. chosen holds first second state variables fuel))
+      given limits (value_or_fault (truth_of text)) state variables fuel (λ holds. if_holds holds first second state variables fuel))
 
   -- a condition takes a step before it is read
   abbrev pub tested : Level S → List ℕ → Next S → Next S → Next S

@@ -5,7 +5,7 @@ use Rattle.tks_text.specs.declared.limits.Limits.{Limits}
 use Rattle.tks_expr.specs.Tree.{Expr}
 use Rattle.tks_expr.specs.Operation.{truth_of, applied, applied_unary}
 use Rattle.tks_expr.specs.Operation as texts
-use Rattle.tks_expr.specs.Value.{told, choice, truth_text}
+use Rattle.tks_expr.specs.Value.{told, by_condition, truth_text}
 use Rattle.tks_expr.specs.declared.operator.Unary.{Unary}
 use Rattle.tks_expr.specs.declared.sign.Join.{Join}
 use Rattle.tks_expr.specs.declared.sign.Join.TheVariants.{Of, And, Or}
@@ -31,7 +31,7 @@ module _ {S : Type 0} (limits : Limits) (inner : Level S) where
 
   -- one of two things, by the truth of a text
   abbrev pub by_truth : List ℕ → Next S → Next S → Next S
-  by_truth text = choice text_done (fails limits) and_then (made_text limits inner) (truth_of text)
+  by_truth text = by_condition text_done (fails limits) and_then (made_text limits inner) (truth_of text)
 
   -- the truth of a text, as a text
   abbrev pub truth_told : List ℕ → Next S
@@ -54,5 +54,5 @@ module _ {S : Type 0} (limits : Limits) (inner : Level S) where
   after_value (frame.Right operator x links) outcome = links_do links (after outcome (λ y. told_text (applied operator x y)))
   after_value (frame.Truth links) outcome = links_do links (after outcome truth_told)
   after_value (frame.Signs signs) outcome = after outcome (λ x. told_text (signs_applied signs x))
-  after_value (frame.Choice a b) outcome = after outcome (λ x. by_truth x (value_does limits inner a) (value_does limits inner b))
+  after_value (frame.Conditional a b) outcome = after outcome (λ x. by_truth x (value_does limits inner a) (value_does limits inner b))
   after_value frame.Whole outcome = result_told limits outcome

@@ -15,8 +15,8 @@ use Rattle.tks_parse.specs.declared.mode.Mode.TheVariants.{Quoted}
 use Rattle.tks_parse.specs.declared.syntax.Syntax.TheVariants.{Expressions}
 use Rattle.tks_expr.specs.Literal.{is_truth_word}
 use Rattle.tks_expr.specs.Reading.{when, is_level, loosest}
-use Rattle.tks_expr.specs.Sign.{level_of, joined, is_letter, join_at, unary_of}
-use Rattle.tks_expr.specs.Tree.{Expr, Literal, Made, One, Choice}
+use Rattle.tks_expr.specs.Sign.{level_of, combined, is_letter, join_at, unary_of}
+use Rattle.tks_expr.specs.Tree.{Expr, Literal, Made, One, Conditional}
 use Rattle.tks_expr.specs.declared.operator.Unary.{Unary}
 use Rattle.tks_expr.specs.declared.sign.Join.{Join}
 
@@ -74,28 +74,28 @@ JoinThen op [] v = ⊥
 JoinThen op (c ∷ u) v = (n : ℕ) × (join_at (c ∷ u) ≡ Some (op, n)) × (drop n u ≡ v)
 
 -- operands of the level below with operators of this level between them, to the left
-pub data JoinedThen (Below : Then) (n : ℕ) : Expr → List ℕ → List ℕ → Type 0 where
-  first : (e : Expr) (t v : List ℕ) → Below e t v → JoinedThen Below n e t v
-  more : (op : Join) (a b : Expr) (t u w v : List ℕ) → JoinedThen Below n a t u → level_of op ≡ n → JoinThen op u w → Below b w v → JoinedThen Below n (joined op a b) t v
+pub data ChainThen (Below : Then) (n : ℕ) : Expr → List ℕ → List ℕ → Type 0 where
+  first : (e : Expr) (t v : List ℕ) → Below e t v → ChainThen Below n e t v
+  more : (op : Join) (a b : Expr) (t u w v : List ℕ) → ChainThen Below n a t u → level_of op ≡ n → JoinThen op u w → Below b w v → ChainThen Below n (combined op a b) t v
 
 -- an expression of a level: up to where no operator of it, or of a tighter one, stands
 abbrev pub LevelThen : Then → ℕ → Then
 LevelThen Operand zero e t v = SignedThen Operand e t v
-LevelThen Operand (suc n) e t v = JoinedThen (LevelThen Operand n) (suc n) e t v × (when (is_level (suc n)) (join_at v) ≡ None)
+LevelThen Operand (suc n) e t v = ChainThen (LevelThen Operand n) (suc n) e t v × (when (is_level (suc n)) (join_at v) ≡ None)
 
 -- ---- `?:`, to the right
 
-pub data ChoiceThen (Inside Operand : Then) : Expr → List ℕ → List ℕ → Type 0 where
-  binary : (e : Expr) (t v : List ℕ) → LevelThen Operand loosest e t v → BeginsNot (λ c. c == 63) v → ChoiceThen Inside Operand e t v
-  choice : (c a b : Expr) (t u w v : List ℕ) → LevelThen Operand loosest c t (63 ∷ u) → Inside a u (58 ∷ w) → Inside b w v → ChoiceThen Inside Operand (Choice c a b) t v
+pub data ConditionalThen (Inside Operand : Then) : Expr → List ℕ → List ℕ → Type 0 where
+  binary : (e : Expr) (t v : List ℕ) → LevelThen Operand loosest e t v → BeginsNot (λ c. c == 63) v → ConditionalThen Inside Operand e t v
+  conditional : (c a b : Expr) (t u w v : List ℕ) → LevelThen Operand loosest c t (63 ∷ u) → Inside a u (58 ∷ w) → Inside b w v → ConditionalThen Inside Operand (Conditional c a b) t v
 
 -- what stands in parentheses, and on either side of a `:`, with d of them and of brackets left to open
 abbrev pub InsideThen : ℕ → Then
 InsideThen zero e t v = ⊥
-InsideThen (suc d) e t v = ChoiceThen (InsideThen d) (OperandThen (InsideThen d) d) e t v
+InsideThen (suc d) e t v = ConditionalThen (InsideThen d) (OperandThen (InsideThen d) d) e t v
 
 abbrev pub ExprThen : ℕ → Then
-ExprThen d = ChoiceThen (InsideThen d) (OperandThen (InsideThen d) d)
+ExprThen d = ConditionalThen (InsideThen d) (OperandThen (InsideThen d) d)
 
 -- ---- faults
 
@@ -124,20 +124,20 @@ abbrev pub LevelFails : Then → Fails → ℕ → Fails
 LevelFails Operand OperandFault zero t fault = SignedFails OperandFault t fault
 LevelFails Operand OperandFault (suc n) t fault =
     LevelFails Operand OperandFault n t fault
-    ⊎ ((op : Join) × (a : Expr) × (u w : List ℕ) × JoinedThen (LevelThen Operand n) (suc n) a t u × (level_of op ≡ suc n) × JoinThen op u w × LevelFails Operand OperandFault n w fault)
+    ⊎ ((op : Join) × (a : Expr) × (u w : List ℕ) × ChainThen (LevelThen Operand n) (suc n) a t u × (level_of op ≡ suc n) × JoinThen op u w × LevelFails Operand OperandFault n w fault)
 
-pub data ChoiceFails (Inside Operand : Then) (InsideFails OperandFault : Fails) : List ℕ → ScriptFault → Type 0 where
-  condition : (t : List ℕ) (fault : ScriptFault) → LevelFails Operand OperandFault loosest t fault → ChoiceFails Inside Operand InsideFails OperandFault t fault
-  middle : (c : Expr) (t u : List ℕ) (fault : ScriptFault) → LevelThen Operand loosest c t (63 ∷ u) → InsideFails u fault → ChoiceFails Inside Operand InsideFails OperandFault t fault
-  no_colon : (c a : Expr) (t u v : List ℕ) → LevelThen Operand loosest c t (63 ∷ u) → Inside a u v → BeginsNot (λ x. x == 58) v → ChoiceFails Inside Operand InsideFails OperandFault t expression_syntax
-  right : (c a : Expr) (t u w : List ℕ) (fault : ScriptFault) → LevelThen Operand loosest c t (63 ∷ u) → Inside a u (58 ∷ w) → InsideFails w fault → ChoiceFails Inside Operand InsideFails OperandFault t fault
+pub data ConditionalFails (Inside Operand : Then) (InsideFails OperandFault : Fails) : List ℕ → ScriptFault → Type 0 where
+  condition : (t : List ℕ) (fault : ScriptFault) → LevelFails Operand OperandFault loosest t fault → ConditionalFails Inside Operand InsideFails OperandFault t fault
+  middle : (c : Expr) (t u : List ℕ) (fault : ScriptFault) → LevelThen Operand loosest c t (63 ∷ u) → InsideFails u fault → ConditionalFails Inside Operand InsideFails OperandFault t fault
+  no_colon : (c a : Expr) (t u v : List ℕ) → LevelThen Operand loosest c t (63 ∷ u) → Inside a u v → BeginsNot (λ x. x == 58) v → ConditionalFails Inside Operand InsideFails OperandFault t expression_syntax
+  right : (c a : Expr) (t u w : List ℕ) (fault : ScriptFault) → LevelThen Operand loosest c t (63 ∷ u) → Inside a u (58 ∷ w) → InsideFails w fault → ConditionalFails Inside Operand InsideFails OperandFault t fault
 
 abbrev pub InsideFails : ℕ → Fails
 InsideFails zero t fault = fault ≡ too_deeply_nested
-InsideFails (suc d) t fault = ChoiceFails (InsideThen d) (OperandThen (InsideThen d) d) (InsideFails d) (OperandFails (InsideThen d) (InsideFails d) d) t fault
+InsideFails (suc d) t fault = ConditionalFails (InsideThen d) (OperandThen (InsideThen d) d) (InsideFails d) (OperandFails (InsideThen d) (InsideFails d) d) t fault
 
 abbrev pub ExprFails : ℕ → Fails
-ExprFails d = ChoiceFails (InsideThen d) (OperandThen (InsideThen d) d) (InsideFails d) (OperandFails (InsideThen d) (InsideFails d) d)
+ExprFails d = ConditionalFails (InsideThen d) (OperandThen (InsideThen d) d) (InsideFails d) (OperandFails (InsideThen d) (InsideFails d) d)
 
 -- the text t spells this expression, or has this fault first
 abbrev pub ExprOf : List ℕ → Result Expr ScriptFault → Type 0

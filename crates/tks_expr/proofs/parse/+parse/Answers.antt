@@ -1,12 +1,12 @@
 use Rattle.std.proofs.Common.{ℕ, List, Bor, arith, sym}
 use Rattle.std.proofs.lemmas.Result.{err_from_is_err_and}
 use Rattle.tks_expr.proofs.Climbing.{climb_begins, climb_fails_first, climb_fails, climb_goes, climb_stops}
-use Rattle.tks_expr.proofs.Operands.{inner_opens, linked_push}
+use Rattle.tks_expr.proofs.Operands.{inner_opens, chained_push}
 use Rattle.tks_expr.specs.declared.tree.Expr.{Expr}
 use Rattle.tks_expr.proofs.parse.+parse.Goals as goal
 
 pub read_inner-returns-clause-gives : goal.read_inner-returns-clause-gives
-read_inner-returns-clause-gives t c = rw (inner_opens c.args.depth c.args.text.now (omega arith)) c.read_choice.ensures.gives
+read_inner-returns-clause-gives t c = rw (inner_opens c.args.depth c.args.text.now (omega arith)) c.read_conditional.ensures.gives
 
 pub read_level-returns-in_err-first-clause-gives : goal.read_level-returns-in_err-first-clause-gives
 read_level-returns-in_err-first-clause-gives t c =
@@ -30,7 +30,7 @@ pub read_level-joins-preserved : goal.read_level-joins-preserved
 read_level-joins-preserved t c =
     let right = rw (c.split_at.ensures.back, c.level.ensures) at c.in_ok-right.ensures.gives in
     record {
-      so_far = rw (c.in_ok-push.ensures.items, linked_push) (climb_goes c.args.depth c.args.level _ c.joins.rest.now (c.in-Some.join, c.in-Some.more) c.in_ok-right.right c.in_ok-right.behind.now _ c.joins.invariant.so_far (sym c.in-Some.ensures.value) right);
+      so_far = rw (c.in_ok-push.ensures.items, chained_push) (climb_goes c.args.depth c.args.level _ c.joins.rest.now (c.in-Some.join, c.in-Some.more) c.in_ok-right.right c.in_ok-right.behind.now _ c.joins.invariant.so_far (sym c.in-Some.ensures.value) right);
       len = omega (arith, c.in_ok-right.ensures.bound, c.joins.invariant.len);
       is_text = c.in_ok-right.ensures.text;
     }
