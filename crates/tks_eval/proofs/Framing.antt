@@ -22,8 +22,8 @@ use Rattle.tks_tcl.specs.Plain as commands
 use Rattle.tks_tcl.specs.Plain.{plain}
 use Rattle.tks_tcl.specs.Variables.{stores}
 use Rattle.tks_tcl.proofs.Framing.{follows, follows_on, one_of, Left, stores_stay, leaves_frames}
-use Rattle.tks_eval.specs.Outcome.{Outcome, End, Stopped, Next, Level, Answer, Unknown, Comes, PassesLimit, Meaning, after_step, after, after_body, after_next, caught, joined, fails, given}
-use Rattle.tks_eval.specs.Evaluation.{element_name, with_value, words_in, foreach_form, without_frame, returned, at_global, global_does, after_script, scripts_do, plan_does, parts_do, wrong_words, text_done, and_then, made_text, value_does, expression_does, chosen, tested, done, expr_does, script_does, branches_do, form_does, turn_does, turns, loop_does, while_does, for_does, catch_ends, catch_does, eval_does, each, foreach_does, settled, procedure_does, proc_does, control_does, host_does, plain_does, command_does, call, words_do, commands_do, evaluate}
+use Rattle.tks_eval.specs.Outcome.{Outcome, End, Stopped, Next, Level, Answer, Unknown, Comes, PassesLimit, Meaning, after_step, after, after_body, after_next, caught, appended, fails, given}
+use Rattle.tks_eval.specs.Evaluation.{element_name, with_value, words_in, foreach_form, without_frame, returned, at_global, global_does, after_script, scripts_do, plan_does, parts_do, wrong_words, text_done, and_then, made_text, value_does, expression_does, if_holds, tested, done, expr_does, script_does, branches_do, form_does, turn_does, turns, loop_does, while_does, for_does, catch_ends, catch_does, eval_does, each, foreach_does, settled, procedure_does, proc_does, control_does, host_does, plain_does, command_does, call, words_do, commands_do, evaluate}
 use Rattle.tks_eval.specs.Names.{control_named}
 use Rattle.tks_eval.specs.Procedures.{given_arguments, arguments, with_arguments, entered, parameters_in, defined, is_taken, proc_form}
 use Rattle.tks_eval.specs.declared.control.Control.{Control}
@@ -36,7 +36,7 @@ use Rattle.tks_eval.specs.declared.loops.Loop.{Loop}
 use Rattle.tks_eval.specs.Branches.{Condition, branches}
 use Rattle.tks_expr.specs.Tree as expr
 use Rattle.tks_expr.specs.Tree.{Expr}
-use Rattle.tks_expr.specs.Value.{told, choice, truth_text}
+use Rattle.tks_expr.specs.Value.{told, by_condition, truth_text}
 use Rattle.tks_expr.specs.Operation.{truth_of, result_of, applied, applied_unary}
 use Rattle.tks_expr.specs.Reading.{expr_of}
 use Rattle.tks_eval.specs.Laws.{HostLeavesFrames, LeavesFrames}
@@ -162,12 +162,12 @@ module _ {S : Type 0} where
 
       parts_leave : (parts : Parts) (made : List ℕ) → NextLeaves (parts_do limits inner parts made)
       parts_leave no_part made state variables fuel = end_leaves 0 made state variables fuel
-      parts_leave (char c rest) made state variables fuel = given_leaves state variables fuel (joined limits made (c ∷ [])) (λ made. parts_leave rest made state variables fuel)
+      parts_leave (char c rest) made state variables fuel = given_leaves state variables fuel (appended limits made (c ∷ [])) (λ made. parts_leave rest made state variables fuel)
       parts_leave (variable name rest) made state variables fuel = given_leaves state variables fuel (with_value limits variables name made) (λ made. parts_leave rest made state variables fuel)
       parts_leave (element name index rest) made state variables fuel =
           after_leaves variables _ (parts_leave index [] state variables fuel) (λ at state variables fuel. given_leaves state variables fuel (with_value limits variables (element_name name at) made) (λ made. parts_leave rest made state variables fuel))
       parts_leave (nested script rest) made state variables fuel =
-          after_leaves variables _ (deep script state variables fuel) (λ text state variables fuel. given_leaves state variables fuel (joined limits made text) (λ made. parts_leave rest made state variables fuel))
+          after_leaves variables _ (deep script state variables fuel) (λ text state variables fuel. given_leaves state variables fuel (appended limits made text) (λ made. parts_leave rest made state variables fuel))
 
       -- ---- expressions
 
@@ -175,16 +175,16 @@ module _ {S : Type 0} where
       told_leaves (Ok text) state variables fuel = end_leaves 0 text state variables fuel
       told_leaves (Err fault) state variables fuel = fails_leave fault state variables fuel
 
-      choice_leaves : (holds : Result Bool ScriptFault) (first second : Next S) → NextLeaves first → NextLeaves second
-          → NextLeaves (choice text_done (fails limits) and_then (made_text limits inner) holds first second)
-      choice_leaves (Ok true) first second h k = h
-      choice_leaves (Ok false) first second h k = k
-      choice_leaves (Err fault) first second h k = fails_leave fault
+      by_condition_leaves : (holds : Result Bool ScriptFault) (first second : Next S) → NextLeaves first → NextLeaves second
+          → NextLeaves (by_condition text_done (fails limits) and_then (made_text limits inner) holds first second)
+      by_condition_leaves (Ok true) first second h k = h
+      by_condition_leaves (Ok false) first second h k = k
+      by_condition_leaves (Err fault) first second h k = fails_leave fault
 
       -- an operand, of which the truth is told
       truth_leaves : (operand : Next S) → NextLeaves operand → NextLeaves (and_then operand (truth_text text_done (fails limits) and_then (made_text limits inner)))
       truth_leaves operand h state variables fuel =
-          after_leaves variables _ (h state variables fuel) (λ x. choice_leaves (truth_of x) _ _ (end_leaves 0 (codes "1")) (end_leaves 0 (codes "0")))
+          after_leaves variables _ (h state variables fuel) (λ x. by_condition_leaves (truth_of x) _ _ (end_leaves 0 (codes "1")) (end_leaves 0 (codes "0")))
 
       value_leaves : (e : Expr) → NextLeaves (value_does limits inner e)
       value_leaves (expr.Literal text) state variables fuel = end_leaves 0 text state variables fuel
@@ -193,22 +193,22 @@ module _ {S : Type 0} where
       value_leaves (expr.Two op a b) state variables fuel =
           after_leaves variables _ (value_leaves a state variables fuel) (λ x state variables fuel. after_leaves variables _ (value_leaves b state variables fuel) (λ y. told_leaves (applied op x y)))
       value_leaves (expr.Both a b) state variables fuel =
-          after_leaves variables _ (value_leaves a state variables fuel) (λ x. choice_leaves (truth_of x) _ _ (truth_leaves (value_does limits inner b) (value_leaves b)) (end_leaves 0 (codes "0")))
+          after_leaves variables _ (value_leaves a state variables fuel) (λ x. by_condition_leaves (truth_of x) _ _ (truth_leaves (value_does limits inner b) (value_leaves b)) (end_leaves 0 (codes "0")))
       value_leaves (expr.Either a b) state variables fuel =
-          after_leaves variables _ (value_leaves a state variables fuel) (λ x. choice_leaves (truth_of x) _ _ (end_leaves 0 (codes "1")) (truth_leaves (value_does limits inner b) (value_leaves b)))
-      value_leaves (expr.Choice c a b) state variables fuel =
-          after_leaves variables _ (value_leaves c state variables fuel) (λ x. choice_leaves (truth_of x) _ _ (value_leaves a) (value_leaves b))
+          after_leaves variables _ (value_leaves a state variables fuel) (λ x. by_condition_leaves (truth_of x) _ _ (end_leaves 0 (codes "1")) (truth_leaves (value_does limits inner b) (value_leaves b)))
+      value_leaves (expr.Conditional c a b) state variables fuel =
+          after_leaves variables _ (value_leaves c state variables fuel) (λ x. by_condition_leaves (truth_of x) _ _ (value_leaves a) (value_leaves b))
 
       expression_leaves : (text : List ℕ) → NextLeaves (expression_does limits inner text)
       expression_leaves text state variables fuel = given_leaves state variables fuel (value_or_fault (expr_of text)) (λ e. value_leaves e state variables fuel)
 
-      chosen_leaves : (holds : Bool) (first second : Next S) → NextLeaves first → NextLeaves second → NextLeaves (chosen holds first second)
-      chosen_leaves holds first second h k state variables fuel = if_leaves variables holds (h state variables fuel) (k state variables fuel)
+      if_holds_leaves : (holds : Bool) (first second : Next S) → NextLeaves first → NextLeaves second → NextLeaves (if_holds holds first second)
+      if_holds_leaves holds first second h k state variables fuel = if_leaves variables holds (h state variables fuel) (k state variables fuel)
 
       tested_leaves : (condition : List ℕ) (first second : Next S) → NextLeaves first → NextLeaves second → NextLeaves (tested limits inner condition first second)
       tested_leaves condition first second h k state variables fuel =
           step_leaves variables fuel _ (λ fuel. after_leaves variables _ (expression_leaves condition state variables fuel) (λ text state variables fuel.
-          given_leaves state variables fuel (value_or_fault (truth_of text)) (λ holds. chosen_leaves holds first second h k state variables fuel)))
+          given_leaves state variables fuel (value_or_fault (truth_of text)) (λ holds. if_holds_leaves holds first second h k state variables fuel)))
 
       -- ---- commands that run scripts
 

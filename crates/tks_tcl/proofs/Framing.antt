@@ -6,10 +6,10 @@ use Rattle.tks_text.specs.declared.fault.ScriptFault.{ScriptFault}
 use Rattle.tks_text.specs.declared.limits.Limits.{Limits}
 use Rattle.tks_vars.specs.Laws.{FramesStay}
 use Rattle.tks_vars.specs.Variables.{Variables, without, with_value, with_global_value, grown_by_value, grown_by_global_value, grown_by_link}
-use Rattle.tks_vars.proofs.Framing.{itself, both, given_stays, global_given_stays, without_stays, linked_stays}
+use Rattle.tks_vars.proofs.Framing.{itself, both, given_stays, global_given_stays, without_stays, link_stays}
 use Rattle.tks_tcl.specs.Cause.{Cause, Fault, OverLimit, after, value_or_fault, fits, within}
 use Rattle.tks_tcl.specs.Codes.{code_does}
-use Rattle.tks_tcl.specs.Variables.{Changed, value_in, increased, appended, list_appended, without_all, silent, unset_does, answers, may_grow, stores, stores_global, link_within, linked_all, set_does, incr_does, append_does, lappend_does, global_does, info_does, variable_does}
+use Rattle.tks_tcl.specs.Variables.{Changed, value_in, increased, appended, list_appended, without_all, silent, unset_does, answers, may_grow, stores, stores_global, link_within, with_global_links, set_does, incr_does, append_does, lappend_does, global_does, info_does, variable_does}
 use Rattle.tks_tcl.specs.Plain.{Answer, Answers, PassesLimit, Ending, with_code_0, command_does, errs, answered}
 use Rattle.tks_tcl.specs.Laws.{LeavesFrames}
 use Rattle.tks_tcl.specs.Names.{command_named}
@@ -60,13 +60,13 @@ module _ (limits : Limits) where
       one_of (Left v) (fits limits value && may_grow limits (grown_by_global_value v name)) _ _
       (follows_on (FramesStay v) (Left v) (value_or_fault (with_global_value v name value)) _ (told (FramesStay v) _ (global_given_stays v name value)) (λ w k. k)) tt
 
-  link_stays : (name : List ℕ) (v : Variables) → IfOk (link_within limits name v) (FramesStay v)
-  link_stays name v = one_of (FramesStay v) (may_grow limits (grown_by_link v name)) _ _ (told (FramesStay v) _ (linked_stays v name)) tt
+  link_within_stays : (name : List ℕ) (v : Variables) → IfOk (link_within limits name v) (FramesStay v)
+  link_within_stays name v = one_of (FramesStay v) (may_grow limits (grown_by_link v name)) _ _ (told (FramesStay v) _ (link_stays v name)) tt
 
-  linked_all_stay : (names : List (List ℕ)) (u v : Variables) → FramesStay u v → IfOk (linked_all limits names v) (FramesStay u)
-  linked_all_stay [] u v h = h
-  linked_all_stay (name ∷ names) u v h =
-      follows_on (FramesStay v) (FramesStay u) (link_within limits name v) (linked_all limits names) (link_stays name v) (λ w k. linked_all_stay names u w (both h k))
+  links_stay : (names : List (List ℕ)) (u v : Variables) → FramesStay u v → IfOk (with_global_links limits names v) (FramesStay u)
+  links_stay [] u v h = h
+  links_stay (name ∷ names) u v h =
+      follows_on (FramesStay v) (FramesStay u) (link_within limits name v) (with_global_links limits names) (link_within_stays name v) (λ w k. links_stay names u w (both h k))
 
   -- ---- the commands
 
@@ -94,7 +94,7 @@ module _ (limits : Limits) where
 
   global_stays : (first : List ℕ) (words : List (List ℕ)) (v : Variables) → IfOk (global_does limits first words v) (Left v)
   global_stays first [] v = tt
-  global_stays first (name ∷ names) v = follows_on (FramesStay v) (Left v) (linked_all limits (name ∷ names) v) silent (linked_all_stay (name ∷ names) v v (itself v)) (λ w k. k)
+  global_stays first (name ∷ names) v = follows_on (FramesStay v) (Left v) (with_global_links limits (name ∷ names) v) silent (links_stay (name ∷ names) v v (itself v)) (λ w k. k)
 
   info_stays : (first : List ℕ) (words : List (List ℕ)) (v : Variables) → IfOk (info_does limits first words v) (Left v)
   info_stays first [] v = tt

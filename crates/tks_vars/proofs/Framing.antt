@@ -4,7 +4,7 @@ use Rattle.std.specs.FinMap as fin
 use Rattle.tks_text.specs.declared.fault.ErrorNumber.{ErrorNumber}
 use Rattle.tks_text.specs.declared.fault.ScriptFault.{ScriptFault}
 use Rattle.tks_vars.specs.Names.{Name, named}
-use Rattle.tks_vars.specs.Variables.{Variables, Frame, about, after, on_name, written, taken, content_of, innermost, is_global, changed, with_content, without_content, left_with, with_value, with_global_value, without, with_link, linked_in, linked, back, popped, pushed_global, with_procedure}
+use Rattle.tks_vars.specs.Variables.{Variables, Frame, about, after, on_name, updated, taken, content_of, innermost, is_global, changed, with_content, without_content, left_with, with_value, with_global_value, without, with_link, with_link_in, with_global_link, back, popped, pushed_global, with_procedure}
 use Rattle.tks_vars.specs.Laws.{FramesStay}
 use Rattle.tks_vars.specs.declared.content.Content.{Content}
 use Rattle.tks_vars.specs.declared.content.Local.TheVariants.{Own}
@@ -64,17 +64,17 @@ module _ (v : Variables) where
 
   pub given_stays : (name value : List ℕ) → IfOk (with_value v name value) (FramesStay v)
   given_stays name value =
-      told_stays name _ (name_stays (named name) _ (λ n. after_stays (written (content_of v n.variable) n.index value) _ (put_stays v n.variable)))
+      told_stays name _ (name_stays (named name) _ (λ n. after_stays (updated (content_of v n.variable) n.index value) _ (put_stays v n.variable)))
 
   pub without_stays : (name : List ℕ) → IfOk (without v name) (FramesStay v)
   without_stays name = told_stays name _ (name_stays (named name) _ (λ n. after_stays (taken (content_of v n.variable) n.index) _ (left_stays v n.variable)))
 
-  linked_by : (frame : Option Frame) (name : List ℕ) → IfOk (linked_in v frame name) (FramesStay v)
-  linked_by None name = itself v
-  linked_by (Some frame) name = after_stays (with_link frame name) _ (λ linked. innermost_stays v (λ _. linked))
+  with_link_by : (frame : Option Frame) (name : List ℕ) → IfOk (with_link_in v frame name) (FramesStay v)
+  with_link_by None name = itself v
+  with_link_by (Some frame) name = after_stays (with_link frame name) _ (λ linked. innermost_stays v (λ _. linked))
 
-  pub linked_stays : (name : List ℕ) → IfOk (linked v name) (FramesStay v)
-  linked_stays name = told_stays name _ (linked_by (innermost v.locals) name)
+  pub link_stays : (name : List ℕ) → IfOk (with_global_link v name) (FramesStay v)
+  link_stays name = told_stays name _ (with_link_by (innermost v.locals) name)
 
   back_stays : (r : Result Variables ScriptFault) → IfOk r (FramesStay (pushed_global v)) → IfOk (back r) (FramesStay v)
   back_stays (Ok w) h = popped_stays None v w h

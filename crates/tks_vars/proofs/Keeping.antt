@@ -65,54 +65,54 @@ module _ (globals : Map Content) (below : List (Option Frame)) (procedures : Map
 
   module _ (name : List ℕ) where
     -- where the name is a link's or not, the one or the other
-    chosen : {X : Type 0} (o : Option Local) (link other : X) (found : Option Local) → o ≡ found → (if is_link o then link else other) ≡ (if is_link found then link else other)
-    chosen o link other found e = ap (λ (x : Option Local). if is_link x then link else other) e
+    by_local : {X : Type 0} (o : Option Local) (link other : X) (found : Option Local) → o ≡ found → (if is_link o then link else other) ≡ (if is_link found then link else other)
+    by_local o link other found e = ap (λ (x : Option Local). if is_link x then link else other) e
 
     module _ (c : Content) where
       put_in : (frame : Frame) (o : Option Local) → fin.get frame name ≡ o → content_of (with_content (by (Some frame)) name c) name ≡ Some c
       put_in frame None e =
-          ap (λ (v : Variables). content_of v name) (chosen (fin.get frame name) _ _ None e)
+          ap (λ (v : Variables). content_of v name) (by_local (fin.get frame name) _ _ None e)
           ∙ ap (λ (x : Option Local). seen_through x (fin.get globals name)) (put_here frame name (Own c))
       put_in frame (Some (Own d)) e =
-          ap (λ (v : Variables). content_of v name) (chosen (fin.get frame name) _ _ (Some (Own d)) e)
+          ap (λ (v : Variables). content_of v name) (by_local (fin.get frame name) _ _ (Some (Own d)) e)
           ∙ ap (λ (x : Option Local). seen_through x (fin.get globals name)) (put_here frame name (Own c))
       put_in frame (Some Link) e =
-          ap (λ (v : Variables). content_of v name) (chosen (fin.get frame name) _ _ (Some Link) e)
+          ap (λ (v : Variables). content_of v name) (by_local (fin.get frame name) _ _ (Some Link) e)
           ∙ ap (λ (x : Option Local). seen_through x (fin.get (fin.insert globals name c) name)) e
           ∙ put_here globals name c
 
       put_apart : (frame : Frame) (o : Option Local) (q : List ℕ) → q ≢ name → fin.get frame name ≡ o → content_of (with_content (by (Some frame)) name c) q ≡ content_of (by (Some frame)) q
       put_apart frame None q other e =
-          ap (λ (v : Variables). content_of v q) (chosen (fin.get frame name) _ _ None e)
+          ap (λ (v : Variables). content_of v q) (by_local (fin.get frame name) _ _ None e)
           ∙ ap (λ (x : Option Local). seen_through x (fin.get globals q)) (put_elsewhere frame name (Own c) q other)
       put_apart frame (Some (Own d)) q other e =
-          ap (λ (v : Variables). content_of v q) (chosen (fin.get frame name) _ _ (Some (Own d)) e)
+          ap (λ (v : Variables). content_of v q) (by_local (fin.get frame name) _ _ (Some (Own d)) e)
           ∙ ap (λ (x : Option Local). seen_through x (fin.get globals q)) (put_elsewhere frame name (Own c) q other)
       put_apart frame (Some Link) q other e =
-          ap (λ (v : Variables). content_of v q) (chosen (fin.get frame name) _ _ (Some Link) e)
+          ap (λ (v : Variables). content_of v q) (by_local (fin.get frame name) _ _ (Some Link) e)
           ∙ ap (λ (x : Option Content). seen_through (fin.get frame q) x) (put_elsewhere globals name c q other)
 
     taken_in : (frame : Frame) (o : Option Local) → fin.get frame name ≡ o → content_of (without_content (by (Some frame)) name) name ≡ None
     taken_in frame None e =
-        ap (λ (v : Variables). content_of v name) (chosen (fin.get frame name) _ _ None e)
+        ap (λ (v : Variables). content_of v name) (by_local (fin.get frame name) _ _ None e)
         ∙ ap (λ (x : Option Local). seen_through x (fin.get globals name)) (taken_here frame name)
     taken_in frame (Some (Own d)) e =
-        ap (λ (v : Variables). content_of v name) (chosen (fin.get frame name) _ _ (Some (Own d)) e)
+        ap (λ (v : Variables). content_of v name) (by_local (fin.get frame name) _ _ (Some (Own d)) e)
         ∙ ap (λ (x : Option Local). seen_through x (fin.get globals name)) (taken_here frame name)
     taken_in frame (Some Link) e =
-        ap (λ (v : Variables). content_of v name) (chosen (fin.get frame name) _ _ (Some Link) e)
+        ap (λ (v : Variables). content_of v name) (by_local (fin.get frame name) _ _ (Some Link) e)
         ∙ ap (λ (x : Option Local). seen_through x (fin.get (fin.remove globals name) name)) e
         ∙ taken_here globals name
 
     taken_apart : (frame : Frame) (o : Option Local) (q : List ℕ) → q ≢ name → fin.get frame name ≡ o → content_of (without_content (by (Some frame)) name) q ≡ content_of (by (Some frame)) q
     taken_apart frame None q other e =
-        ap (λ (v : Variables). content_of v q) (chosen (fin.get frame name) _ _ None e)
+        ap (λ (v : Variables). content_of v q) (by_local (fin.get frame name) _ _ None e)
         ∙ ap (λ (x : Option Local). seen_through x (fin.get globals q)) (taken_elsewhere frame name q other)
     taken_apart frame (Some (Own d)) q other e =
-        ap (λ (v : Variables). content_of v q) (chosen (fin.get frame name) _ _ (Some (Own d)) e)
+        ap (λ (v : Variables). content_of v q) (by_local (fin.get frame name) _ _ (Some (Own d)) e)
         ∙ ap (λ (x : Option Local). seen_through x (fin.get globals q)) (taken_elsewhere frame name q other)
     taken_apart frame (Some Link) q other e =
-        ap (λ (v : Variables). content_of v q) (chosen (fin.get frame name) _ _ (Some Link) e)
+        ap (λ (v : Variables). content_of v q) (by_local (fin.get frame name) _ _ (Some Link) e)
         ∙ ap (λ (x : Option Content). seen_through (fin.get frame q) x) (taken_elsewhere globals name q other)
 
 -- the same of all variables

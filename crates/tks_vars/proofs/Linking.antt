@@ -5,7 +5,7 @@ use Rattle.tks_text.specs.declared.fault.ErrorNumber.{ErrorNumber}
 use Rattle.tks_text.specs.declared.fault.ScriptFault.{ScriptFault}
 use Rattle.tks_vars.specs.Table.{Map}
 use Rattle.tks_vars.specs.Names.{Name, named}
-use Rattle.tks_vars.specs.Variables.{Variables, Frame, about, after, on_name, value_in, written, content_of, content_in, with_content, is_global, is_link, innermost, seen_through, link_at, link_by, with_link, linked, changed, pushed_global, back}
+use Rattle.tks_vars.specs.Variables.{Variables, Frame, about, after, on_name, value_in, updated, content_of, content_in, with_content, is_global, is_link, innermost, seen_through, link_at, link_by, with_link, with_global_link, changed, pushed_global, back}
 use Rattle.tks_vars.specs.Laws.{LinkReads, LinkWrites}
 use Rattle.tks_vars.specs.declared.content.Content.{Content}
 use Rattle.tks_vars.specs.declared.content.Local.{Local}
@@ -33,7 +33,7 @@ module _ (globals : Map Content) (below : List (Option Frame)) (procedures : Map
   by_index frame variable None e = by_local frame variable (fin.get frame variable) refl e
   by_index frame variable (Some i) e = absurd cc
 
-  by_name : (frame : Frame) (n : Name) → named text ≡ Some n → linked (with_frame frame) text ≡ Ok new → is_global (innermost new.locals) n.variable ≡ true
+  by_name : (frame : Frame) (n : Name) → named text ≡ Some n → with_global_link (with_frame frame) text ≡ Ok new → is_global (innermost new.locals) n.variable ≡ true
   by_name frame n is e =
       by_index frame n.variable n.index
       (ap (λ (o : Option Name). about text (after (on_name o (λ name. link_by frame name.variable name.index)) with_frame)) (sym is) ∙ e)
@@ -45,7 +45,7 @@ same_now v new variable top e =
     ap (λ (w : Variables). is_global (innermost w.locals) variable) same ∙ top
 
 global_now : (globals : Map Content) (locals : List (Option Frame)) (procedures : Map Procedure) (new : Variables) (text : List ℕ) (n : Name) → named text ≡ Some n
-    → linked (record { globals = globals; locals = locals; procedures = procedures }) text ≡ Ok new → is_global (innermost new.locals) n.variable ≡ true
+    → with_global_link (record { globals = globals; locals = locals; procedures = procedures }) text ≡ Ok new → is_global (innermost new.locals) n.variable ≡ true
 global_now globals [] procedures new text n is e = same_now (record { globals = globals; locals = []; procedures = procedures }) new n.variable refl e
 global_now globals (None ∷ below) procedures new text n is e = same_now (record { globals = globals; locals = None ∷ below; procedures = procedures }) new n.variable refl e
 global_now globals (Some frame ∷ below) procedures new text n is e = by_name globals below procedures new text frame n is e
@@ -76,12 +76,12 @@ module _ (new : Variables) (text : List ℕ) where
   ends_by variable (Err number) global = refl
 
   writes_by : (value : List ℕ) (n : Option Name) → ((name : Name) → n ≡ Some name → is_global (innermost new.locals) name.variable ≡ true)
-      → about text (on_name n (λ name. after (written (content_of new name.variable) name.index value) (with_content new name.variable)))
-      ≡ back (about text (on_name n (λ name. after (written (content_of (pushed_global new) name.variable) name.index value) (with_content (pushed_global new) name.variable))))
+      → about text (on_name n (λ name. after (updated (content_of new name.variable) name.index value) (with_content new name.variable)))
+      ≡ back (about text (on_name n (λ name. after (updated (content_of (pushed_global new) name.variable) name.index value) (with_content (pushed_global new) name.variable))))
   writes_by value None global = refl
   writes_by value (Some n) global =
-      ap (λ (o : Option Content). about text (after (written o n.index value) (with_content new n.variable))) (read_global new.globals (innermost new.locals) n.variable (global n refl))
-      ∙ ends_by n.variable (written (fin.get new.globals n.variable) n.index value) (global n refl)
+      ap (λ (o : Option Content). about text (after (updated o n.index value) (with_content new n.variable))) (read_global new.globals (innermost new.locals) n.variable (global n refl))
+      ∙ ends_by n.variable (updated (fin.get new.globals n.variable) n.index value) (global n refl)
 
 pub link_reads : (v new : Variables) (name : List ℕ) → LinkReads v name new
 link_reads v new name e = reads_by new name (named name) (λ n is. global_now v.globals v.locals v.procedures new name n is e)

@@ -7,7 +7,7 @@ use Rattle.tks_text.specs.declared.fault.ErrorNumber.{ErrorNumber}
 use Rattle.tks_text.specs.declared.fault.ErrorNumber.TheVariants.{NoSuchVariable, BadName}
 use Rattle.tks_text.specs.Fault.{fault_about}
 use Rattle.tks_vars.specs.Names.{Name, named}
-use Rattle.tks_vars.specs.Variables.{Variables, about, after, on_name, value_in, value_of, with_value, without, written, taken, content_of, with_content, without_content, left_with, element_of, without_element}
+use Rattle.tks_vars.specs.Variables.{Variables, about, after, on_name, value_in, value_of, with_value, without, updated, taken, content_of, with_content, without_content, left_with, element_of, without_element}
 use Rattle.tks_vars.specs.Laws.{Apart, OfOtherElements, NameApart, SetIsGot, SetLeavesOthers, UnsetIsGone, UnsetLeavesOthers}
 use Rattle.tks_vars.specs.declared.content.Content.{Content}
 use Rattle.tks_vars.specs.declared.content.Content.TheVariants.{Scalar, Array}
@@ -19,22 +19,22 @@ use Rattle.tks_vars.proofs.Keeping.{same_or_other, put_here, put_elsewhere, take
 as_this : (c d : Content) (index : Option (List ℕ)) (r : Result (List ℕ) ErrorNumber) → d ≡ c → value_in (Some d) index ≡ r → value_in (Some c) index ≡ r
 as_this c d index r e h = ap (λ (x : Content). value_in (Some x) index) (sym e) ∙ h
 
-written_here : (o : Option Content) (index : Option (List ℕ)) (value : List ℕ) (c : Content) → written o index value ≡ Ok c → value_in (Some c) index ≡ Ok value
-written_here None None value c e = as_this c (Scalar value) None (Ok value) (cc) refl
-written_here None (Some i) value c e = as_this c (Array (fin.insert fin.empty i value)) (Some i) (Ok value) (cc) (ap element_of (put_here fin.empty i value))
-written_here (Some (Scalar old)) None value c e = as_this c (Scalar value) None (Ok value) (cc) refl
-written_here (Some (Scalar old)) (Some i) value c e = absurd cc
-written_here (Some (Array es)) None value c e = absurd cc
-written_here (Some (Array es)) (Some i) value c e = as_this c (Array (fin.insert es i value)) (Some i) (Ok value) (cc) (ap element_of (put_here es i value))
+updated_here : (o : Option Content) (index : Option (List ℕ)) (value : List ℕ) (c : Content) → updated o index value ≡ Ok c → value_in (Some c) index ≡ Ok value
+updated_here None None value c e = as_this c (Scalar value) None (Ok value) (cc) refl
+updated_here None (Some i) value c e = as_this c (Array (fin.insert fin.empty i value)) (Some i) (Ok value) (cc) (ap element_of (put_here fin.empty i value))
+updated_here (Some (Scalar old)) None value c e = as_this c (Scalar value) None (Ok value) (cc) refl
+updated_here (Some (Scalar old)) (Some i) value c e = absurd cc
+updated_here (Some (Array es)) None value c e = absurd cc
+updated_here (Some (Array es)) (Some i) value c e = as_this c (Array (fin.insert es i value)) (Some i) (Ok value) (cc) (ap element_of (put_here es i value))
 
-written_apart : (o : Option Content) (index other : Option (List ℕ)) (value : List ℕ) (c : Content) → OfOtherElements index other → written o index value ≡ Ok c
+updated_apart : (o : Option Content) (index other : Option (List ℕ)) (value : List ℕ) (c : Content) → OfOtherElements index other → updated o index value ≡ Ok c
     → value_in (Some c) other ≡ value_in o other
-written_apart o None other value c apart e = absurd apart
-written_apart o (Some i) None value c apart e = absurd apart
-written_apart None (Some i) (Some j) value c apart e =
+updated_apart o None other value c apart e = absurd apart
+updated_apart o (Some i) None value c apart e = absurd apart
+updated_apart None (Some i) (Some j) value c apart e =
     as_this c (Array (fin.insert fin.empty i value)) (Some j) (Err NoSuchVariable) (cc) (ap element_of (put_elsewhere fin.empty i value j (λ same. apart (sym same)) ∙ fin.get-empty _ j))
-written_apart (Some (Scalar old)) (Some i) (Some j) value c apart e = absurd cc
-written_apart (Some (Array es)) (Some i) (Some j) value c apart e =
+updated_apart (Some (Scalar old)) (Some i) (Some j) value c apart e = absurd cc
+updated_apart (Some (Array es)) (Some i) (Some j) value c apart e =
     as_this c (Array (fin.insert es i value)) (Some j) (element_of (fin.get es j)) (cc) (ap element_of (put_elsewhere es i value j (λ same. apart (sym same))))
 
 -- ---- all variables, after a name was given a value
@@ -45,16 +45,16 @@ module _ (v new : Variables) (text : List ℕ) (variable : List ℕ) where
   put_is c (Ok d) same e = cc
   put_is c (Err number) same e = absurd cc
 
-  set_got : (index : Option (List ℕ)) (value : List ℕ) (r : Result Content ErrorNumber) → written (content_of v variable) index value ≡ r → about text (after r (with_content v variable)) ≡ Ok new
+  set_got : (index : Option (List ℕ)) (value : List ℕ) (r : Result Content ErrorNumber) → updated (content_of v variable) index value ≡ r → about text (after r (with_content v variable)) ≡ Ok new
       → value_in (content_of new variable) index ≡ Ok value
   set_got index value (Err number) is e = absurd cc
   set_got index value (Ok c) is e =
       ap (λ (w : Variables). value_in (content_of w variable) index) (put_is c (Ok c) refl e)
       ∙ ap (λ (o : Option Content). value_in o index) (content_put v variable c)
-      ∙ written_here (content_of v variable) index value c is
+      ∙ updated_here (content_of v variable) index value c is
 
   set_apart : (index : Option (List ℕ)) (value : List ℕ) (o : Name) (r : Result Content ErrorNumber) → Apart (record { variable = variable; index = index }) o
-      → written (content_of v variable) index value ≡ r → about text (after r (with_content v variable)) ≡ Ok new
+      → updated (content_of v variable) index value ≡ r → about text (after r (with_content v variable)) ≡ Ok new
       → value_in (content_of new o.variable) o.index ≡ value_in (content_of v o.variable) o.index
   set_apart index value o (Err number) apart is e = absurd cc
   set_apart index value o (Ok c) (inl other) is e =
@@ -65,7 +65,7 @@ module _ (v new : Variables) (text : List ℕ) (variable : List ℕ) where
         ap (λ (w : Variables). value_in (content_of w o.variable) o.index) (put_is c (Ok c) refl e)
         ∙ ap (λ (x : List ℕ). value_in (content_of (with_content v variable c) x) o.index) same
         ∙ ap (λ (x : Option Content). value_in x o.index) (content_put v variable c)
-        ∙ written_apart (content_of v variable) index o.index value c elements is
+        ∙ updated_apart (content_of v variable) index o.index value c elements is
         ∙ ap (λ (x : List ℕ). value_in (content_of v x) o.index) (sym same)
     | inr other ↦
         ap (λ (w : Variables). value_in (content_of w o.variable) o.index) (put_is c (Ok c) refl e)
@@ -73,7 +73,7 @@ module _ (v new : Variables) (text : List ℕ) (variable : List ℕ) where
   ]
 
 set_by : (v new : Variables) (text value : List ℕ) (n : Option Name)
-    → about text (on_name n (λ name. after (written (content_of v name.variable) name.index value) (with_content v name.variable))) ≡ Ok new
+    → about text (on_name n (λ name. after (updated (content_of v name.variable) name.index value) (with_content v name.variable))) ≡ Ok new
     → about text (on_name n (λ name. value_in (content_of new name.variable) name.index)) ≡ Ok value
 set_by v new text value None e = absurd cc
 set_by v new text value (Some name) e = ap (about text) (set_got v new text name.variable name.index value _ refl e)
@@ -91,7 +91,7 @@ module _ (text other : List ℕ) (a : NameApart text other) where
 
 pub set_leaves_others : (v new : Variables) (name value : List ℕ) → SetLeavesOthers v name value new
 set_leaves_others v new name value other a e =
-    let put = first_named name other a (λ n. after (written (content_of v n.variable) n.index value) (with_content v n.variable)) (Ok new) e in
+    let put = first_named name other a (λ n. after (updated (content_of v n.variable) n.index value) (with_content v n.variable)) (Ok new) e in
     second_read name other a new
     ∙ ap (about other) (set_apart v new name a.first.variable a.first.index value a.second _ a.apart refl put)
     ∙ sym (second_read name other a v)

@@ -4,7 +4,7 @@ use Rattle.std.specs.List.{list_all}
 use Rattle.tks_text.specs.declared.fault.ErrorNumber.TheVariants.{NoSuchVariable}
 use Rattle.tks_text.specs.Fault.{fault_about}
 use Rattle.tks_vars.specs.Names.{Name, named}
-use Rattle.tks_vars.specs.Variables.{Variables, value_of, with_value, without, linked, global_value_of, with_global_value}
+use Rattle.tks_vars.specs.Variables.{Variables, value_of, with_value, without, with_global_link, global_value_of, with_global_value}
 
 -- of two indices, that they are of different elements
 abbrev pub OfOtherElements : Option (List ℕ) → Option (List ℕ) → Type 0
@@ -41,11 +41,11 @@ UnsetLeavesOthers v name new = (other : List ℕ) → NameApart name other → w
 
 -- a link has the value of the global
 abbrev pub LinkReads : Variables → List ℕ → Variables → Type 0
-LinkReads v name new = linked v name ≡ Ok new → value_of new name ≡ global_value_of new name
+LinkReads v name new = with_global_link v name ≡ Ok new → value_of new name ≡ global_value_of new name
 
 -- what a link is given the global is given
 abbrev pub LinkWrites : Variables → List ℕ → Variables → Type 0
-LinkWrites v name new = (value : List ℕ) → linked v name ≡ Ok new → with_value new name value ≡ with_global_value new name value
+LinkWrites v name new = (value : List ℕ) → with_global_link v name ≡ Ok new → with_value new name value ≡ with_global_value new name value
 
 -- a text names an element: the variable, `(`, the index, `)`, and no `(` in the variable, which has a name
 pub record NamesElement (text variable index : List ℕ) : Type 0 where

@@ -2,7 +2,7 @@
 ghost use Rattle.std.specs.Prelude.{◌≡◌, ◌↔◌, List, ℕ, Some, IfOk};
 ghost use Rattle.tks_vars.specs.Laws.{NamesElement, SetIsGot, SetLeavesOthers, UnsetIsGone, UnsetLeavesOthers, LinkReads, LinkWrites, FramesStay};
 ghost use Rattle.tks_vars.specs.Names.{named, element};
-ghost use Rattle.tks_vars.specs.Variables.{Variables, with_value, with_global_value, without, linked, with_procedure, pushed, pushed_global, pushed_with, popped};
+ghost use Rattle.tks_vars.specs.Variables.{Variables, with_value, with_global_value, without, with_global_link, with_procedure, pushed, pushed_global, pushed_with, popped};
 ghost use Rattle.tks_vars.specs.declared.procedure.Argument.{Argument};
 ghost use Rattle.tks_vars.specs.declared.procedure.Procedure.{Procedure};
 
@@ -42,6 +42,6 @@ pub fn frames_stay()
     ensures given { (v : Variables) (name value : List ℕ) → IfOk (with_value v name value) (FramesStay v) }
     ensures given_to_global { (v : Variables) (name value : List ℕ) → IfOk (with_global_value v name value) (FramesStay v) }
     ensures taken { (v : Variables) (name : List ℕ) → IfOk (without v name) (FramesStay v) }
-    ensures linked { (v : Variables) (name : List ℕ) → IfOk (linked v name) (FramesStay v) }
+    ensures made_link { (v : Variables) (name : List ℕ) → IfOk (with_global_link v name) (FramesStay v) }
     ensures defined { (v : Variables) (name : List ℕ) (procedure : Procedure) → FramesStay v (with_procedure v name procedure) }
 {}
