@@ -12,3 +12,4 @@ pub mod Generating
 pub mod Sorting
 pub mod Choices
 pub mod Digits
+pub mod Framing

@@ -1,4 +1,4 @@
-ghost use Rattle.tks_cmd.specs.Laws.{AnswersStay, ErrorsChangeNothing};
+ghost use Rattle.tks_cmd.specs.Laws.{AnswersStay, ErrorsChangeNothing, LeavesFrames};
 ghost use Rattle.tks_text.specs.Limits.{Wider};
 ghost use Rattle.tks_text.specs.declared.limits.Limits.{Limits};
 
@@ -10,4 +10,9 @@ pub fn errors_change_nothing()
 /// Wider limits keep what a command comes to.
 pub fn wider_limits_keep_commands()
     ensures { (limits wider : Limits) → Wider limits wider → AnswersStay limits wider }
+{}
+
+/// A command on windows leaves all frames of variables but the innermost, and as many of them.
+pub fn commands_leave_frames()
+    ensures { LeavesFrames }
 {}
