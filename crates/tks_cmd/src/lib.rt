@@ -20,4 +20,4 @@ mod windows;
 
 pub use calls::command;
 pub use dispatch::begin;
-pub use laws::errors_change_nothing;
+pub use laws::{errors_change_nothing, wider_limits_keep_commands};
