@@ -20,4 +20,4 @@ mod windows;
 
 pub use calls::command;
 pub use dispatch::begin;
-pub use laws::{commands_leave_frames, errors_change_nothing};
+pub use laws::{commands_leave_frames, errors_change_nothing, wider_limits_keep_commands};

@@ -4,3 +4,4 @@ pub mod Joining
 pub mod Names
 pub mod Wider
 pub mod Stepping
+pub mod Words

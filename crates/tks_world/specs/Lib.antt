@@ -11,3 +11,4 @@ pub mod Step
 pub mod Run
 pub mod Meets
 pub mod Laws
+pub mod OneWord

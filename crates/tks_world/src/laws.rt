@@ -1,7 +1,12 @@
+ghost use Rattle.std.specs.Prelude.{◌≡◌, ℕ, List, true};
 ghost use Rattle.tks_text.specs.Limits.{Wider};
 ghost use Rattle.tks_text.specs.declared.limits.Limits.{Limits};
 ghost use Rattle.tks_app.specs.Applications.{Application};
+ghost use Rattle.tks_event.specs.declared.event.Event.{Event};
+ghost use Rattle.tks_bind.specs.Percents.{has_field, field_text, value};
+ghost use Rattle.tks_bind.specs.declared.field.Field.{Field};
 ghost use Rattle.tks_world.specs.Laws.{AcceptsStay, RunsJoin, RefusedLeaveOut};
+ghost use Rattle.tks_world.specs.OneWord.{IsOneWord, SpellsOneWord};
 
 /// What is accepted within limits is accepted within wider ones, with the same world and reply.
 pub fn wider_limits_keep_steps()
@@ -17,4 +22,11 @@ pub fn runs_join()
 /// Whichever inputs are refused between, a run leaves the world, and has the replies, of a run over those that are accepted.
 pub fn refused_inputs_leave_runs()
     ensures { (app : Application) (limits : Limits) → RefusedLeaveOut app limits }
+{}
+
+/// What is put into a bound script for a field of an event is one word of it, and the word's value is the field's: nothing in it
+/// is substituted, splits it, ends its command or begins a comment. By itself it is the script of just that word.
+pub fn values_are_words()
+    ensures word { (e : Event) (path : List ℕ) (f : Field) → has_field e.kind f ≡ true → IsOneWord (field_text e path f) (value e path f) }
+    ensures alone { (e : Event) (path : List ℕ) (f : Field) → has_field e.kind f ≡ true → SpellsOneWord (field_text e path f) (value e path f) }
 {}
