@@ -60,17 +60,17 @@ module _ {S : Type 0} where
   LevelLeaves inner = (script : Script) → NextLeaves (inner script)
 
   -- from variables that have the same frames below
-  from_those : (u v : Variables) (o : Outcome S) → FramesStay u v → Leaves v o → Leaves u o
+  pub from_those : (u v : Variables) (o : Outcome S) → FramesStay u v → Leaves v o → Leaves u o
   from_those u v (Stopped why) h k = record { leaves = tt }
   from_those u v (End code text state variables fuel) h k = record { leaves = both h k.leaves }
 
-  ends : (v : Variables) (code : ℕ) (text : List ℕ) (state : S) (w : Variables) (fuel : ℕ) → FramesStay v w → Leaves v (End code text state w fuel)
+  pub ends : (v : Variables) (code : ℕ) (text : List ℕ) (state : S) (w : Variables) (fuel : ℕ) → FramesStay v w → Leaves v (End code text state w fuel)
   ends v code text state w fuel h = record { leaves = h }
 
   end_leaves : (code : ℕ) (text : List ℕ) → NextLeaves (End code text)
   end_leaves code text state variables fuel = record { leaves = itself variables }
 
-  if_leaves : (v : Variables) (b : Bool) {o other : Outcome S} → Leaves v o → Leaves v other → Leaves v (if b then o else other)
+  pub if_leaves : (v : Variables) (b : Bool) {o other : Outcome S} → Leaves v o → Leaves v other → Leaves v (if b then o else other)
   if_leaves v true h k = h
   if_leaves v false h k = k
 
@@ -131,16 +131,16 @@ module _ {S : Type 0} where
           (step_leaves variables fuel _ (λ fuel. script_ended_leaves variables _ (at_global_leaves inner deep script state variables fuel) (scripts_leave window scripts)))
           (end_leaves 0 [] state variables fuel)
 
-      plan_leaves : (p : Plan) → NextLeaves (plan_does host inner p)
+      pub plan_leaves : (p : Plan) → NextLeaves (plan_does host inner p)
       plan_leaves (plan.Answer code text) = end_leaves code text
       plan_leaves (plan.Eval script) = global_leaves inner deep script
       plan_leaves (plan.Dispatch window scripts) = scripts_leave window scripts
 
   module _ (limits : Limits) where
-    fails_leave : (fault : ScriptFault) → NextLeaves (fails limits fault)
+    pub fails_leave : (fault : ScriptFault) → NextLeaves (fails limits fault)
     fails_leave fault state variables fuel = if_leaves variables (fits limits (fault_text fault)) (end_leaves 1 (fault_text fault) state variables fuel) (record { leaves = tt })
 
-    given_leaves : {X : Type 0} (state : S) (v : Variables) (fuel : ℕ) (r : Result X tcl.Cause) {next : X → Outcome S} → ((x : X) → Leaves v (next x)) → Leaves v (given limits r state v fuel next)
+    pub given_leaves : {X : Type 0} (state : S) (v : Variables) (fuel : ℕ) (r : Result X tcl.Cause) {next : X → Outcome S} → ((x : X) → Leaves v (next x)) → Leaves v (given limits r state v fuel next)
     given_leaves state v fuel (Ok x) n = n x
     given_leaves state v fuel (Err (Fault fault)) n = fails_leave fault state v fuel
     given_leaves state v fuel (Err OverLimit) n = record { leaves = tt }
@@ -151,7 +151,7 @@ module _ {S : Type 0} where
     given_so P state v fuel (Err (Fault fault)) next h n = fails_leave fault state v fuel
     given_so P state v fuel (Err OverLimit) next h n = record { leaves = tt }
 
-    settled_leaves : (v : Variables) {o : Outcome S} → Leaves v o → Leaves v (settled limits o)
+    pub settled_leaves : (v : Variables) {o : Outcome S} → Leaves v o → Leaves v (settled limits o)
     settled_leaves v {o = Stopped why} h = record { leaves = tt }
     settled_leaves v {o = End code text state w fuel} h =
         if_leaves v (code == 2) (ends v 0 text state w fuel h.leaves)
@@ -371,7 +371,7 @@ module _ {S : Type 0} where
         commands_leave (command words rest) last state variables fuel = after_leaves variables _ (words_leave words [] state variables fuel) (commands_leave rest)
 
     -- a script
-    script_run_leaves : (host : Meaning S) → HostLeavesFrames host → (depth : ℕ) → LevelLeaves (evaluate host limits depth)
+    pub script_run_leaves : (host : Meaning S) → HostLeavesFrames host → (depth : ℕ) → LevelLeaves (evaluate host limits depth)
     script_run_leaves host same zero script state variables fuel = record { leaves = tt }
     script_run_leaves host same (suc depth) script state variables fuel =
         commands_leave (evaluate host limits depth) (script_run_leaves host same depth) host same script [] state variables fuel

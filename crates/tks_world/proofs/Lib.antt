@@ -5,3 +5,4 @@ pub mod Names
 pub mod Wider
 pub mod Stepping
 pub mod Words
+pub mod Resting

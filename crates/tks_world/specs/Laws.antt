@@ -1,5 +1,5 @@
 -- What holds of all steps, and of all runs (this project's own rule).
-use Rattle.std.specs.Prelude.{◌≡◌, ◌++◌, List}
+use Rattle.std.specs.Prelude.{◌≡◌, ◌++◌, List, []}
 use Rattle.tks_text.specs.declared.limits.Limits.{Limits}
 use Rattle.tks_app.specs.Applications.{Application}
 use Rattle.tks_state.specs.World.{World}
@@ -22,3 +22,14 @@ RunsJoin app limits = (world : World) (first second : List Input)
 abbrev pub RefusedLeaveOut : Application → Limits → Type 0
 RefusedLeaveOut app limits = (world : World) (inputs : List Input)
     → run_of app world (accepted_among app world inputs limits) limits ≡ run_of app world inputs limits
+
+-- no frame of variables stands
+abbrev pub AtRest : World → Type 0
+AtRest world = world.variables.locals ≡ []
+
+-- so it is after an input, if it was before
+abbrev pub StepsRest : Application → Limits → Type 0
+StepsRest app limits = (world : World) (input : Input) (world' : World) (reply : Reply) → AtRest world → step app world input limits ≡ Accepts world' reply → AtRest world'
+
+abbrev pub RunsRest : Application → Limits → Type 0
+RunsRest app limits = (world : World) (inputs : List Input) → AtRest world → AtRest (run_of app world inputs limits).0

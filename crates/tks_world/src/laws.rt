@@ -1,11 +1,13 @@
 ghost use Rattle.std.specs.Prelude.{◌≡◌, ℕ, List, true};
 ghost use Rattle.tks_text.specs.Limits.{Wider};
 ghost use Rattle.tks_text.specs.declared.limits.Limits.{Limits};
+ghost use Rattle.tks_text.specs.Size.{Extent};
 ghost use Rattle.tks_app.specs.Applications.{Application};
+ghost use Rattle.tks_state.specs.World.{first_world};
 ghost use Rattle.tks_event.specs.declared.event.Event.{Event};
 ghost use Rattle.tks_bind.specs.Percents.{has_field, field_text, value};
 ghost use Rattle.tks_bind.specs.declared.field.Field.{Field};
-ghost use Rattle.tks_world.specs.Laws.{AcceptsStay, RunsJoin, RefusedLeaveOut};
+ghost use Rattle.tks_world.specs.Laws.{AcceptsStay, AtRest, RunsJoin, RefusedLeaveOut, RunsRest, StepsRest};
 ghost use Rattle.tks_world.specs.OneWord.{IsOneWord, SpellsOneWord};
 
 /// What is accepted within limits is accepted within wider ones, with the same world and reply.
@@ -29,4 +31,12 @@ pub fn refused_inputs_leave_runs()
 pub fn values_are_words()
     ensures word { (e : Event) (path : List ℕ) (f : Field) → has_field e.kind f ≡ true → IsOneWord (field_text e path f) (value e path f) }
     ensures alone { (e : Event) (path : List ℕ) (f : Field) → has_field e.kind f ≡ true → SpellsOneWord (field_text e path f) (value e path f) }
+{}
+
+/// No frame of variables stands between inputs: none does in the first world, and where none does, none does behind an input or
+/// behind a run.
+pub fn no_frame_stands_between_inputs()
+    ensures first { (grid : Extent) (names : List (List ℕ)) → AtRest (first_world grid names) }
+    ensures step { (app : Application) (limits : Limits) → StepsRest app limits }
+    ensures run { (app : Application) (limits : Limits) → RunsRest app limits }
 {}

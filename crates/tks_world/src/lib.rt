@@ -15,7 +15,10 @@ mod telling;
 mod things;
 mod turns;
 
-pub use laws::{refused_inputs_leave_runs, runs_join, values_are_words, wider_limits_keep_steps};
+pub use laws::{
+    no_frame_stands_between_inputs, refused_inputs_leave_runs, runs_join, values_are_words,
+    wider_limits_keep_steps,
+};
 pub use steps::step;
 pub use tks_input::{Input, Refused, Reply};
 pub use tks_state::World;
