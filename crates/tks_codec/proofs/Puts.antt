@@ -5,7 +5,7 @@ use Rattle.std.specs.declared.alloc.AllocError.{AllocError}
 use Rattle.std.specs.Prelude.{OnOk}
 use Rattle.std.specs.Result.{IsErr, IsErrAnd}
 use Rattle.std.proofs.lemmas.Result.{err_from_is_err_and}
-use Rattle.tks_codec.specs.Writing.{PutsSo, joined}
+use Rattle.tks_codec.specs.Writing.{PutsSo, flattened}
 
 -- nothing was added
 pub all_there : (old new : List ℕ) → new ≡ old → take (length old) new ≡ old
@@ -37,7 +37,7 @@ pub five_pieces : (old a b c d e : List ℕ) → ((((old ++ a) ++ b) ++ c) ++ d)
 five_pieces old a b c d e =
     append_assoc (((old ++ a) ++ b) ++ c) d e ∙ four_pieces old a b c (d ++ e) ∙ ap (λ (x : List ℕ). old ++ (a ++ x)) (sym (append_assoc b c (d ++ e)))
 
--- ---- pieces of which each is put by a call, as `joined` has them
+-- ---- pieces of which each is put by a call, as `flattened` has them
 
 module _ (r : Result (Unit {0}) AllocError) (old new xs : List ℕ) where
   -- the exit of a `?` returns the error as it is
@@ -52,36 +52,36 @@ module _ (r : Result (Unit {0}) AllocError) (old new xs : List ℕ) where
       refused_so (Ok done) failed puts = absurd (true≢false (sym failed))
       refused_so (Err e) failed puts = puts
 
-  pub joined_longer : (more : List ℕ) (pieces : List (List ℕ)) → IsErr r → PutsSo r old new xs → PutsSo r old new (joined (xs ∷ more ∷ pieces))
-  joined_longer more pieces failed puts = refused (joined (xs ∷ more ∷ pieces)) failed puts
+  pub flattened_longer : (more : List ℕ) (pieces : List (List ℕ)) → IsErr r → PutsSo r old new xs → PutsSo r old new (flattened (xs ∷ more ∷ pieces))
+  flattened_longer more pieces failed puts = refused (flattened (xs ∷ more ∷ pieces)) failed puts
 
-  pub joined_last : PutsSo r old new xs → PutsSo r old new (joined (xs ∷ []))
-  unfolding joined
-  joined_last puts = puts
+  pub flattened_last : PutsSo r old new xs → PutsSo r old new (flattened (xs ∷ []))
+  unfolding flattened
+  flattened_last puts = puts
 
 module _ (old mid new xs more : List ℕ) (pieces : List (List ℕ)) where
-  pub joined_then : (r : Result (Unit {0}) AllocError) → mid ≡ old ++ xs → PutsSo r mid new (joined (more ∷ pieces)) → PutsSo r old new (joined (xs ∷ more ∷ pieces))
-  unfolding joined
-  joined_then r first rest = put_behind r old xs mid (joined (more ∷ pieces)) new first rest
+  pub flattened_then : (r : Result (Unit {0}) AllocError) → mid ≡ old ++ xs → PutsSo r mid new (flattened (more ∷ pieces)) → PutsSo r old new (flattened (xs ∷ more ∷ pieces))
+  unfolding flattened
+  flattened_then r first rest = put_behind r old xs mid (flattened (more ∷ pieces)) new first rest
 
-  pub joined_then_ok : mid ≡ old ++ xs → new ≡ mid ++ joined (more ∷ pieces) → new ≡ old ++ joined (xs ∷ more ∷ pieces)
-  unfolding joined
-  joined_then_ok first rest = rest ∙ ap (λ (x : List ℕ). x ++ joined (more ∷ pieces)) first ∙ append_assoc old xs (joined (more ∷ pieces))
+  pub flattened_then_ok : mid ≡ old ++ xs → new ≡ mid ++ flattened (more ∷ pieces) → new ≡ old ++ flattened (xs ∷ more ∷ pieces)
+  unfolding flattened
+  flattened_then_ok first rest = rest ∙ ap (λ (x : List ℕ). x ++ flattened (more ∷ pieces)) first ∙ append_assoc old xs (flattened (more ∷ pieces))
 
-pub joined_last_ok : (old new xs : List ℕ) → new ≡ old ++ xs → new ≡ old ++ joined (xs ∷ [])
-unfolding joined
-joined_last_ok old new xs e = e
+pub flattened_last_ok : (old new xs : List ℕ) → new ≡ old ++ xs → new ≡ old ++ flattened (xs ∷ [])
+unfolding flattened
+flattened_last_ok old new xs e = e
 
--- what proves any sequence of `put_..(..)?` that ends in such a call, where the clause reads `joined (xs ∷ ys ∷ zs ∷ [])`
-pub ruleset joined_puts = (joined_then, joined_then_ok, joined_longer, joined_last, joined_last_ok, exit)
+-- what proves any sequence of `put_..(..)?` that ends in such a call, where the clause reads `flattened (xs ∷ ys ∷ zs ∷ [])`
+pub ruleset flattened_puts = (flattened_then, flattened_then_ok, flattened_longer, flattened_last, flattened_last_ok, exit)
 
 -- ---- by hand
 
 -- more pieces behind others
-pub joined_both : (x : List ℕ) (xs : List (List ℕ)) (y : List ℕ) (ys : List (List ℕ)) → joined ((x ∷ xs) ++ (y ∷ ys)) ≡ joined (x ∷ xs) ++ joined (y ∷ ys)
-unfolding joined
-joined_both x [] y ys = refl
-joined_both x (z ∷ xs) y ys = ap (λ (w : List ℕ). x ++ w) (joined_both z xs y ys) ∙ sym (append_assoc x (joined (z ∷ xs)) (joined (y ∷ ys)))
+pub flattened_both : (x : List ℕ) (xs : List (List ℕ)) (y : List ℕ) (ys : List (List ℕ)) → flattened ((x ∷ xs) ++ (y ∷ ys)) ≡ flattened (x ∷ xs) ++ flattened (y ∷ ys)
+unfolding flattened
+flattened_both x [] y ys = refl
+flattened_both x (z ∷ xs) y ys = ap (λ (w : List ℕ). x ++ w) (flattened_both z xs y ys) ∙ sym (append_assoc x (flattened (z ∷ xs)) (flattened (y ∷ ys)))
 
 -- what follows where all was put
 pub where_put : {P Q : Type 0} (r : Result (Unit {0}) AllocError) → (P → Q) → OnOk r P → OnOk r Q

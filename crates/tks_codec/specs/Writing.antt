@@ -8,7 +8,7 @@ PutsSo (Ok _) old new bytes = new ≡ old ++ bytes
 PutsSo (Err _) old new bytes = take (length old) new ≡ old
 
 -- Pieces one behind the other. It is no `abbrev`, so that in a goal each piece stands as it is, a number too.
-unfoldable pub joined : List (List ℕ) → List ℕ
-joined [] = []
-joined (piece ∷ []) = piece
-joined (piece ∷ more ∷ pieces) = piece ++ joined (more ∷ pieces)
+unfoldable pub flattened : List (List ℕ) → List ℕ
+flattened [] = []
+flattened (piece ∷ []) = piece
+flattened (piece ∷ more ∷ pieces) = piece ++ flattened (more ∷ pieces)

@@ -8,7 +8,7 @@ use Rattle.tks_event.specs.declared.event.Event.{Event}
 use Rattle.tks_event.specs.declared.kind.Kind.{Kind}
 use Rattle.tks_event.specs.declared.kind.Kind.TheVariants as kinds
 use Rattle.tks_codec.specs.Spelling.{Read, Spelling, number, signed, such_that, field, through, text}
-use Rattle.tks_codec.specs.Writing.{joined}
+use Rattle.tks_codec.specs.Writing.{flattened}
 use Rattle.tks_codec_events.specs.Kind.{kind}
 use Rattle.tks_codec_events.specs.Sequence.{modifiers}
 
@@ -99,7 +99,7 @@ place_parts e = (signed w64).write e.x ∷ (signed w64).write e.y ∷ (signed w6
 
 -- of all fields
 abbrev pub event_parts : Event → List (List ℕ)
-event_parts e = joined (subject_parts e) ∷ joined (moment_parts e) ∷ joined (place_parts e) ∷ text.write e.payload ∷ []
+event_parts e = flattened (subject_parts e) ∷ flattened (moment_parts e) ∷ flattened (place_parts e) ∷ text.write e.payload ∷ []
 
 -- the fields at the front of bytes, and what stands behind them
 unfoldable pub fields_at : List ℕ → Read Event

@@ -3,7 +3,7 @@ ghost use Rattle.std.specs.Prelude.{◌≡◌, ◌<◌, ◌≤◌, ◌^◌, leng
 ghost use Rattle.std.specs.List.{AllByRecursion, list_all};
 ghost use Rattle.tks_bind.specs.WellFormed.{are_bindings};
 ghost use Rattle.tks_codec.specs.Reading.{Gives};
-ghost use Rattle.tks_codec.specs.Writing.{PutsSo, joined};
+ghost use Rattle.tks_codec.specs.Writing.{PutsSo, flattened};
 ghost use Rattle.tks_codec_events.specs.Bindings as tables;
 ghost use Rattle.tks_codec_events.specs.Bindings.{binding_at, binding_parts, bindings_at, IsShortBinding};
 
@@ -36,10 +36,10 @@ fn binding_of(alloc: Global, bytes: &[u8]) -> Result<(Binding, &[u8]), Unread>
 }
 
 // Adds the parts of a binding.
-#[tactic(auto, using(tks_codec::proofs::Puts::joined_puts))]
+#[tactic(auto, using(tks_codec::proofs::Puts::flattened_puts))]
 fn put_parts(out: &mut Vec<u8>, binding: &Binding) -> Result<(), AllocError>
     requires { IsShortBinding binding.now }
-    ensures puts { PutsSo result out.old.items out.new.items (joined (binding_parts binding.now)) }
+    ensures puts { PutsSo result out.old.items out.new.items (flattened (binding_parts binding.now)) }
     ensures legal { OnOk result (tables.binding.Legal binding.now) }
 {
     put_u64(out, binding.number)?;
@@ -66,7 +66,7 @@ impl Member for Binding {
         binding_of(alloc, bytes)
     }
 
-    #[tactic(auto, unfolding(tks_codec::specs::Writing::joined))]
+    #[tactic(auto, unfolding(tks_codec::specs::Writing::flattened))]
     fn put(&self, out: &mut Vec<u8>) -> Result<(), AllocError> {
         put_parts(out, self)
     }

@@ -2,7 +2,7 @@
 ghost use Rattle.std.specs.Prelude.{◌≡◌, ◌<◌, ◌^◌, length, true, OnOk};
 ghost use Rattle.tks_text.specs.Text.{IsText};
 ghost use Rattle.tks_codec.specs.Reading.{Gives};
-ghost use Rattle.tks_codec.specs.Writing.{PutsSo, joined};
+ghost use Rattle.tks_codec.specs.Writing.{PutsSo, flattened};
 ghost use Rattle.tks_codec_events.specs.Event as events;
 ghost use Rattle.tks_codec_events.specs.Event.{is_event, is_empty, is_place, is_zero, is_somewhere, is_nowhere, goes_with, is_of_key, is_of_button, is_of_focus, is_of_name, fields_at, subject_parts, moment_parts, place_parts, event_parts, event_at, HasShortTexts, HasPlaces};
 
@@ -151,10 +151,10 @@ pub fn event_of(alloc: Global, bytes: &[u8]) -> Result<(Event, &[u8]), Unread>
 }
 
 // Adds the window, the kind and the detail of an event.
-#[tactic(auto, using(tks_codec::proofs::Puts::joined_puts))]
+#[tactic(auto, using(tks_codec::proofs::Puts::flattened_puts))]
 fn put_subject(out: &mut Vec<u8>, event: &Event) -> Result<(), AllocError>
     requires { length event.now.detail < 2 ^ 32 }
-    ensures puts { PutsSo result out.old.items out.new.items (joined (subject_parts event.now)) }
+    ensures puts { PutsSo result out.old.items out.new.items (flattened (subject_parts event.now)) }
     ensures fits { OnOk result ((event.now.window < 2 ^ 64) × IsText event.now.detail) }
 {
     put_u64(out, event.window)?;
@@ -163,9 +163,9 @@ fn put_subject(out: &mut Vec<u8>, event: &Event) -> Result<(), AllocError>
 }
 
 // Adds the state and the time of an event.
-#[tactic(auto, using(tks_codec::proofs::Puts::joined_puts))]
+#[tactic(auto, using(tks_codec::proofs::Puts::flattened_puts))]
 fn put_moment(out: &mut Vec<u8>, event: &Event) -> Result<(), AllocError>
-    ensures puts { PutsSo result out.old.items out.new.items (joined (moment_parts event.now)) }
+    ensures puts { PutsSo result out.old.items out.new.items (flattened (moment_parts event.now)) }
     ensures fits { OnOk result ((event.now.state < 8_192) × (event.now.time < 2 ^ 64)) }
 {
     put_u16(out, event.state.bits())?;
@@ -173,9 +173,9 @@ fn put_moment(out: &mut Vec<u8>, event: &Event) -> Result<(), AllocError>
 }
 
 // Adds the places of an event.
-#[tactic(auto, using(tks_codec::proofs::Puts::joined_puts))]
+#[tactic(auto, using(tks_codec::proofs::Puts::flattened_puts))]
 fn put_places(out: &mut Vec<u8>, event: &Event) -> Result<(), AllocError>
-    ensures puts { PutsSo result out.old.items out.new.items (joined (place_parts event.now)) }
+    ensures puts { PutsSo result out.old.items out.new.items (flattened (place_parts event.now)) }
     ensures fits { OnOk result (HasPlaces event.now) }
 {
     put_i64(out, event.x)?;
@@ -185,10 +185,10 @@ fn put_places(out: &mut Vec<u8>, event: &Event) -> Result<(), AllocError>
 }
 
 // Adds the parts of an event.
-#[tactic(auto, using(tks_codec::proofs::Puts::joined_puts))]
+#[tactic(auto, using(tks_codec::proofs::Puts::flattened_puts))]
 fn put_parts(out: &mut Vec<u8>, event: &Event) -> Result<(), AllocError>
     requires { HasShortTexts event.now }
-    ensures puts { PutsSo result out.old.items out.new.items (joined (event_parts event.now)) }
+    ensures puts { PutsSo result out.old.items out.new.items (flattened (event_parts event.now)) }
     ensures legal { OnOk result (events.fields.Legal event.now) }
 {
     put_subject(out, event)?;
@@ -198,7 +198,7 @@ fn put_parts(out: &mut Vec<u8>, event: &Event) -> Result<(), AllocError>
 }
 
 /// Adds an event. It is read back where it is one that there is (`is_event`).
-#[tactic(auto, unfolding(tks_codec::specs::Writing::joined))]
+#[tactic(auto, unfolding(tks_codec::specs::Writing::flattened))]
 pub fn put_event(out: &mut Vec<u8>, event: &Event) -> Result<(), AllocError>
     requires { HasShortTexts event.now }
     ensures puts { PutsSo result out.old.items out.new.items (events.event.write event.now) }

@@ -3,7 +3,7 @@ ghost use Rattle.std.specs.Prelude.{◌≡◌, ◌<◌, ◌^◌, length, true, S
 ghost use Rattle.std.specs.List.{AllByRecursion};
 ghost use Rattle.tks_codec.specs.Spelling.{is_behind};
 ghost use Rattle.tks_codec.specs.Reading.{Gives};
-ghost use Rattle.tks_codec.specs.Writing.{PutsSo, joined};
+ghost use Rattle.tks_codec.specs.Writing.{PutsSo, flattened};
 ghost use Rattle.tks_codec_events.specs.Memories as kinds;
 ghost use Rattle.tks_codec_events.specs.Memories.{memory_at, memory_parts, memories_at, rise_behind, are_memories, IsShortMemory};
 
@@ -25,10 +25,10 @@ fn memory_of(alloc: Global, bytes: &[u8]) -> Result<(Memory, &[u8]), Unread>
 }
 
 // Adds the parts of a memory.
-#[tactic(auto, using(tks_codec::proofs::Puts::joined_puts))]
+#[tactic(auto, using(tks_codec::proofs::Puts::flattened_puts))]
 fn put_parts(out: &mut Vec<u8>, memory: &Memory) -> Result<(), AllocError>
     requires { IsShortMemory memory.now }
-    ensures puts { PutsSo result out.old.items out.new.items (joined (memory_parts memory.now)) }
+    ensures puts { PutsSo result out.old.items out.new.items (flattened (memory_parts memory.now)) }
     ensures legal { OnOk result (kinds.memory.Legal memory.now) }
 {
     put_text(out, &memory.name)?;
@@ -53,7 +53,7 @@ impl Member for Memory {
         memory_of(alloc, bytes)
     }
 
-    #[tactic(auto, unfolding(tks_codec::specs::Writing::joined))]
+    #[tactic(auto, unfolding(tks_codec::specs::Writing::flattened))]
     fn put(&self, out: &mut Vec<u8>) -> Result<(), AllocError> {
         put_parts(out, self)
     }

@@ -2,7 +2,7 @@
 ghost use Rattle.std.specs.Prelude.{◌<◌, ◌^◌, length, OnOk};
 ghost use Rattle.std.specs.List.{AllByRecursion};
 ghost use Rattle.tks_codec.specs.Reading.{Gives};
-ghost use Rattle.tks_codec.specs.Writing.{PutsSo, joined};
+ghost use Rattle.tks_codec.specs.Writing.{PutsSo, flattened};
 ghost use Rattle.tks_codec_events.specs.Sequence as sequences;
 ghost use Rattle.tks_codec_events.specs.Sequence.{pattern, pattern_at, pattern_parts, sequence_at, HasShortDetail};
 
@@ -48,10 +48,10 @@ pub fn sequence_of(alloc: Global, bytes: &[u8]) -> Result<(Sequence, &[u8]), Unr
 }
 
 // Adds the parts of a pattern.
-#[tactic(auto, using(tks_codec::proofs::Puts::joined_puts, crate::proofs::Sequencing::pattern_legal))]
+#[tactic(auto, using(tks_codec::proofs::Puts::flattened_puts, crate::proofs::Sequencing::pattern_legal))]
 fn put_parts(out: &mut Vec<u8>, pattern: &Pattern) -> Result<(), AllocError>
     requires { length pattern.now.detail < 2 ^ 32 }
-    ensures puts { PutsSo result out.old.items out.new.items (joined (pattern_parts pattern.now)) }
+    ensures puts { PutsSo result out.old.items out.new.items (flattened (pattern_parts pattern.now)) }
     ensures legal { OnOk result (sequences.pattern.Legal pattern.now) }
 {
     put_flag(out, pattern.near)?;
@@ -78,7 +78,7 @@ impl Member for Pattern {
         pattern_of(alloc, bytes)
     }
 
-    #[tactic(auto, unfolding(tks_codec::specs::Writing::joined))]
+    #[tactic(auto, unfolding(tks_codec::specs::Writing::flattened))]
     fn put(&self, out: &mut Vec<u8>) -> Result<(), AllocError> {
         put_parts(out, self)
     }

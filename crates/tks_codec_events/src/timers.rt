@@ -2,7 +2,7 @@
 ghost use Rattle.std.specs.Prelude.{◌≡◌, ◌<◌, ◌≤◌, ◌^◌, length, true, None, IfOk, OnOk};
 ghost use Rattle.std.specs.List.{AllByRecursion};
 ghost use Rattle.tks_codec.specs.Reading.{Gives};
-ghost use Rattle.tks_codec.specs.Writing.{PutsSo, joined};
+ghost use Rattle.tks_codec.specs.Writing.{PutsSo, flattened};
 ghost use Rattle.tks_codec_events.specs.Timers as waits;
 ghost use Rattle.tks_codec_events.specs.Timers.{timer_at, timer_parts, idle_at, idle_parts, waiting, waiting_at, IsShortTimer, IsShortIdle};
 ghost use Rattle.tks_timer.specs.WellFormed.{rise_below, is_apart, are_apart, are_due, are_waiting};
@@ -40,10 +40,10 @@ fn idle_of(alloc: Global, bytes: &[u8]) -> Result<(Idle, &[u8]), Unread>
 }
 
 // Adds the parts of a timer.
-#[tactic(auto, using(tks_codec::proofs::Puts::joined_puts))]
+#[tactic(auto, using(tks_codec::proofs::Puts::flattened_puts))]
 fn put_timer_parts(out: &mut Vec<u8>, timer: &Timer) -> Result<(), AllocError>
     requires { IsShortTimer timer.now }
-    ensures puts { PutsSo result out.old.items out.new.items (joined (timer_parts timer.now)) }
+    ensures puts { PutsSo result out.old.items out.new.items (flattened (timer_parts timer.now)) }
     ensures legal { OnOk result (waits.timer.Legal timer.now) }
 {
     put_u64(out, timer.id)?;
@@ -52,10 +52,10 @@ fn put_timer_parts(out: &mut Vec<u8>, timer: &Timer) -> Result<(), AllocError>
 }
 
 // Adds the parts of an idle script.
-#[tactic(auto, using(tks_codec::proofs::Puts::joined_puts))]
+#[tactic(auto, using(tks_codec::proofs::Puts::flattened_puts))]
 fn put_idle_parts(out: &mut Vec<u8>, idle: &Idle) -> Result<(), AllocError>
     requires { IsShortIdle idle.now }
-    ensures puts { PutsSo result out.old.items out.new.items (joined (idle_parts idle.now)) }
+    ensures puts { PutsSo result out.old.items out.new.items (flattened (idle_parts idle.now)) }
     ensures legal { OnOk result (waits.idle.Legal idle.now) }
 {
     put_u64(out, idle.id)?;
@@ -80,7 +80,7 @@ impl Member for Timer {
         timer_of(alloc, bytes)
     }
 
-    #[tactic(auto, unfolding(tks_codec::specs::Writing::joined))]
+    #[tactic(auto, unfolding(tks_codec::specs::Writing::flattened))]
     fn put(&self, out: &mut Vec<u8>) -> Result<(), AllocError> {
         put_timer_parts(out, self)
     }
@@ -104,7 +104,7 @@ impl Member for Idle {
         idle_of(alloc, bytes)
     }
 
-    #[tactic(auto, unfolding(tks_codec::specs::Writing::joined))]
+    #[tactic(auto, unfolding(tks_codec::specs::Writing::flattened))]
     fn put(&self, out: &mut Vec<u8>) -> Result<(), AllocError> {
         put_idle_parts(out, self)
     }

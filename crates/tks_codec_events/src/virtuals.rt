@@ -2,7 +2,7 @@
 ghost use Rattle.std.specs.Prelude.{◌≡◌, ◌<◌, ◌^◌, length, true, None, IfOk, OnOk};
 ghost use Rattle.std.specs.List.{AllByRecursion};
 ghost use Rattle.tks_codec.specs.Reading.{Gives};
-ghost use Rattle.tks_codec.specs.Writing.{PutsSo, joined};
+ghost use Rattle.tks_codec.specs.Writing.{PutsSo, flattened};
 ghost use Rattle.tks_bind.specs.WellFormed.{is_some, are_virtuals};
 ghost use Rattle.tks_codec_events.specs.Virtuals as tables;
 ghost use Rattle.tks_codec_events.specs.Virtuals.{are_physical, is_virtual_event, named_parts, virtual_event_at, virtuals_at, IsShortVirtual};
@@ -76,10 +76,10 @@ fn virtual_event_of(alloc: Global, bytes: &[u8]) -> Result<(VirtualEvent, &[u8])
 }
 
 // Adds the parts of a virtual event.
-#[tactic(auto, using(tks_codec::proofs::Puts::joined_puts))]
+#[tactic(auto, using(tks_codec::proofs::Puts::flattened_puts))]
 fn put_parts(out: &mut Vec<u8>, event: &VirtualEvent) -> Result<(), AllocError>
     requires { IsShortVirtual event.now }
-    ensures puts { PutsSo result out.old.items out.new.items (joined (named_parts event.now)) }
+    ensures puts { PutsSo result out.old.items out.new.items (flattened (named_parts event.now)) }
     ensures legal { OnOk result (tables.named.Legal event.now) }
 {
     put_text(out, &event.name)?;
@@ -109,7 +109,7 @@ impl Member for VirtualEvent {
         virtual_event_of(alloc, bytes)
     }
 
-    #[tactic(auto, unfolding(tks_codec::specs::Writing::joined))]
+    #[tactic(auto, unfolding(tks_codec::specs::Writing::flattened))]
     fn put(&self, out: &mut Vec<u8>) -> Result<(), AllocError> {
         put_parts(out, self)
     }

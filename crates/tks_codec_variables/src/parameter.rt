@@ -3,7 +3,7 @@ ghost use Rattle.std.specs.Prelude.{◌≡◌, ◌↔◌, ◌<◌, ◌^◌, leng
 ghost use Rattle.std.specs.List.{AllByRecursion};
 ghost use Rattle.tks_codec.specs.Spelling.{text, option, list, members_at, members};
 ghost use Rattle.tks_codec.specs.Reading.{Gives};
-ghost use Rattle.tks_codec.specs.Writing.{PutsSo, joined};
+ghost use Rattle.tks_codec.specs.Writing.{PutsSo, flattened};
 ghost use Rattle.tks_codec_variables.specs.Procedures as kinds;
 ghost use Rattle.tks_codec_variables.specs.Procedures.{parameter, parameter_at, parameter_parts, HasShortDefault, IsShortParameter};
 
@@ -82,10 +82,10 @@ fn put_default(out: &mut Vec<u8>, default: &Option<Txt>) -> Result<(), AllocErro
 }
 
 // Adds the parts of a parameter.
-#[tactic(auto, using(tks_codec::proofs::Puts::joined_puts))]
+#[tactic(auto, using(tks_codec::proofs::Puts::flattened_puts))]
 fn put_parts(out: &mut Vec<u8>, parameter: &Parameter) -> Result<(), AllocError>
     requires { IsShortParameter parameter.now }
-    ensures puts { PutsSo result out.old.items out.new.items (joined (parameter_parts parameter.now)) }
+    ensures puts { PutsSo result out.old.items out.new.items (flattened (parameter_parts parameter.now)) }
     ensures legal { OnOk result (kinds.parameter.Legal parameter.now) }
 {
     put_text(out, &parameter.name)?;
@@ -93,7 +93,7 @@ fn put_parts(out: &mut Vec<u8>, parameter: &Parameter) -> Result<(), AllocError>
 }
 
 // Adds a parameter.
-#[tactic(auto, unfolding(tks_codec::specs::Writing::joined))]
+#[tactic(auto, unfolding(tks_codec::specs::Writing::flattened))]
 fn put_parameter(out: &mut Vec<u8>, parameter: &Parameter) -> Result<(), AllocError>
     requires { IsShortParameter parameter.now }
     ensures puts { PutsSo result out.old.items out.new.items (kinds.parameter.write parameter.now) }

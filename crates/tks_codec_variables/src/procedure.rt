@@ -1,6 +1,6 @@
 //! Procedures.
 ghost use Rattle.std.specs.Prelude.{◌≡◌, OnOk};
-ghost use Rattle.tks_codec.specs.Writing.{PutsSo, joined};
+ghost use Rattle.tks_codec.specs.Writing.{PutsSo, flattened};
 ghost use Rattle.tks_codec_variables.specs.Procedures as kinds;
 ghost use Rattle.tks_codec_variables.specs.Procedures.{procedure_parts, IsShortProcedure};
 
@@ -13,10 +13,10 @@ use tks_codec::writing::put_text;
 use tks_vars::Procedure;
 
 // Adds the parts of a procedure.
-#[tactic(auto, using(tks_codec::proofs::Puts::joined_puts))]
+#[tactic(auto, using(tks_codec::proofs::Puts::flattened_puts))]
 fn put_parts(out: &mut Vec<u8>, procedure: &Procedure) -> Result<(), AllocError>
     requires { IsShortProcedure procedure.now }
-    ensures puts { PutsSo result out.old.items out.new.items (joined (procedure_parts procedure.now)) }
+    ensures puts { PutsSo result out.old.items out.new.items (flattened (procedure_parts procedure.now)) }
     ensures legal { OnOk result (kinds.procedure.Legal procedure.now) }
 {
     put_parameters(out, procedure.params.as_slice())?;
@@ -50,7 +50,7 @@ impl Named for Procedure {
         Ok((Procedure { params, body }, rest))
     }
 
-    #[tactic(auto, unfolding(tks_codec::specs::Writing::joined))]
+    #[tactic(auto, unfolding(tks_codec::specs::Writing::flattened))]
     fn put(&self, out: &mut Vec<u8>) -> Result<(), AllocError> {
         put_parts(out, self)
     }

@@ -1,7 +1,7 @@
 //! Variables and procedures.
 ghost use Rattle.std.specs.Prelude.{◌≡◌, ◌↔◌, true, OnOk};
 ghost use Rattle.tks_codec.specs.Reading.{Gives};
-ghost use Rattle.tks_codec.specs.Writing.{PutsSo, joined};
+ghost use Rattle.tks_codec.specs.Writing.{PutsSo, flattened};
 ghost use Rattle.tks_codec_variables.specs.Variables as kinds;
 ghost use Rattle.tks_codec_variables.specs.Variables.{variables_at, variables_parts, AreShort, AreSound};
 
@@ -21,10 +21,10 @@ pub fn variables_of(alloc: Global, bytes: &[u8]) -> Result<(Vars, &[u8]), Unread
 }
 
 // Adds the parts of variables.
-#[tactic(auto, using(tks_codec::proofs::Puts::joined_puts))]
+#[tactic(auto, using(tks_codec::proofs::Puts::flattened_puts))]
 fn put_parts(out: &mut Vec<u8>, variables: &Vars) -> Result<(), AllocError>
     requires { AreShort variables.now }
-    ensures puts { PutsSo result out.old.items out.new.items (joined (variables_parts variables.now)) }
+    ensures puts { PutsSo result out.old.items out.new.items (flattened (variables_parts variables.now)) }
     ensures legal { OnOk result (AreSound variables.now → kinds.variables.Legal variables.now) }
 {
     put_table(out, variables.globals())?;
@@ -33,7 +33,7 @@ fn put_parts(out: &mut Vec<u8>, variables: &Vars) -> Result<(), AllocError>
 
 /// Adds the globals and the procedures. They are read back where no frame was begun and names are texts
 /// (`has_spelling`).
-#[tactic(auto, unfolding(tks_codec::specs::Writing::joined))]
+#[tactic(auto, unfolding(tks_codec::specs::Writing::flattened))]
 pub fn put_variables(out: &mut Vec<u8>, variables: &Vars) -> Result<(), AllocError>
     requires { AreShort variables.now }
     ensures puts { PutsSo result out.old.items out.new.items (kinds.variables.write variables.now) }

@@ -3,7 +3,7 @@ ghost use Rattle.std.specs.Prelude.{◌<◌, ◌^◌, length, None, OnOk};
 ghost use Rattle.std.specs.List.{AllByRecursion};
 ghost use Rattle.tks_codec.specs.Spelling.{list_at, list, members_at, members};
 ghost use Rattle.tks_codec.specs.Reading.{Gives};
-ghost use Rattle.tks_codec.specs.Writing.{PutsSo, joined};
+ghost use Rattle.tks_codec.specs.Writing.{PutsSo, flattened};
 ghost use Rattle.tks_codec_windows.specs.Lines as kinds;
 ghost use Rattle.tks_codec_windows.specs.Lines.{mark, mark_at, mark_parts, IsShortMark};
 
@@ -56,10 +56,10 @@ pub fn marks_of(alloc: Global, bytes: &[u8]) -> Result<(Seq<Mark>, &[u8]), Unrea
 }
 
 // Adds the parts of a mark.
-#[tactic(auto, using(tks_codec::proofs::Puts::joined_puts))]
+#[tactic(auto, using(tks_codec::proofs::Puts::flattened_puts))]
 fn put_parts(out: &mut Vec<u8>, mark: &Mark) -> Result<(), AllocError>
     requires { IsShortMark mark.now }
-    ensures puts { PutsSo result out.old.items out.new.items (joined (mark_parts mark.now)) }
+    ensures puts { PutsSo result out.old.items out.new.items (flattened (mark_parts mark.now)) }
     ensures legal { OnOk result (kinds.mark.Legal mark.now) }
 {
     put_text(out, &mark.name)?;
@@ -68,7 +68,7 @@ fn put_parts(out: &mut Vec<u8>, mark: &Mark) -> Result<(), AllocError>
 }
 
 // Adds a mark.
-#[tactic(auto, unfolding(tks_codec::specs::Writing::joined))]
+#[tactic(auto, unfolding(tks_codec::specs::Writing::flattened))]
 fn put_mark(out: &mut Vec<u8>, mark: &Mark) -> Result<(), AllocError>
     requires { IsShortMark mark.now }
     ensures puts { PutsSo result out.old.items out.new.items (kinds.mark.write mark.now) }

@@ -1,7 +1,7 @@
 //! How a window is packed.
 ghost use Rattle.std.specs.Prelude.{◌≡◌, ◌≤◌, ◌↔◌, true, OnOk};
 ghost use Rattle.tks_codec.specs.Reading.{Gives};
-ghost use Rattle.tks_codec.specs.Writing.{PutsSo, joined};
+ghost use Rattle.tks_codec.specs.Writing.{PutsSo, flattened};
 ghost use Rattle.tks_codec_windows.specs.Packing as kinds;
 ghost use Rattle.tks_codec_windows.specs.Packing.{settings_at, settings_parts, HasPaddings};
 
@@ -96,9 +96,9 @@ pub fn has_paddings(settings: &Settings) -> bool
 }
 
 // Adds the parts of settings.
-#[tactic(auto, using(tks_codec::proofs::Puts::joined_puts))]
+#[tactic(auto, using(tks_codec::proofs::Puts::flattened_puts))]
 fn put_parts(out: &mut Vec<u8>, settings: &Settings) -> Result<(), AllocError>
-    ensures { PutsSo result out.old.items out.new.items (joined (settings_parts settings.now)) }
+    ensures { PutsSo result out.old.items out.new.items (flattened (settings_parts settings.now)) }
 {
     put_u8(out, settings.side.number())?;
     put_u8(out, settings.fill.number())?;
@@ -111,7 +111,7 @@ fn put_parts(out: &mut Vec<u8>, settings: &Settings) -> Result<(), AllocError>
 }
 
 /// Adds settings.
-#[tactic(auto, unfolding(tks_codec::specs::Writing::joined), using(crate::proofs::OfPacking::settings_legal))]
+#[tactic(auto, unfolding(tks_codec::specs::Writing::flattened), using(crate::proofs::OfPacking::settings_legal))]
 pub fn put_settings(out: &mut Vec<u8>, settings: &Settings) -> Result<(), AllocError>
     requires { HasPaddings settings.now }
     ensures puts { PutsSo result out.old.items out.new.items (kinds.settings.write settings.now) }

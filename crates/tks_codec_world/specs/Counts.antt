@@ -3,7 +3,7 @@
 use Rattle.std.specs.Prelude.{ℕ, ◌^◌, Bool, ◌&&◌, nat_le, List, [], ◌∷◌}
 use Rattle.std.specs.Int.{w64}
 use Rattle.tks_codec.specs.Spelling.{Read, Spelling, number, such_that, field, through}
-use Rattle.tks_codec.specs.Writing.{joined}
+use Rattle.tks_codec.specs.Writing.{flattened}
 use Rattle.tks_codec_world.specs.declared.counts.Counts.{Counts}
 
 abbrev pub is_count : ℕ → Bool
@@ -25,7 +25,7 @@ abbrev pub next_parts : Counts → List (List ℕ)
 next_parts x = count.write x.window ∷ count.write x.binding ∷ count.write x.timer ∷ []
 
 abbrev pub counts_parts : Counts → List (List ℕ)
-counts_parts x = count.write x.accepted ∷ count.write x.clock ∷ joined (next_parts x) ∷ []
+counts_parts x = count.write x.accepted ∷ count.write x.clock ∷ flattened (next_parts x) ∷ []
 
 -- whether a world may have them
 abbrev pub are_counts : Counts → Bool

@@ -4,7 +4,7 @@ use Rattle.std.specs.Int.{w64}
 use Rattle.tks_tree.specs.Windows as tree
 use Rattle.tks_pack.specs.declared.settings.Settings.{Settings}
 use Rattle.tks_codec.specs.Spelling.{Read, Spelling, number, text, flag, field, through}
-use Rattle.tks_codec.specs.Writing.{joined}
+use Rattle.tks_codec.specs.Writing.{flattened}
 use Rattle.tks_codec_windows.specs.Texts.{tags, windows}
 use Rattle.tks_codec_windows.specs.Options.{options}
 use Rattle.tks_codec_windows.specs.Packing.{packing}
@@ -38,7 +38,7 @@ rest_parts k p =
     ∷ (content (options_of k.widget)).write k.widget ∷ []
 
 abbrev pub line_parts : tree.Window → Kept → Option Settings → List (List ℕ)
-line_parts w k p = (number w64).write w.number ∷ text.write w.path ∷ class.write w.class ∷ (options w.class).write (options_of k.widget) ∷ joined (rest_parts k p) ∷ []
+line_parts w k p = (number w64).write w.number ∷ text.write w.path ∷ class.write w.class ∷ (options w.class).write (options_of k.widget) ∷ flattened (rest_parts k p) ∷ []
 
 -- what stands behind the options has a spelling
 pub record RestIsLegal (k : Kept) (p : Option Settings) : Type 0 where

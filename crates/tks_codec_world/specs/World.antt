@@ -2,7 +2,7 @@
 use Rattle.std.specs.Prelude.{ℕ, List, [], ◌∷◌}
 use Rattle.tks_text.specs.Size.{Extent}
 use Rattle.tks_codec.specs.Spelling.{Read, Spelling, such_that, field, through}
-use Rattle.tks_codec.specs.Writing.{joined}
+use Rattle.tks_codec.specs.Writing.{flattened}
 use Rattle.tks_codec_events.specs.Queue.{queue}
 use Rattle.tks_codec_events.specs.Timers.{waiting}
 use Rattle.tks_codec_variables.specs.Variables.{variables}
@@ -66,7 +66,7 @@ waits_parts w = queue.write w.queue ∷ (waiting w.timers.next).write w.timers �
 abbrev pub fields_parts : World → List (List ℕ)
 fields_parts w =
     counts.write (counts_of w) ∷ (windows w.tree.next).write (windows_of w) ∷ variables.write w.variables ∷ (happenings w.bindings.next).write (happenings_of w)
-    ∷ joined (waits_parts w) ∷ []
+    ∷ flattened (waits_parts w) ∷ []
 
 -- the last three of them have spellings
 pub record WaitsAreLegal (w : World) : Type 0 where

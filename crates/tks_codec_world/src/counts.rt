@@ -1,7 +1,7 @@
 //! The numbers in front of a world.
 ghost use Rattle.std.specs.Prelude.{◌≡◌};
 ghost use Rattle.tks_codec.specs.Reading.{Gives};
-ghost use Rattle.tks_codec.specs.Writing.{PutsSo, joined};
+ghost use Rattle.tks_codec.specs.Writing.{PutsSo, flattened};
 ghost use Rattle.tks_codec_world.specs.Counts as kinds;
 ghost use Rattle.tks_codec_world.specs.Counts.{count, counts_at, counts_parts, is_count};
 
@@ -80,9 +80,9 @@ fn put_count(out: &mut Vec<u8>, number: u64) -> Result<(), AllocError>
 }
 
 // Adds the numbers of the next window, binding and timer.
-#[tactic(auto, using(tks_codec::proofs::Puts::joined_puts))]
+#[tactic(auto, using(tks_codec::proofs::Puts::flattened_puts))]
 fn put_next(out: &mut Vec<u8>, counts: &Counts) -> Result<(), AllocError>
-    ensures { PutsSo result out.old.items out.new.items (joined (kinds.next_parts counts.now)) }
+    ensures { PutsSo result out.old.items out.new.items (flattened (kinds.next_parts counts.now)) }
 {
     put_count(out, counts.window)?;
     put_count(out, counts.binding)?;
@@ -90,9 +90,9 @@ fn put_next(out: &mut Vec<u8>, counts: &Counts) -> Result<(), AllocError>
 }
 
 // Adds the parts.
-#[tactic(auto, using(tks_codec::proofs::Puts::joined_puts))]
+#[tactic(auto, using(tks_codec::proofs::Puts::flattened_puts))]
 fn put_parts(out: &mut Vec<u8>, counts: &Counts) -> Result<(), AllocError>
-    ensures { PutsSo result out.old.items out.new.items (joined (counts_parts counts.now)) }
+    ensures { PutsSo result out.old.items out.new.items (flattened (counts_parts counts.now)) }
 {
     put_count(out, counts.accepted)?;
     put_count(out, counts.clock)?;
@@ -100,7 +100,7 @@ fn put_parts(out: &mut Vec<u8>, counts: &Counts) -> Result<(), AllocError>
 }
 
 /// Adds the numbers. They are read back where a world may have them (`are_counts`).
-#[tactic(auto, unfolding(tks_codec::specs::Writing::joined))]
+#[tactic(auto, unfolding(tks_codec::specs::Writing::flattened))]
 pub fn put_counts(out: &mut Vec<u8>, counts: &Counts) -> Result<(), AllocError>
     ensures { PutsSo result out.old.items out.new.items (kinds.counts.write counts.now) }
 {

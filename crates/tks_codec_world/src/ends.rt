@@ -1,7 +1,7 @@
 //! What stands at the end of a world.
 ghost use Rattle.std.specs.Prelude.{◌≡◌, ◌↔◌, true, option_map, OnOk};
 ghost use Rattle.tks_codec.specs.Reading.{Gives};
-ghost use Rattle.tks_codec.specs.Writing.{PutsSo, joined};
+ghost use Rattle.tks_codec.specs.Writing.{PutsSo, flattened};
 ghost use Rattle.tks_codec_events.specs.Memories.{are_memories};
 ghost use Rattle.tks_codec_world.specs.Ends as kinds;
 ghost use Rattle.tks_codec_world.specs.Ends.{ends_at, ends_parts, ends_seen, these_rules};
@@ -104,10 +104,10 @@ fn put_press(out: &mut Vec<u8>, pressed: Option<WindowId>) -> Result<(), AllocEr
 }
 
 // Adds the parts.
-#[tactic(auto, using(tks_codec::proofs::Puts::joined_puts))]
+#[tactic(auto, using(tks_codec::proofs::Puts::flattened_puts))]
 fn put_parts(out: &mut Vec<u8>, world: &World) -> Result<(), AllocError>
     requires { EndsFit (ends_of world.now) }
-    ensures puts { PutsSo result out.old.items out.new.items (joined (ends_parts (ends_of world.now))) }
+    ensures puts { PutsSo result out.old.items out.new.items (flattened (ends_parts (ends_of world.now))) }
     ensures legal { OnOk result (kinds.ends.Legal (ends_of world.now)) }
 {
     put_u64(out, world.focus().number())?;
@@ -119,7 +119,7 @@ fn put_parts(out: &mut Vec<u8>, world: &World) -> Result<(), AllocError>
 }
 
 /// Adds what stands at the end of a world.
-#[tactic(auto, unfolding(tks_codec::specs::Writing::joined))]
+#[tactic(auto, unfolding(tks_codec::specs::Writing::flattened))]
 pub fn put_ends(out: &mut Vec<u8>, world: &World) -> Result<(), AllocError>
     requires { EndsFit (ends_of world.now) }
     ensures puts { PutsSo result out.old.items out.new.items (kinds.ends.write (ends_of world.now)) }

@@ -1,7 +1,7 @@
 //! What scripts bound to events rest on.
 ghost use Rattle.std.specs.Prelude.{◌≡◌, ◌↔◌, ◌≤◌, ◌^◌, true, OnOk};
 ghost use Rattle.tks_codec.specs.Reading.{Gives};
-ghost use Rattle.tks_codec.specs.Writing.{PutsSo, joined};
+ghost use Rattle.tks_codec.specs.Writing.{PutsSo, flattened};
 ghost use Rattle.tks_codec_world.specs.Happenings as kinds;
 ghost use Rattle.tks_codec_world.specs.Happenings.{happenings_at, happenings_parts, happenings_seen};
 ghost use Rattle.tks_codec_world.specs.Storable.{BindingsFit, VirtualsFit, HistoryFits, HappeningsFit};
@@ -42,10 +42,10 @@ pub fn happenings_of(alloc: Global, next: u64, bytes: &[u8]) -> Result<(Happenin
 }
 
 // Adds the parts.
-#[tactic(auto, using(tks_codec::proofs::Puts::joined_puts))]
+#[tactic(auto, using(tks_codec::proofs::Puts::flattened_puts))]
 fn put_parts(out: &mut Vec<u8>, world: &World) -> Result<(), AllocError>
     requires { HappeningsFit (happenings_of world.now) }
-    ensures puts { PutsSo result out.old.items out.new.items (joined (happenings_parts (happenings_of world.now))) }
+    ensures puts { PutsSo result out.old.items out.new.items (flattened (happenings_parts (happenings_of world.now))) }
     ensures legal { OnOk result ((kinds.happenings world.now.bindings.next).Legal (happenings_of world.now)) }
 {
     put_bindings(out, world.bindings())?;
@@ -54,7 +54,7 @@ fn put_parts(out: &mut Vec<u8>, world: &World) -> Result<(), AllocError>
 }
 
 /// Adds what a world's scripts bound to events rest on, but not the number of the next binding.
-#[tactic(auto, unfolding(tks_codec::specs::Writing::joined))]
+#[tactic(auto, unfolding(tks_codec::specs::Writing::flattened))]
 pub fn put_happenings(out: &mut Vec<u8>, world: &World) -> Result<(), AllocError>
     requires { HappeningsFit (happenings_of world.now) }
     ensures puts { PutsSo result out.old.items out.new.items ((kinds.happenings world.now.bindings.next).write (happenings_of world.now)) }

@@ -2,7 +2,7 @@
 ghost use Rattle.std.specs.Prelude.{◌≡◌, ◌++◌, ◌∷◌, [], None, OnOk};
 ghost use Rattle.tks_codec.specs.Spelling.{list, members_at};
 ghost use Rattle.tks_codec.specs.Reading.{Gives};
-ghost use Rattle.tks_codec.specs.Writing.{PutsSo, joined};
+ghost use Rattle.tks_codec.specs.Writing.{PutsSo, flattened};
 ghost use Rattle.tks_codec_world.specs.Line as kinds;
 ghost use Rattle.tks_codec_world.specs.Line.{line_at, line_parts, rest_parts, RestIsLegal, line_with};
 ghost use Rattle.tks_codec_windows.specs.Packing.{IsPacking};
@@ -98,7 +98,7 @@ pub fn lines_of(alloc: Global, bytes: &[u8]) -> Result<(Vec<Line>, &[u8]), Unrea
 }
 
 // Adds what stands behind the options of a window.
-#[tactic(auto, using(tks_codec::proofs::Puts::joined_puts))]
+#[tactic(auto, using(tks_codec::proofs::Puts::flattened_puts))]
 fn put_rest(
     alloc: Global,
     out: &mut Vec<u8>,
@@ -107,7 +107,7 @@ fn put_rest(
 ) -> Result<(), AllocError>
     requires short { KeptFits kept.now }
     requires packing { IsPacking packing }
-    ensures puts { PutsSo result out.old.items out.new.items (joined (rest_parts kept.now packing)) }
+    ensures puts { PutsSo result out.old.items out.new.items (flattened (rest_parts kept.now packing)) }
     ensures legal { OnOk result (RestIsLegal kept.now packing) }
 {
     put_tags(out, kept.tags.as_ref().map(Seq::as_slice))?;
@@ -118,7 +118,7 @@ fn put_rest(
 }
 
 // Adds the parts of a window.
-#[tactic(auto, using(tks_codec::proofs::Puts::joined_puts))]
+#[tactic(auto, using(tks_codec::proofs::Puts::flattened_puts))]
 fn put_parts(
     alloc: Global,
     out: &mut Vec<u8>,
@@ -130,7 +130,7 @@ fn put_parts(
     requires short { KeptFits kept.now }
     requires class { class_of kept.now.widget ≡ (window_seen window.now).class }
     requires packing { IsPacking packing }
-    ensures puts { PutsSo result out.old.items out.new.items (joined (line_parts (window_seen window.now) kept.now packing)) }
+    ensures puts { PutsSo result out.old.items out.new.items (flattened (line_parts (window_seen window.now) kept.now packing)) }
     ensures legal { OnOk result (kinds.line.Legal (line_with (window_seen window.now) kept.now packing)) }
 {
     put_u64(out, window.id.number())?;
@@ -141,7 +141,7 @@ fn put_parts(
 }
 
 /// Adds a window that is packed so, if it is.
-#[tactic(auto, unfolding(tks_codec::specs::Writing::joined))]
+#[tactic(auto, unfolding(tks_codec::specs::Writing::flattened))]
 pub fn put_line(
     alloc: Global,
     out: &mut Vec<u8>,

@@ -1,7 +1,7 @@
 //! Worlds.
 ghost use Rattle.std.specs.Prelude.{◌≡◌, ◌↔◌, ◌++◌, ℕ, List, true, take, length, Ok, Err, IfOk, OnOk, OnErr};
 ghost use Rattle.tks_codec.specs.Reading.{Gives, FindsSo, StopsAt};
-ghost use Rattle.tks_codec.specs.Writing.{PutsSo, joined};
+ghost use Rattle.tks_codec.specs.Writing.{PutsSo, flattened};
 ghost use Rattle.tks_codec.specs.declared.fault.CodecFault.TheVariants as CodecFault;
 ghost use Rattle.tks_codec_world.specs.Storable.{HasSpelling};
 ghost use Rattle.tks_codec_world.specs.World as kinds;
@@ -123,10 +123,10 @@ pub fn has_spelling(world: &World) -> bool
 }
 
 // Adds what waits, and what stands at the end.
-#[tactic(auto, using(tks_codec::proofs::Puts::joined_puts))]
+#[tactic(auto, using(tks_codec::proofs::Puts::flattened_puts))]
 fn put_waits(out: &mut Vec<u8>, world: &World) -> Result<(), AllocError>
     requires { HasSpelling world.now }
-    ensures puts { PutsSo result out.old.items out.new.items (joined (waits_parts world.now)) }
+    ensures puts { PutsSo result out.old.items out.new.items (flattened (waits_parts world.now)) }
     ensures legal { OnOk result (WaitsAreLegal world.now) }
 {
     put_queue(out, world.queue())?;
@@ -135,10 +135,10 @@ fn put_waits(out: &mut Vec<u8>, world: &World) -> Result<(), AllocError>
 }
 
 // Adds the parts of a world; where memory is refused, perhaps a front of them.
-#[tactic(auto, using(tks_codec::proofs::Puts::joined_puts))]
+#[tactic(auto, using(tks_codec::proofs::Puts::flattened_puts))]
 fn put_parts(alloc: Global, out: &mut Vec<u8>, world: &World) -> Result<(), AllocError>
     requires { HasSpelling world.now }
-    ensures puts { PutsSo result out.old.items out.new.items (joined (fields_parts world.now)) }
+    ensures puts { PutsSo result out.old.items out.new.items (flattened (fields_parts world.now)) }
     ensures legal { OnOk result ((kinds.fields world.now.grid).Legal world.now) }
 {
     put_counts(out, &numbers_of(world))?;
@@ -149,7 +149,7 @@ fn put_parts(alloc: Global, out: &mut Vec<u8>, world: &World) -> Result<(), Allo
 }
 
 // Adds a world.
-#[tactic(auto, unfolding(tks_codec::specs::Writing::joined))]
+#[tactic(auto, unfolding(tks_codec::specs::Writing::flattened))]
 fn put_world(alloc: Global, out: &mut Vec<u8>, world: &World) -> Result<(), AllocError>
     requires { HasSpelling world.now }
     ensures puts { PutsSo result out.old.items out.new.items ((kinds.world world.now.grid).write world.now) }

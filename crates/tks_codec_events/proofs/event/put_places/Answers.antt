@@ -2,7 +2,7 @@ use Rattle.std.proofs.Common.{rules, [], ◌∷◌, FitsSigned}
 use Rattle.std.specs.Int.{w64}
 use Rattle.std.proofs.lemmas.Result.{err_from_is_err_and}
 use Rattle.tks_codec.specs.Spelling.{signed}
-use Rattle.tks_codec.proofs.Puts.{put_refused, joined_then, joined_last}
+use Rattle.tks_codec.proofs.Puts.{put_refused, flattened_then, flattened_last}
 use Rattle.tks_codec_events.proofs.Eventful.{as_read, as_put}
 use Rattle.tks_codec_events.proofs.event.put_places.Goals as goal
 
@@ -34,7 +34,7 @@ returns-clause-puts c =
     let y_fits : FitsSigned w64 e.y = search rules in
     let root_x_fits : FitsSigned w64 e.root_x = search rules in
     let root_y_fits : FitsSigned w64 e.root_y = search rules in
-    joined_then old first new x y (root_x ∷ root_y ∷ []) r (as_read old first e.x x_fits c.in_ok-put_i64.ensures) (
-    joined_then first second new y root_x (root_y ∷ []) r (as_read first second e.y y_fits c.in_ok-put_i64-2.ensures) (
-    joined_then second third new root_x root_y [] r (as_read second third e.root_x root_x_fits c.in_ok-put_i64-3.ensures) (
-    joined_last r third new root_y (as_put r third new e.root_y root_y_fits c.put_i64-4.ensures))))
+    flattened_then old first new x y (root_x ∷ root_y ∷ []) r (as_read old first e.x x_fits c.in_ok-put_i64.ensures) (
+    flattened_then first second new y root_x (root_y ∷ []) r (as_read first second e.y y_fits c.in_ok-put_i64-2.ensures) (
+    flattened_then second third new root_x root_y [] r (as_read second third e.root_x root_x_fits c.in_ok-put_i64-3.ensures) (
+    flattened_last r third new root_y (as_put r third new e.root_y root_y_fits c.put_i64-4.ensures))))

@@ -1,5 +1,5 @@
 use Rattle.std.proofs.Common.{[], ◌∷◌}
-use Rattle.tks_codec.proofs.Puts.{joined_then, joined_last}
+use Rattle.tks_codec.proofs.Puts.{flattened_then, flattened_last}
 use Rattle.tks_codec_world.specs.Counts.{count}
 use Rattle.tks_codec_world.proofs.counts.put_next.Goals as goal
 
@@ -11,6 +11,6 @@ returns c =
     let first = c.put_count.new.out.items in
     let second = c.put_count-2.new.out.items in
     let new = c.put_count-3.new.out.items in
-    joined_then old first new (count.write x.window) (count.write x.binding) (count.write x.timer ∷ []) r (c.in_ok-put_count.ensures) (
-    joined_then first second new (count.write x.binding) (count.write x.timer) [] r (c.in_ok-put_count-2.ensures) (
-    joined_last r second new (count.write x.timer) c.put_count-3.ensures))
+    flattened_then old first new (count.write x.window) (count.write x.binding) (count.write x.timer ∷ []) r (c.in_ok-put_count.ensures) (
+    flattened_then first second new (count.write x.binding) (count.write x.timer) [] r (c.in_ok-put_count-2.ensures) (
+    flattened_last r second new (count.write x.timer) c.put_count-3.ensures))

@@ -1,6 +1,6 @@
 use Rattle.std.proofs.Common.{◌≡◌, ◌++◌, [], ◌∷◌, subst}
-use Rattle.tks_codec.specs.Writing.{joined}
-use Rattle.tks_codec.proofs.Puts.{joined_then, joined_last}
+use Rattle.tks_codec.specs.Writing.{flattened}
+use Rattle.tks_codec.proofs.Puts.{flattened_then, flattened_last}
 use Rattle.tks_codec_variables.specs.Variables.{variables}
 use Rattle.tks_state.specs.World.{windows_of}
 use Rattle.tks_codec_world.specs.Counts.{counts}
@@ -23,9 +23,9 @@ returns-clause-puts c =
     let all_windows = (windows w.tree.next).write (windows_of w) in
     let all_variables = variables.write w.variables in
     let happened = (happenings w.bindings.next).write (happenings_of w) in
-    let last = joined (waits_parts w) in
-    joined_then old first new numbers all_windows (all_variables ∷ happened ∷ last ∷ []) r (subst (λ x. first ≡ old ++ counts.write x) c.numbers_of.ensures c.in_ok-put_counts.ensures) (
-    joined_then first second new all_windows all_variables (happened ∷ last ∷ []) r c.in_ok-put_windows.ensures.puts (
-    joined_then second third new all_variables happened (last ∷ []) r (subst (λ v. third ≡ second ++ variables.write v) c.variables.ensures c.in_ok-put_variables.ensures.puts) (
-    joined_then third fourth new happened last [] r c.in_ok-put_happenings.ensures.puts (
-    joined_last r fourth new last c.put_waits.ensures.puts))))
+    let last = flattened (waits_parts w) in
+    flattened_then old first new numbers all_windows (all_variables ∷ happened ∷ last ∷ []) r (subst (λ x. first ≡ old ++ counts.write x) c.numbers_of.ensures c.in_ok-put_counts.ensures) (
+    flattened_then first second new all_windows all_variables (happened ∷ last ∷ []) r c.in_ok-put_windows.ensures.puts (
+    flattened_then second third new all_variables happened (last ∷ []) r (subst (λ v. third ≡ second ++ variables.write v) c.variables.ensures c.in_ok-put_variables.ensures.puts) (
+    flattened_then third fourth new happened last [] r c.in_ok-put_happenings.ensures.puts (
+    flattened_last r fourth new last c.put_waits.ensures.puts))))
