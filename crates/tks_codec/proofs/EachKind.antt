@@ -10,7 +10,7 @@ use Rattle.std.specs.Prelude.{◌||◌, ◌&&◌, ◌==◌}
 use Rattle.tks_text.proofs.Texts.{both}
 use Rattle.tks_text.specs.Text.{is_text_byte, IsText}
 use Rattle.tks_codec.specs.Spelling.{◌>>=◌, Spelling, Spells, IsBytes, Lawful, number_at, number, byte_at, byte, passed, such_that, field, through, signed, which, whole, none, pair, is_flag, flag_of, flag, just, count_of, option, is_behind, rising, AreLegal, members, members_at, list_at, list_by, list, text_byte, text}
-use Rattle.tks_codec.proofs.Joining.{not_nil, Stands, in_first, in_second, stands, bind_ok, bind_err, bind_same, bind_done, ok_is, no_fault, Parts, Joins, joined}
+use Rattle.tks_codec.proofs.Joining.{not_nil, Stands, in_first, in_second, stands, bind_ok, bind_err, bind_same, bind_done, ok_is, no_fault, Parts, Joins, joins_lawful}
 
 abbrev failed : {A : Type 0} → ℕ → Result A ℕ
 failed n = Err n
@@ -296,7 +296,7 @@ module _ {A T : Type 0} (get : T → A) (s : Spelling A) (others : A → Spellin
   }
 
   pub field_lawful : Lawful s → ((a : A) → Lawful (others a)) → Lawful (field get s others)
-  field_lawful l m = joined field_joins l m
+  field_lawful l m = joins_lawful field_joins l m
 
 module _ {A T : Type 0} (get : T → A) (make : A → T) (s : Spelling A) (told : (a : A) → s.Legal a → get (make a) ≡ a) where
   pub through_lawful : Lawful s → Lawful (through get make s)
@@ -345,7 +345,7 @@ module _ {T : Type 0} (s : Spelling T) where
   pub option_lawful : Lawful s → Lawful (option s)
   option_lawful l =
       field_lawful count_of (such_that is_flag byte) _ (λ n v k. count_told n v) flag_byte_lawful
-      (λ n. which_lawful (n == 1) (joined just_joins l (λ v. whole_lawful v)) (which_lawful (n == 0) (whole_lawful None) none_lawful))
+      (λ n. which_lawful (n == 1) (joins_lawful just_joins l (λ v. whole_lawful v)) (which_lawful (n == 0) (whole_lawful None) none_lawful))
 
 -- ---- lists
 
@@ -383,7 +383,7 @@ module _ {T : Type 0} (member : Option T → Spelling T) (each : (before : Optio
 
   exactly_lawful : (n : ℕ) (before : Option T) → Lawful (exactly before n)
   exactly_lawful zero before = no_member before
-  exactly_lawful (suc n) before = joined (one_more before n) (each before) (λ v. exactly_lawful n (Some v))
+  exactly_lawful (suc n) before = joins_lawful (one_more before n) (each before) (λ v. exactly_lawful n (Some v))
 
   list_joins : Joins (number w32) (λ n. exactly None n) (λ n vs. vs) (list_by member)
   unfolding list_at
@@ -394,7 +394,7 @@ module _ {T : Type 0} (member : Option T → Spelling T) (each : (before : Optio
   }
 
   pub list_lawful : Lawful (list_by member)
-  list_lawful = joined list_joins (number_lawful w32 wide32) (λ n. exactly_lawful n None)
+  list_lawful = joins_lawful list_joins (number_lawful w32 wide32) (λ n. exactly_lawful n None)
 
 -- values whose names rise
 pub rising_lawful : {T : Type 0} (name : T → List ℕ) (s : Spelling T) → ((v : T) → s.Legal v → 0 < length (s.write v)) → Lawful s → Lawful (rising name s)

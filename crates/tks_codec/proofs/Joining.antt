@@ -188,5 +188,5 @@ module _ {A B T : Type 0} {s : Spelling A} {o : A → Spelling B} {make : A → 
       let p = j.apart v l in
       cut_at v front b behind p (stands (s.write p.first) ((o p.first).write p.others) front b behind (sym p.parts ∙ e))
 
-  pub joined : Lawful t
-  joined = record { reads_back = back; nothing_else = only; within = inside; sure = certain; early = before_fault; cut = ends }
+  pub joins_lawful : Lawful t
+  joins_lawful = record { reads_back = back; nothing_else = only; within = inside; sure = certain; early = before_fault; cut = ends }
