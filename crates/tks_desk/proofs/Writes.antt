@@ -5,7 +5,7 @@ use Rattle.std.proofs.lemmas.Result.{err_from_is_err_and}
 use Rattle.std.specs.Result.{IsErr, IsErrAnd}
 use Rattle.std.specs.Io.KnownBytes.{Appends, Keeps}
 use Rattle.std.proofs.KnownBytes.{Appends-trans, Appends-kept}
-use Rattle.tks_desk.specs.Writing.{WritesSo, AppendsFront, joined}
+use Rattle.tks_desk.specs.Writing.{WritesSo, AppendsFront, flattened}
 use Rattle.tks_desk.specs.declared.ending.RunFault.{RunFault}
 use Rattle.tks_desk.specs.declared.ending.RunFault.TheVariants.{Write}
 
@@ -32,29 +32,29 @@ pub ruleset writes = (then, longer, exit)
 
 -- the same, part by part
 module _ (a b c : Option (List ℕ)) (xs : List ℕ) (parts : List (List ℕ)) where
-  pub joined_then : (r : Result (Unit {0}) RunFault) → Appends a b xs → WritesSo r b c (joined parts) → WritesSo r a c (joined (xs ∷ parts))
-  unfolding joined
-  joined_then r first rest = then r a b c xs (joined parts) first rest
+  pub flattened_then : (r : Result (Unit {0}) RunFault) → Appends a b xs → WritesSo r b c (flattened parts) → WritesSo r a c (flattened (xs ∷ parts))
+  unfolding flattened
+  flattened_then r first rest = then r a b c xs (flattened parts) first rest
 
-  pub joined_then_ok : Appends a b xs → Appends b c (joined parts) → Appends a c (joined (xs ∷ parts))
-  unfolding joined
-  joined_then_ok first rest = Appends-trans a b c xs (joined parts) first rest
+  pub flattened_then_ok : Appends a b xs → Appends b c (flattened parts) → Appends a c (flattened (xs ∷ parts))
+  unfolding flattened
+  flattened_then_ok first rest = Appends-trans a b c xs (flattened parts) first rest
 
 module _ (r : Result (Unit {0}) RunFault) (a b : Option (List ℕ)) (xs : List ℕ) where
-  pub joined_longer : (parts : List (List ℕ)) → IsErr r → WritesSo r a b xs → WritesSo r a b (joined (xs ∷ parts))
-  unfolding joined
-  joined_longer parts failed wrote = longer r a b xs (joined parts) failed wrote
+  pub flattened_longer : (parts : List (List ℕ)) → IsErr r → WritesSo r a b xs → WritesSo r a b (flattened (xs ∷ parts))
+  unfolding flattened
+  flattened_longer parts failed wrote = longer r a b xs (flattened parts) failed wrote
 
-  pub joined_last : WritesSo r a b xs → WritesSo r a b (joined (xs ∷ []))
-  unfolding joined
-  joined_last wrote = subst (WritesSo r a b) (sym (append-nil xs)) wrote
+  pub flattened_last : WritesSo r a b xs → WritesSo r a b (flattened (xs ∷ []))
+  unfolding flattened
+  flattened_last wrote = subst (WritesSo r a b) (sym (append-nil xs)) wrote
 
-pub joined_last_ok : (a b : Option (List ℕ)) (xs : List ℕ) → Appends a b xs → Appends a b (joined (xs ∷ []))
-unfolding joined
-joined_last_ok a b xs wrote = subst (Appends a b) (sym (append-nil xs)) wrote
+pub flattened_last_ok : (a b : Option (List ℕ)) (xs : List ℕ) → Appends a b xs → Appends a b (flattened (xs ∷ []))
+unfolding flattened
+flattened_last_ok a b xs wrote = subst (Appends a b) (sym (append-nil xs)) wrote
 
--- what proves any sequence of `put(..)?`, where the clause reads `joined (xs ∷ ys ∷ zs ∷ [])`
-pub ruleset joined_writes = (joined_then, joined_then_ok, joined_longer, joined_last, joined_last_ok, exit)
+-- what proves any sequence of `put(..)?`, where the clause reads `flattened (xs ∷ ys ∷ zs ∷ [])`
+pub ruleset flattened_writes = (flattened_then, flattened_then_ok, flattened_longer, flattened_last, flattened_last_ok, exit)
 
 -- the first m bytes were written
 pub front : (a b : Option (List ℕ)) (bytes : List ℕ) (m : ℕ) → Appends a b (take m bytes) → AppendsFront a b bytes

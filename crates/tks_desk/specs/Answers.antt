@@ -10,7 +10,7 @@ use Rattle.tks_input.specs.declared.input.Input.TheVariants.{Turn}
 use Rattle.tks_input.specs.declared.reply.Reply.{Reply}
 use Rattle.tks_input.specs.declared.reply.Refused.{Refused}
 use Rattle.tks_input.specs.declared.reply.Refused.TheVariants.{BadInput, ClockBack, PendingFull, Budget, Depth, TooLarge, NoMemory, Quiet, Failed}
-use Rattle.tks_desk.specs.Writing.{joined, escaped, WritesSo, AppendsFront}
+use Rattle.tks_desk.specs.Writing.{flattened, escaped, WritesSo, AppendsFront}
 use Rattle.tks_desk.specs.Requests.{requests_of}
 use Rattle.tks_desk.specs.declared.request.Request.{Request}
 use Rattle.tks_desk.specs.declared.request.Request.TheVariants.{Post, Unfit, Drain, Screen, Faults, Commit, Quit, Bad}
@@ -39,17 +39,17 @@ verdict code = if code == 0 then codes "ok " else codes "error "
 -- a space and the text, or nothing where that is empty
 abbrev pub after_space : List ℕ → List ℕ
 after_space [] = []
-after_space (b ∷ text) = joined (codes " " ∷ escaped (b ∷ text) ∷ [])
+after_space (b ∷ text) = flattened (codes " " ∷ escaped (b ∷ text) ∷ [])
 
 abbrev pub reply_line : Reply → List ℕ
-reply_line reply = joined (verdict reply.code ∷ decimal reply.number ∷ after_space reply.text ∷ codes "\n" ∷ [])
+reply_line reply = flattened (verdict reply.code ∷ decimal reply.number ∷ after_space reply.text ∷ codes "\n" ∷ [])
 
 abbrev pub refusal_line : Refused → List ℕ
-refusal_line why = joined (refusal_name why ∷ codes "\n" ∷ [])
+refusal_line why = flattened (refusal_name why ∷ codes "\n" ∷ [])
 
 -- a row of the screen between bars
 abbrev pub row_line : List ℕ → List ℕ
-row_line row = joined (codes "|" ∷ row ∷ codes "|\n" ∷ [])
+row_line row = flattened (codes "|" ∷ row ∷ codes "|\n" ∷ [])
 
 abbrev pub rows_lines : List (List ℕ) → List ℕ
 rows_lines [] = []
@@ -61,22 +61,22 @@ screen_lines world = rows_lines (shown world)
 
 -- an error that no script was there to see, and the end of them
 abbrev pub fault_told : List ℕ → List ℕ
-fault_told text = joined (codes "fault " ∷ escaped text ∷ codes "\n" ∷ [])
+fault_told text = flattened (codes "fault " ∷ escaped text ∷ codes "\n" ∷ [])
 
 abbrev pub faults_told : List (List ℕ) → List ℕ
 faults_told [] = []
 faults_told (text ∷ texts) = fault_told text ++ faults_told texts
 
 abbrev pub faults_lines : List (List ℕ) → List ℕ
-faults_lines texts = joined (faults_told texts ∷ codes "end\n" ∷ [])
+faults_lines texts = flattened (faults_told texts ∷ codes "end\n" ∷ [])
 
 -- so many inputs are acknowledged
 abbrev pub committed_line : ℕ → List ℕ
-committed_line count = joined (codes "committed " ∷ decimal count ∷ codes "\n" ∷ [])
+committed_line count = flattened (codes "committed " ∷ decimal count ∷ codes "\n" ∷ [])
 
 -- so many turns were run
 abbrev pub drained_line : ℕ → List ℕ
-drained_line n = joined (codes "drained " ∷ decimal n ∷ codes "\n" ∷ [])
+drained_line n = flattened (codes "drained " ∷ decimal n ∷ codes "\n" ∷ [])
 
 -- what is told of the refusal that ended turns: nothing, where nothing was to be done
 abbrev pub turn_refused : Refused → List ℕ

@@ -2,7 +2,7 @@
 use Rattle.std.specs.Prelude.{ℕ, List, [], ◌∷◌, codes}
 use Rattle.tks_session.specs.declared.fault.SessionFault.{SessionFault}
 use Rattle.tks_session.specs.declared.fault.SessionFault.TheVariants.{TooLarge, NoMemory, Disk, Failed, Damaged, OtherCommands, OtherGrid, SmallerLimits, Version}
-use Rattle.tks_desk.specs.Writing.{joined}
+use Rattle.tks_desk.specs.Writing.{flattened}
 
 abbrev pub fault_name : SessionFault → List ℕ
 fault_name TooLarge = codes "large"
@@ -16,7 +16,7 @@ fault_name SmallerLimits = codes "limits"
 fault_name Version = codes "version"
 
 abbrev pub fault_line : SessionFault → List ℕ
-fault_line why = joined (codes "fault " ∷ fault_name why ∷ codes "\n" ∷ [])
+fault_line why = flattened (codes "fault " ∷ fault_name why ∷ codes "\n" ∷ [])
 
 abbrev pub fault_status : SessionFault → ℕ
 fault_status TooLarge = 1

@@ -13,9 +13,9 @@ WritesSo (Ok done) old new bytes = Appends old new bytes
 WritesSo (Err fault) old new bytes = (fault ≡ Write) × AppendsFront old new bytes
 
 -- what is written part by part. It is no `abbrev`, so that in a goal each part stands as it is, a literal too
-unfoldable pub joined : List (List ℕ) → List ℕ
-joined [] = []
-joined (part ∷ parts) = part ++ joined parts
+unfoldable pub flattened : List (List ℕ) → List ℕ
+flattened [] = []
+flattened (part ∷ parts) = part ++ flattened parts
 
 -- a byte as it stands in an answer: a backslash, a newline and a tab are spelled out
 abbrev pub escaped_byte : ℕ → List ℕ

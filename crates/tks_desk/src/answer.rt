@@ -11,7 +11,7 @@ use tks_input::{Refused, Reply};
 use tks_screen::Grid;
 use tks_text::{Seq, Txt};
 
-#[tactic(auto, using(crate::proofs::Writes::joined_writes))]
+#[tactic(auto, using(crate::proofs::Writes::flattened_writes))]
 /// Writes the line of a reply: `ok` or `error`, the number, and the text where it isn't empty.
 pub fn put_reply<W: Write>(writer: &mut W, reply: &Reply) -> Result<(), RunFault>
     ensures { WritesSo result (W.contents writer.old) (W.contents writer.new) (reply_line reply.now) }
@@ -23,7 +23,7 @@ pub fn put_reply<W: Write>(writer: &mut W, reply: &Reply) -> Result<(), RunFault
     put_last(writer, b"\n")
 }
 
-#[tactic(auto, using(crate::proofs::Writes::joined_writes))]
+#[tactic(auto, using(crate::proofs::Writes::flattened_writes))]
 // Writes a space and the text, or nothing where that is empty.
 fn put_after_space<W: Write>(writer: &mut W, text: &[u8]) -> Result<(), RunFault>
     ensures { WritesSo result (W.contents writer.old) (W.contents writer.new) (after_space text.now) }
@@ -35,7 +35,7 @@ fn put_after_space<W: Write>(writer: &mut W, text: &[u8]) -> Result<(), RunFault
     put_escaped(writer, text)
 }
 
-#[tactic(auto, using(crate::proofs::Writes::joined_writes))]
+#[tactic(auto, using(crate::proofs::Writes::flattened_writes))]
 /// Writes the line of a commit by which so many inputs are acknowledged.
 pub fn put_committed<W: Write>(writer: &mut W, count: u64) -> Result<(), RunFault>
     ensures { WritesSo result (W.contents writer.old) (W.contents writer.new) (committed_line count) }
@@ -97,7 +97,7 @@ fn put_turn_refused<W: Write>(writer: &mut W, why: Refused) -> Result<(), RunFau
     }
 }
 
-#[tactic(auto, using(crate::proofs::Writes::joined_writes))]
+#[tactic(auto, using(crate::proofs::Writes::flattened_writes))]
 // Writes how many turns were run.
 fn put_drained<W: Write>(writer: &mut W, done: u64) -> Result<(), RunFault>
     ensures { WritesSo result (W.contents writer.old) (W.contents writer.new) (drained_line done) }
@@ -115,7 +115,7 @@ fn put_number<W: Write>(writer: &mut W, number: u64) -> Result<(), RunFault>
     put(writer, digits.format(number).as_bytes())
 }
 
-#[tactic(auto, using(crate::proofs::Writes::joined_writes))]
+#[tactic(auto, using(crate::proofs::Writes::flattened_writes))]
 /// Writes the line of a refusal.
 pub fn put_refusal<W: Write>(writer: &mut W, why: Refused) -> Result<(), RunFault>
     ensures { WritesSo result (W.contents writer.old) (W.contents writer.new) (refusal_line why) }
@@ -142,7 +142,7 @@ fn name_of(why: Refused) -> &'static str
 }
 
 /// Writes errors that no script was there to see, a line each, and the end of them.
-#[tactic(auto, using(crate::proofs::Writes::joined_writes))]
+#[tactic(auto, using(crate::proofs::Writes::flattened_writes))]
 pub fn put_faults<W: Write>(writer: &mut W, faults: &[Txt]) -> Result<(), RunFault>
     ensures { WritesSo result (W.contents writer.old) (W.contents writer.new) (faults_lines faults.now) }
 {
@@ -161,7 +161,7 @@ fn put_told_faults<W: Write>(writer: &mut W, faults: &[Txt]) -> Result<(), RunFa
 }
 
 // Writes one of them.
-#[tactic(auto, using(crate::proofs::Writes::joined_writes))]
+#[tactic(auto, using(crate::proofs::Writes::flattened_writes))]
 fn put_told_fault<W: Write>(writer: &mut W, fault: &Txt) -> Result<(), RunFault>
     ensures { WritesSo result (W.contents writer.old) (W.contents writer.new) (fault_told fault.now) }
 {
@@ -189,7 +189,7 @@ fn put_rows<W: Write>(writer: &mut W, rows: &[Seq<u8>]) -> Result<(), RunFault>
 }
 
 // Writes a row of the screen.
-#[tactic(auto, using(crate::proofs::Writes::joined_writes))]
+#[tactic(auto, using(crate::proofs::Writes::flattened_writes))]
 fn put_row<W: Write>(writer: &mut W, row: &Seq<u8>) -> Result<(), RunFault>
     ensures { WritesSo result (W.contents writer.old) (W.contents writer.new) (row_line row.now) }
 {

@@ -36,7 +36,7 @@ pub fn status_of(fault: &SessionFault) -> u8
 }
 
 /// Writes the line of a fault.
-#[tactic(auto, using(crate::proofs::Writes::joined_writes))]
+#[tactic(auto, using(crate::proofs::Writes::flattened_writes))]
 pub fn put_fault<W: Write>(writer: &mut W, fault: &SessionFault) -> Result<(), RunFault>
     ensures { WritesSo result (W.contents writer.old) (W.contents writer.new) (fault_line fault.now) }
 {
