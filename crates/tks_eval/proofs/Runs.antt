@@ -5,7 +5,7 @@ use Rattle.tks_text.specs.declared.limits.Limits.{Limits}
 use Rattle.tks_parse.specs.Tree.{Parts, chars, parts_size}
 use Rattle.tks_vars.specs.Variables.{Variables}
 use Rattle.tks_tcl.specs.Cause.{OverLimit, fits}
-use Rattle.tks_eval.specs.Outcome.{Level, joined, given}
+use Rattle.tks_eval.specs.Outcome.{Level, appended, given}
 use Rattle.tks_eval.specs.Evaluation.{parts_do}
 
 -- characters don't count in the size of parts
@@ -27,23 +27,23 @@ two_of (a ∷ b ∷ c ∷ words) x y l m f g = absurd (omega (arith, m))
 
 module _ (limits : Limits) where
   -- what joins is not empty
-  joined_some : (made : List ℕ) (c : ℕ) (t : List ℕ) → joined limits made (c ∷ t) ≡ cond (fits limits (made ++ c ∷ t)) (Ok (made ++ c ∷ t)) (Err OverLimit)
-  joined_some made c t =
+  appended_some : (made : List ℕ) (c : ℕ) (t : List ℕ) → appended limits made (c ∷ t) ≡ cond (fits limits (made ++ c ∷ t)) (Ok (made ++ c ∷ t)) (Err OverLimit)
+  appended_some made c t =
       let some : (suc (length t) == 0) ≡ false = search rules in
       ap (λ b. cond (b || fits limits (made ++ c ∷ t)) (Ok (made ++ c ∷ t)) (Err OverLimit)) some
 
   -- a character, and then others, join as all of them do
-  joined_on : (made : List ℕ) (c : ℕ) (t : List ℕ) → fits limits (made ++ c ∷ []) ≡ true → joined limits (made ++ c ∷ []) t ≡ joined limits made (c ∷ t)
-  joined_on made c [] h =
+  appended_on : (made : List ℕ) (c : ℕ) (t : List ℕ) → fits limits (made ++ c ∷ []) ≡ true → appended limits (made ++ c ∷ []) t ≡ appended limits made (c ∷ t)
+  appended_on made c [] h =
       let one : (made ++ c ∷ []) ++ [] ≡ made ++ c ∷ [] = append-nil (made ++ c ∷ []) in
-      ap Ok one ∙ ap (λ b. cond b (Ok (made ++ c ∷ [])) (Err OverLimit)) (sym h) ∙ sym (joined_some made c [])
-  joined_on made c (d ∷ t) h =
-      joined_some (made ++ c ∷ []) d t ∙ ap (λ x. cond (fits limits x) (Ok x) (Err OverLimit)) (append_assoc made (c ∷ []) (d ∷ t)) ∙ sym (joined_some made c (d ∷ t))
+      ap Ok one ∙ ap (λ b. cond b (Ok (made ++ c ∷ [])) (Err OverLimit)) (sym h) ∙ sym (appended_some made c [])
+  appended_on made c (d ∷ t) h =
+      appended_some (made ++ c ∷ []) d t ∙ ap (λ x. cond (fits limits x) (Ok x) (Err OverLimit)) (append_assoc made (c ∷ []) (d ∷ t)) ∙ sym (appended_some made c (d ∷ t))
 
   -- where a character passes the limit, it and others do
-  joined_over : (made : List ℕ) (c : ℕ) (t : List ℕ) → fits limits (made ++ c ∷ []) ≡ false → joined limits made (c ∷ t) ≡ Err OverLimit
-  joined_over made c t h =
-      joined_some made c t ∙ elim (leb (length (made ++ c ∷ t)) limits.text) as (λ b. leb (length (made ++ c ∷ t)) limits.text ≡ b → cond b (Ok (made ++ c ∷ t)) (Err OverLimit) ≡ Err OverLimit) [
+  appended_over : (made : List ℕ) (c : ℕ) (t : List ℕ) → fits limits (made ++ c ∷ []) ≡ false → appended limits made (c ∷ t) ≡ Err OverLimit
+  appended_over made c t h =
+      appended_some made c t ∙ elim (leb (length (made ++ c ∷ t)) limits.text) as (λ b. leb (length (made ++ c ∷ t)) limits.text ≡ b → cond b (Ok (made ++ c ∷ t)) (Err OverLimit) ≡ Err OverLimit) [
         | true ↦ λ e.
             let le = leb-true (length (made ++ c ∷ t)) limits.text e in
             let less : length (made ++ c ∷ []) ≤ limits.text = omega (arith, le, length-append made (c ∷ t), length-append made (c ∷ [])) in
@@ -54,12 +54,12 @@ module _ (limits : Limits) where
 
   module _ {S : Type 0} (inner : Level S) (state : S) (variables : Variables) (fuel : ℕ) where
     pub chars_join : (t made : List ℕ) (rest : Parts) → parts_do limits inner (chars t rest) made state variables fuel
-        ≡ given limits (joined limits made t) state variables fuel (λ made. parts_do limits inner rest made state variables fuel)
+        ≡ given limits (appended limits made t) state variables fuel (λ made. parts_do limits inner rest made state variables fuel)
     chars_join [] made rest = ap (λ m. parts_do limits inner rest m state variables fuel) (sym (append-nil made))
     chars_join (c ∷ t) made rest =
-        ap (λ v. given limits v state variables fuel (λ made. parts_do limits inner (chars t rest) made state variables fuel)) (joined_some made c []) ∙ elim (fits limits (made ++ c ∷ [])) as (λ b. fits limits (made ++ c ∷ []) ≡ b →
+        ap (λ v. given limits v state variables fuel (λ made. parts_do limits inner (chars t rest) made state variables fuel)) (appended_some made c []) ∙ elim (fits limits (made ++ c ∷ [])) as (λ b. fits limits (made ++ c ∷ []) ≡ b →
         given limits (cond b (Ok (made ++ c ∷ [])) (Err OverLimit)) state variables fuel (λ made. parts_do limits inner (chars t rest) made state variables fuel)
-        ≡ given limits (joined limits made (c ∷ t)) state variables fuel (λ made. parts_do limits inner rest made state variables fuel)) [
-          | true ↦ λ e. chars_join t (made ++ c ∷ []) rest ∙ ap (λ v. given limits v state variables fuel (λ made. parts_do limits inner rest made state variables fuel)) (joined_on made c t e)
-          | false ↦ λ e. ap (λ v. given limits v state variables fuel (λ made. parts_do limits inner rest made state variables fuel)) (sym (joined_over made c t e))
+        ≡ given limits (appended limits made (c ∷ t)) state variables fuel (λ made. parts_do limits inner rest made state variables fuel)) [
+          | true ↦ λ e. chars_join t (made ++ c ∷ []) rest ∙ ap (λ v. given limits v state variables fuel (λ made. parts_do limits inner rest made state variables fuel)) (appended_on made c t e)
+          | false ↦ λ e. ap (λ v. given limits v state variables fuel (λ made. parts_do limits inner rest made state variables fuel)) (sym (appended_over made c t e))
         ] refl

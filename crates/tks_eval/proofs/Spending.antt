@@ -19,7 +19,7 @@ use Rattle.tks_expr.specs.Tree.{Expr, Literal, Made, One, Two, Both, Either, Cho
 use Rattle.tks_expr.specs.Operation.{truth_of, applied, applied_unary, result_of}
 use Rattle.tks_expr.specs.Reading.{expr_of}
 use Rattle.tks_expr.specs.Value.{choice}
-use Rattle.tks_eval.specs.Outcome.{Outcome, End, Stopped, TooLarge, Next, Level, Answer, Unknown, Comes, PassesLimit, Meaning, after_step, after, after_body, after_next, caught, joined, fails, given}
+use Rattle.tks_eval.specs.Outcome.{Outcome, End, Stopped, TooLarge, Next, Level, Answer, Unknown, Comes, PassesLimit, Meaning, after_step, after, after_body, after_next, caught, appended, fails, given}
 use Rattle.tks_eval.specs.Names.{control_named}
 use Rattle.tks_eval.specs.Branches.{Condition, branches}
 use Rattle.tks_eval.specs.Procedures.{entered, proc_form}
@@ -139,7 +139,7 @@ module _ {S : Type 0} where
       parts_spend : (parts : Parts) (made : List ℕ) (bound : ℕ) → Within bound (parts_do limits inner parts made)
       parts_spend no_part made bound state variables fuel h = h
       parts_spend (char c rest) made bound state variables fuel h =
-          given_spends bound (joined limits made (c ∷ [])) state variables fuel (λ made. parts_do limits inner rest made state variables fuel) h
+          given_spends bound (appended limits made (c ∷ [])) state variables fuel (λ made. parts_do limits inner rest made state variables fuel) h
           (λ made. parts_spend rest made bound state variables fuel h)
       parts_spend (variable name rest) made bound state variables fuel h =
           given_spends bound (with_value limits variables name made) state variables fuel (λ made. parts_do limits inner rest made state variables fuel) h
@@ -151,9 +151,9 @@ module _ {S : Type 0} where
           (λ at s v u k. given_spends bound (with_value limits v (element_name name at) made) s v u (λ made. parts_do limits inner rest made s v u) k
           (λ made. parts_spend rest made bound s v u k))
       parts_spend (nested script rest) made bound state variables fuel h =
-          after_spends bound (inner script state variables fuel) (λ text s v u. given limits (joined limits made text) s v u (λ made. parts_do limits inner rest made s v u))
+          after_spends bound (inner script state variables fuel) (λ text s v u. given limits (appended limits made text) s v u (λ made. parts_do limits inner rest made s v u))
           (script_spends inner thrifty script bound state variables fuel h)
-          (λ text s v u k. given_spends bound (joined limits made text) s v u (λ made. parts_do limits inner rest made s v u) k (λ made. parts_spend rest made bound s v u k))
+          (λ text s v u k. given_spends bound (appended limits made text) s v u (λ made. parts_do limits inner rest made s v u) k (λ made. parts_spend rest made bound s v u k))
 
       told_spends : (value : Result (List ℕ) ScriptFault) (bound : ℕ) → Within bound (told_text limits inner value)
       told_spends (Ok x) bound state variables fuel h = h

@@ -17,7 +17,7 @@ use Rattle.tks_tcl.specs.Lists.{concatenated, joined_by}
 use Rattle.tks_tcl.specs.Plain as commands
 use Rattle.tks_tcl.specs.Plain.{plain}
 use Rattle.tks_tcl.specs.Variables.{stores}
-use Rattle.tks_eval.specs.Outcome.{Outcome, End, Stopped, TooDeep, TooLarge, OutOfSteps, Next, Level, Answer, Unknown, Comes, PassesLimit, Meaning, after_step, after, after_body, after_next, caught, joined, fails, given}
+use Rattle.tks_eval.specs.Outcome.{Outcome, End, Stopped, TooDeep, TooLarge, OutOfSteps, Next, Level, Answer, Unknown, Comes, PassesLimit, Meaning, after_step, after, after_body, after_next, caught, appended, fails, given}
 use Rattle.tks_eval.specs.Names.{control_named}
 use Rattle.tks_expr.specs.Tree.{Expr}
 use Rattle.tks_expr.specs.Value.{value}
@@ -39,7 +39,7 @@ element_name name index = name ++ 40 ∷ (index ++ 41 ∷ [])
 
 -- the value of a variable behind what is made of a word
 abbrev pub with_value : Limits → Variables → List ℕ → List ℕ → Result (List ℕ) tcl.Cause
-with_value limits variables name made = tcl.after (value_or_fault (value_of variables name)) (joined limits made)
+with_value limits variables name made = tcl.after (value_or_fault (value_of variables name)) (appended limits made)
 
 -- the words that a word's text stands for: itself, or the elements that it splits into
 abbrev pub words_in : Bool → List ℕ → Result (List (List ℕ)) tcl.Cause
@@ -106,7 +106,7 @@ module _ {S : Type 0} (limits : Limits) where
   abbrev pub parts_do : Level S → Parts → List ℕ → Next S
   parts_do inner no_part made state variables fuel = End 0 made state variables fuel
   parts_do inner (char c rest) made state variables fuel =
-      given limits (joined limits made (c ∷ [])) state variables fuel (λ made. parts_do inner rest made state variables fuel)
+      given limits (appended limits made (c ∷ [])) state variables fuel (λ made. parts_do inner rest made state variables fuel)
   parts_do inner (variable name rest) made state variables fuel =
       given limits (with_value limits variables name made) state variables fuel (λ made. parts_do inner rest made state variables fuel)
   parts_do inner (element name index rest) made state variables fuel =
@@ -115,7 +115,7 @@ module _ {S : Type 0} (limits : Limits) where
       parts_do inner rest made state variables fuel))
   parts_do inner (nested script rest) made state variables fuel =
       after (inner script state variables fuel) (λ text state variables fuel.
-      given limits (joined limits made text) state variables fuel (λ made. parts_do inner rest made state variables fuel))
+      given limits (appended limits made text) state variables fuel (λ made. parts_do inner rest made state variables fuel))
 
   -- ---- expressions
 

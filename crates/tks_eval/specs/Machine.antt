@@ -5,7 +5,7 @@ use Rattle.tks_parse.specs.Tree.{script_size, words_size, parts_size}
 use Rattle.tks_parse.specs.Reading.{script_of}
 use Rattle.tks_parse.specs.View.{parts_of, words_of, script_of_commands}
 use Rattle.tks_vars.specs.Variables.{Variables}
-use Rattle.tks_eval.specs.Outcome.{Outcome, End, Meaning, Next, after, after_body, caught, joined, fails, given}
+use Rattle.tks_eval.specs.Outcome.{Outcome, End, Meaning, Next, after, after_body, caught, appended, fails, given}
 use Rattle.tks_expr.specs.Tree.{Expr, Literal, Made, One, Two, Both, Either, Choice}
 use Rattle.tks_expr.specs.declared.tree.Link.{Link}
 use Rattle.tks_eval.specs.Evaluation.{element_name, with_value, parts_do, words_in, words_do, commands_do, evaluate, value_does, after_truth, branches_do, catch_ends, each, settled, without_frame, returned, after_script, scripts_do}
@@ -34,7 +34,7 @@ module _ {S : Type 0} (host : Meaning S) (limits : Limits) where
       after outcome (λ text state variables fuel. given limits (words_in expand text) state variables fuel (λ more.
       words_do host limits (evaluate host limits left) (words_of rest) (words ++ more) state variables fuel))
   after_frame left (frame.Nested made parts) outcome =
-      after outcome (λ text state variables fuel. given limits (joined limits made text) state variables fuel (λ made.
+      after outcome (λ text state variables fuel. given limits (appended limits made text) state variables fuel (λ made.
       parts_do limits (evaluate host limits left) (parts_of parts) made state variables fuel))
   after_frame left (frame.Element name made parts) outcome =
       after outcome (λ at state variables fuel. given limits (with_value limits variables (element_name name at) made) state variables fuel (λ made.

@@ -53,8 +53,8 @@ pub record Meaning (S : Type 0) : Type 0 where
   pub faulted : S → List ℕ → S
 
 -- more behind a text that is being made; only what adds to it can pass the limit
-abbrev pub joined : Limits → List ℕ → List ℕ → Result (List ℕ) tcl.Cause
-joined limits made more = if (length more == 0) || fits limits (made ++ more) then Ok (made ++ more) else Err OverLimit
+abbrev pub appended : Limits → List ℕ → List ℕ → Result (List ℕ) tcl.Cause
+appended limits made more = if (length more == 0) || fits limits (made ++ more) then Ok (made ++ more) else Err OverLimit
 
 module _ {S : Type 0} where
   -- what follows a step

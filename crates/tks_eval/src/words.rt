@@ -1,7 +1,7 @@
 ghost use Rattle.std.specs.Prelude.{◌≡◌, ◌+◌, ◌*◌, ◌∷◌, ◌++◌, IfOk, OnOk, Ok};
 ghost use Rattle.tks_parse.specs.Tree.{words_size, parts_size};
 ghost use Rattle.tks_parse.specs.View.{words_of, parts_of};
-ghost use Rattle.tks_eval.specs.Outcome.{End, joined};
+ghost use Rattle.tks_eval.specs.Outcome.{End, appended};
 ghost use Rattle.tks_eval.specs.Evaluation.{evaluate, element_name, with_value, words_in, parts_do, words_do};
 ghost use Rattle.tks_tcl.specs.Cause.{after};
 ghost use Rattle.tks_tcl.specs.Meets.{GivesSo};
@@ -21,7 +21,7 @@ use tks_vars::Vars;
 
 // Adds to a text that is being made.
 fn grow(made: &mut Txt, more: &Txt, limits: &Limits) -> Result<(), Interrupt>
-    ensures { GivesSo (λ _. made.new) result (joined limits.now made.old more.now) }
+    ensures { GivesSo (λ _. made.new) result (appended limits.now made.old more.now) }
 {
     if more.len() > (limits.text as usize).saturating_sub(made.len()) {
         return Err(Interrupt::TooLarge);
