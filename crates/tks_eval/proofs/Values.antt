@@ -7,7 +7,7 @@ use Rattle.tks_text.specs.declared.limits.Limits.{Limits}
 use Rattle.tks_vars.specs.Variables.{Variables}
 use Rattle.tks_tcl.specs.Cause.{fits, value_or_fault}
 use Rattle.tks_expr.specs.Tree.{Expr, Literal, Made, One, Two, Both, Either, Choice}
-use Rattle.tks_expr.specs.Sign.{joined}
+use Rattle.tks_expr.specs.Sign.{combined}
 use Rattle.tks_expr.specs.View.{linked}
 use Rattle.tks_expr.specs.Reading.{under}
 use Rattle.tks_expr.specs.Operation as texts
@@ -104,19 +104,19 @@ module _ {S : Type 0} where
       links_fail (link ∷ links) fault state variables fuel =
           ap (links_do limits inner links) (after_fails fault state variables fuel (join_on limits inner link.join link.right)) ∙ links_fail links fault state variables fuel
 
-      joined_does : (op : Join) (left right : Expr) (state : S) (variables : Variables) (fuel : ℕ)
-          → value_does limits inner (joined op left right) state variables fuel ≡ after (value_does limits inner left state variables fuel) (join_on limits inner op right)
-      joined_does (Of op) left right state variables fuel = refl
-      joined_does And left right state variables fuel = refl
-      joined_does Or left right state variables fuel = refl
+      combined_does : (op : Join) (left right : Expr) (state : S) (variables : Variables) (fuel : ℕ)
+          → value_does limits inner (combined op left right) state variables fuel ≡ after (value_does limits inner left state variables fuel) (join_on limits inner op right)
+      combined_does (Of op) left right state variables fuel = refl
+      combined_does And left right state variables fuel = refl
+      combined_does Or left right state variables fuel = refl
 
       -- the value of a chain is what its links make of its first operand's
       pub linked_does : (left : Expr) (links : List Link) (state : S) (variables : Variables) (fuel : ℕ)
           → value_does limits inner (linked left links) state variables fuel ≡ links_do limits inner links (value_does limits inner left state variables fuel)
       linked_does left [] state variables fuel = refl
       linked_does left (link ∷ links) state variables fuel =
-          linked_does (joined link.join left link.right) links state variables fuel
-          ∙ ap (links_do limits inner links) (joined_does link.join left link.right state variables fuel)
+          linked_does (combined link.join left link.right) links state variables fuel
+          ∙ ap (links_do limits inner links) (combined_does link.join left link.right state variables fuel)
 
       -- ---- signs
 
@@ -211,18 +211,18 @@ frame_weighs (frame.Signs signs) = omega arith
 frame_weighs (frame.Choice a b) = omega arith
 frame_weighs frame.Whole = omega arith
 
-joined_weighs : (op : Join) (a b : Expr) → value_weight (joined op a b) ≡ value_weight a + value_weight b + 5
-joined_weighs (Of op) a b = refl
-joined_weighs And a b = refl
-joined_weighs Or a b = refl
+combined_weighs : (op : Join) (a b : Expr) → value_weight (combined op a b) ≡ value_weight a + value_weight b + 5
+combined_weighs (Of op) a b = refl
+combined_weighs And a b = refl
+combined_weighs Or a b = refl
 
 links_weigh : (left : Expr) (links : List Link) → value_weight left + links_weight links ≤ value_weight (linked left links) + 1
 links_weigh left [] = omega arith
-links_weigh left (link ∷ links) = omega (arith, joined_weighs link.join left link.right, links_weigh (joined link.join left link.right) links)
+links_weigh left (link ∷ links) = omega (arith, combined_weighs link.join left link.right, links_weigh (combined link.join left link.right) links)
 
 pub chain_weighs : (first : Expr) (link : Link) (links : List Link)
-    → value_weight first + links_weight (link ∷ links) < value_weight (linked (joined link.join first link.right) links)
-chain_weighs first link links = omega (arith, joined_weighs link.join first link.right, links_weigh (joined link.join first link.right) links)
+    → value_weight first + links_weight (link ∷ links) < value_weight (linked (combined link.join first link.right) links)
+chain_weighs first link links = omega (arith, combined_weighs link.join first link.right, links_weigh (combined link.join first link.right) links)
 
 pub under_weighs : (ops : List Unary) (e : Expr) → value_weight e ≤ value_weight (under ops e)
 under_weighs [] e = omega arith

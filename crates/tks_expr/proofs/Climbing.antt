@@ -5,7 +5,7 @@ use Rattle.std.proofs.lemmas.Bool.{eqb-true, eqb-false, leb-true, leb-false}
 use Rattle.tks_text.specs.Fault.{Gives}
 use Rattle.tks_text.specs.declared.fault.Failure.{Failure}
 use Rattle.tks_text.specs.declared.fault.Failure.TheVariants as failure
-use Rattle.tks_expr.specs.Sign.{level_of, joined, join_at}
+use Rattle.tks_expr.specs.Sign.{level_of, combined, join_at}
 use Rattle.tks_expr.specs.Tree.{Expr}
 use Rattle.tks_expr.specs.Reading.{Read, then_read, when, on_join, chain, is_level, within_level, signed, level, level_at, operand_at}
 use Rattle.tks_expr.specs.declared.sign.Join.{Join}
@@ -67,7 +67,7 @@ after_ends taken b w go ih (Err f) e = absurd cc
 
 step_ends : (taken : Join → Bool) (right : Join → List ℕ → Read) (left : Expr) (c : ℕ) (u : List ℕ) (b : Expr) (w : List ℕ) → ((l : Expr) (k : ℕ) → chain taken right l k u ≡ Ok (b, w) → Stops taken w) → (o : Option (Join × ℕ)) → when taken (join_at (c ∷ u)) ≡ o → on_join (Ok (left, c ∷ u)) o (Goes taken right left u) ≡ Ok (b, w) → Stops taken w
 step_ends taken right left c u b w ih None is e = subst (Stops taken) (ok_rest left b (c ∷ u) w e) (chain_stops taken (c ∷ u) is)
-step_ends taken right left c u b w ih (Some x) is e = after_ends taken b w (λ b v. chain taken right (joined x.0 left b) (length u - length v) u) (λ y v h. ih (joined x.0 left y) (length u - length v) h) (right x.0 (drop x.1 u)) e
+step_ends taken right left c u b w ih (Some x) is e = after_ends taken b w (λ b v. chain taken right (combined x.0 left b) (length u - length v) u) (λ y v h. ih (combined x.0 left y) (length u - length v) h) (right x.0 (drop x.1 u)) e
 
 chain_ends : (taken : Join → Bool) (right : Join → List ℕ → Read) (left : Expr) (k : ℕ) (t : List ℕ) (b : Expr) (w : List ℕ) → chain taken right left k t ≡ Ok (b, w) → Stops taken w
 chain_ends taken right left k [] b w e = subst (Stops taken) (ok_rest left b [] w e) (λ r l. refl)
@@ -82,8 +82,8 @@ SameRight taken f g = (op : Join) (v : List ℕ) → taken op ≡ true → f op 
 pick_right : (taken : Join → Bool) (f g : Join → List ℕ → Read) → SameRight taken f g → (left : Expr) (c : ℕ) (u : List ℕ) → ((l : Expr) (k : ℕ) → chain taken f l k u ≡ chain taken g l k u) → (x : Join × ℕ) (b : Bool) → taken x.0 ≡ b → on_join (Ok (left, c ∷ u)) (cond b (Option.Some x) None) (Goes taken f left u) ≡ on_join (Ok (left, c ∷ u)) (cond b (Option.Some x) None) (Goes taken g left u)
 pick_right taken f g same left c u ih x false e = refl
 pick_right taken f g same left c u ih x true e =
-    ap (λ r. then_read r (λ b v. chain taken f (joined x.0 left b) (length u - length v) u)) (same x.0 (drop x.1 u) e)
-    ∙ then_where (g x.0 (drop x.1 u)) (λ b v. chain taken f (joined x.0 left b) (length u - length v) u) (λ b v. chain taken g (joined x.0 left b) (length u - length v) u) (λ b v h. ih (joined x.0 left b) (length u - length v))
+    ap (λ r. then_read r (λ b v. chain taken f (combined x.0 left b) (length u - length v) u)) (same x.0 (drop x.1 u) e)
+    ∙ then_where (g x.0 (drop x.1 u)) (λ b v. chain taken f (combined x.0 left b) (length u - length v) u) (λ b v. chain taken g (combined x.0 left b) (length u - length v) u) (λ b v h. ih (combined x.0 left b) (length u - length v))
 
 step_right : (taken : Join → Bool) (f g : Join → List ℕ → Read) → SameRight taken f g → (left : Expr) (c : ℕ) (u : List ℕ) → ((l : Expr) (k : ℕ) → chain taken f l k u ≡ chain taken g l k u) → (o : Option (Join × ℕ)) → on_join (Ok (left, c ∷ u)) (when taken o) (Goes taken f left u) ≡ on_join (Ok (left, c ∷ u)) (when taken o) (Goes taken g left u)
 step_right taken f g same left c u ih None = refl
@@ -127,9 +127,9 @@ module _ (m : ℕ) (right : Join → List ℕ → Read) (leaves : (op : Join) (t
   -- an operator of the next level: behind its right operand stands none within m
   next_goes : (left : Expr) (u : List ℕ) → TwoAt u → (x : Join × ℕ) → level_of x.0 ≡ suc m → Goes (is_level (suc m)) right left u x.0 x.1 ≡ Goes (within_level (suc m)) right left u x.0 x.1
   next_goes left u ih x l =
-      then_where (right x.0 (drop x.1 u)) (λ b v. chain (is_level (suc m)) right (joined x.0 left b) (length u - length v) u) (λ b v. All (joined x.0 left b) (length u - length v) u)
+      then_where (right x.0 (drop x.1 u)) (λ b v. chain (is_level (suc m)) right (combined x.0 left b) (length u - length v) u) (λ b v. All (combined x.0 left b) (length u - length v) u)
       (λ b v h.
-      let whole : Expr = joined x.0 left b in
+      let whole : Expr = combined x.0 left b in
       let k : ℕ = length u - length v in
       let rest : Suffix u v = suffix_then u (drop x.1 u) v (x.1, refl) (leaves x.0 (drop x.1 u) b v h) in
       let none : Inner whole k u ≡ Ok (whole, v) = chain_from (within_level m) right whole u v rest ∙ ends x.0 (drop x.1 u) b v l h right whole in
@@ -137,8 +137,8 @@ module _ (m : ℕ) (right : Join → List ℕ → Read) (leaves : (op : Join) (t
 
   within_goes : (left : Expr) (u : List ℕ) → TwoAt u → (x : Join × ℕ) → then_read (Goes (within_level m) right left u x.0 x.1) Outer ≡ Goes (within_level (suc m)) right left u x.0 x.1
   within_goes left u ih x =
-      then_then (right x.0 (drop x.1 u)) (λ b v. Inner (joined x.0 left b) (length u - length v) u) Outer
-      ∙ then_where (right x.0 (drop x.1 u)) (λ b v. then_read (Inner (joined x.0 left b) (length u - length v) u) Outer) (λ b v. All (joined x.0 left b) (length u - length v) u) (λ b v h. ih (joined x.0 left b) (length u - length v))
+      then_then (right x.0 (drop x.1 u)) (λ b v. Inner (combined x.0 left b) (length u - length v) u) Outer
+      ∙ then_where (right x.0 (drop x.1 u)) (λ b v. then_read (Inner (combined x.0 left b) (length u - length v) u) Outer) (λ b v. All (combined x.0 left b) (length u - length v) u) (λ b v h. ih (combined x.0 left b) (length u - length v))
 
   step_two : (left : Expr) (c : ℕ) (u : List ℕ) → TwoAt u → (x : Join × ℕ) → join_at (c ∷ u) ≡ Some x → (p q r : Bool) → within_level m x.0 ≡ p → is_level (suc m) x.0 ≡ q → within_level (suc m) x.0 ≡ r → Lies m (level_of x.0) p q r → then_read (Inner left 0 (c ∷ u)) Outer ≡ All left 0 (c ∷ u)
   step_two left c u ih x e _ _ _ p q r within =
@@ -254,24 +254,24 @@ no_join : (taken : Join → Bool) (x : Join × ℕ) → when taken (join_at []) 
 unfolding join_at
 no_join taken x e = absurd cc
 
-step_at : (d n : ℕ) (left : Expr) (c : ℕ) (u : List ℕ) (x : Join × ℕ) → when (within_level n) (join_at (c ∷ u)) ≡ Some x → chain (within_level n) (tighter d) left 0 (c ∷ u) ≡ then_read (tighter d x.0 (drop (1 + x.1) (c ∷ u))) (λ b v. chain (within_level n) (tighter d) (joined x.0 left b) (length u - length v) u)
+step_at : (d n : ℕ) (left : Expr) (c : ℕ) (u : List ℕ) (x : Join × ℕ) → when (within_level n) (join_at (c ∷ u)) ≡ Some x → chain (within_level n) (tighter d) left 0 (c ∷ u) ≡ then_read (tighter d x.0 (drop (1 + x.1) (c ∷ u))) (λ b v. chain (within_level n) (tighter d) (combined x.0 left b) (length u - length v) u)
 step_at d n left c u x e =
     let one : suc x.1 ≡ 1 + x.1 = omega arith in
     chain_takes (within_level n) (tighter d) left c u x e
-    ∙ ap (λ k. then_read (tighter d x.0 (drop k (c ∷ u))) (λ b v. chain (within_level n) (tighter d) (joined x.0 left b) (length u - length v) u)) one
+    ∙ ap (λ k. then_read (tighter d x.0 (drop k (c ∷ u))) (λ b v. chain (within_level n) (tighter d) (combined x.0 left b) (length u - length v) u)) one
 
 pub climb_fails : {X : Type 0} (view : X → Expr × List ℕ) (e : Failure) (d n : ℕ) (left : Expr) (t : List ℕ) (x : Join × ℕ) (all : Read) → chain (within_level n) (tighter d) left 0 t ≡ all → when (within_level n) (join_at t) ≡ Some x → Gives view (Err e) (tighter d x.0 (drop (1 + x.1) t)) → Gives view (Err e) all
 climb_fails view e d n left [] x all h j g = absurd (no_join (within_level n) x j)
 climb_fails view e d n left (c ∷ u) x all h j g =
-    subst (Gives view (Err e)) (sym (step_at d n left c u x j) ∙ h) (err_then view e (tighter d x.0 (drop (1 + x.1) (c ∷ u))) (λ b v. chain (within_level n) (tighter d) (joined x.0 left b) (length u - length v) u) g)
+    subst (Gives view (Err e)) (sym (step_at d n left c u x j) ∙ h) (err_then view e (tighter d x.0 (drop (1 + x.1) (c ∷ u))) (λ b v. chain (within_level n) (tighter d) (combined x.0 left b) (length u - length v) u) g)
 
-pub climb_goes : (d n : ℕ) (left : Expr) (t : List ℕ) (x : Join × ℕ) (b : Expr) (v : List ℕ) (all : Read) → chain (within_level n) (tighter d) left 0 t ≡ all → when (within_level n) (join_at t) ≡ Some x → tighter d x.0 (drop (1 + x.1) t) ≡ Ok (b, v) → chain (within_level n) (tighter d) (joined x.0 left b) 0 v ≡ all
+pub climb_goes : (d n : ℕ) (left : Expr) (t : List ℕ) (x : Join × ℕ) (b : Expr) (v : List ℕ) (all : Read) → chain (within_level n) (tighter d) left 0 t ≡ all → when (within_level n) (join_at t) ≡ Some x → tighter d x.0 (drop (1 + x.1) t) ≡ Ok (b, v) → chain (within_level n) (tighter d) (combined x.0 left b) 0 v ≡ all
 climb_goes d n left [] x b v all h j g = absurd (no_join (within_level n) x j)
 climb_goes d n left (c ∷ u) x b v all h j g =
     let one : 1 + x.1 ≡ suc x.1 = omega arith in
     let rest : Suffix u v = suffix_then u (drop x.1 u) v (x.1, refl) (level_leaves (operand_at d) (operand_at_leaves d) (level_of x.0 - 1) (drop x.1 u) b v (sym (ap (λ k. tighter d x.0 (drop k (c ∷ u))) one) ∙ g)) in
-    sym (chain_from (within_level n) (tighter d) (joined x.0 left b) u v rest)
-    ∙ sym (ap (λ r. then_read r (λ b v. chain (within_level n) (tighter d) (joined x.0 left b) (length u - length v) u)) g)
+    sym (chain_from (within_level n) (tighter d) (combined x.0 left b) u v rest)
+    ∙ sym (ap (λ r. then_read r (λ b v. chain (within_level n) (tighter d) (combined x.0 left b) (length u - length v) u)) g)
     ∙ sym (step_at d n left c u x j) ∙ h
 
 pub climb_stops : (d n : ℕ) (left : Expr) (t : List ℕ) (all : Read) → chain (within_level n) (tighter d) left 0 t ≡ all → when (within_level n) (join_at t) ≡ None → all ≡ Ok (left, t)

@@ -23,9 +23,9 @@ use Rattle.tks_parse.proofs.Spelled.{parts_read, script_reads, quoted_whole, nex
 use Rattle.tks_text.proofs.Prefixes.{prefix_of}
 use Rattle.tks_parse.proofs.Tests.{or_left, or_right}
 use Rattle.tks_parse.proofs.Told.{index_rest}
-use Rattle.tks_expr.specs.Expression.{Then, SpaceThen, LiteralThen, IsOnePart, OperandThen, StartsOperand, SignedThen, JoinThen, JoinedThen, LevelThen, ChoiceThen, InsideThen, ExprThen, opens_operand, OperandFails, SignedFails, LevelFails, ChoiceFails, InsideFails, ExprFails, ExprOf}
+use Rattle.tks_expr.specs.Expression.{Then, SpaceThen, LiteralThen, IsOnePart, OperandThen, StartsOperand, SignedThen, JoinThen, ChainThen, LevelThen, ChoiceThen, InsideThen, ExprThen, opens_operand, OperandFails, SignedFails, LevelFails, ChoiceFails, InsideFails, ExprFails, ExprOf}
 use Rattle.tks_expr.specs.Literal.{literal_len, numeral_len, word_len}
-use Rattle.tks_expr.specs.Sign.{level_of, joined, unary_of}
+use Rattle.tks_expr.specs.Sign.{level_of, combined, unary_of}
 use Rattle.tks_expr.specs.Tree.{Expr, Literal, Made, One, Choice}
 use Rattle.tks_expr.specs.Reading.{Read, then_read, bad_syntax, begins_name, trim, made, made_text, literal, close, operand, signs, under, signed, chain, is_level, level, colon, question, inner, operand_at, choice_at, ended_read, expr_of}
 use Rattle.tks_expr.specs.declared.operator.Unary.{Unary}
@@ -260,31 +260,31 @@ module _ (operand' : List ℕ → Read) (leaves : (t : List ℕ) → Leaves t (o
   Behind n a u = chain (is_level (suc n)) (Right n) a 0 u
 
   -- behind an operator of the level, its right operand is read
-  join_goes : (n : ℕ) (op : Join) (a : Expr) (u w : List ℕ) → level_of op ≡ suc n → JoinThen op u w → (r : Read) → level operand' n w ≡ r → Behind n a u ≡ then_read r (λ b v. Behind n (joined op a b) v)
+  join_goes : (n : ℕ) (op : Join) (a : Expr) (u w : List ℕ) → level_of op ≡ suc n → JoinThen op u w → (r : Read) → level operand' n w ≡ r → Behind n a u ≡ then_read r (λ b v. Behind n (combined op a b) v)
   join_goes n op a [] w l q r e = absurd q
   join_goes n op a (c ∷ z) w l q r e =
       let taken : is_level (suc n) op ≡ true = eq-eqb (level_of op) (suc n) l in
       let from : level operand' n (drop q.0 z) ≡ r = ap (level operand' n) q.2 ∙ e in
       chain_takes (is_level (suc n)) (Right n) a c z (op, q.0) (when_some (is_level (suc n)) (c ∷ z) (op, q.0) q.1 taken)
-      ∙ then_where (level operand' n (drop q.0 z)) (λ b v. chain (is_level (suc n)) (Right n) (joined op a b) (length z - length v) z) (λ b v. Behind n (joined op a b) v)
-      (λ b v h. chain_from (is_level (suc n)) (Right n) (joined op a b) z v (suffix_then z (drop q.0 z) v (q.0, refl) (level_leaves operand' leaves n (drop q.0 z) b v h)))
-      ∙ ap (λ x. then_read x (λ b v. Behind n (joined op a b) v)) from
+      ∙ then_where (level operand' n (drop q.0 z)) (λ b v. chain (is_level (suc n)) (Right n) (combined op a b) (length z - length v) z) (λ b v. Behind n (combined op a b) v)
+      (λ b v h. chain_from (is_level (suc n)) (Right n) (combined op a b) z v (suffix_then z (drop q.0 z) v (q.0, refl) (level_leaves operand' leaves n (drop q.0 z) b v h)))
+      ∙ ap (λ x. then_read x (λ b v. Behind n (combined op a b) v)) from
 
-  joined_read : (n : ℕ) → ReadsThen (level operand' n) (L n) → (e : Expr) (t v : List ℕ) → JoinedThen (L n) (suc n) e t v → then_read (level operand' n t) (Behind n) ≡ Behind n e v
-  joined_read n below _ _ _ (JoinedThen.first e t v h) = ap (λ r. then_read r (Behind n)) (below e t v h)
-  joined_read n below _ _ _ (JoinedThen.more op a b t u w v j l q h) = joined_read n below a t u j ∙ join_goes n op a u w l q (Before b v) (below b w v h)
+  chain_read : (n : ℕ) → ReadsThen (level operand' n) (L n) → (e : Expr) (t v : List ℕ) → ChainThen (L n) (suc n) e t v → then_read (level operand' n t) (Behind n) ≡ Behind n e v
+  chain_read n below _ _ _ (ChainThen.first e t v h) = ap (λ r. then_read r (Behind n)) (below e t v h)
+  chain_read n below _ _ _ (ChainThen.more op a b t u w v j l q h) = chain_read n below a t u j ∙ join_goes n op a u w l q (Before b v) (below b w v h)
 
   level_read : (n : ℕ) → ReadsThen (level operand' n) (L n)
   unfolding level
   level_read zero e t v h = signed_read operand' Operand' reads e t v h
-  level_read (suc n) e t v h = joined_read n (level_read n) e t v h.0 ∙ chain_stops (is_level (suc n)) v h.1 (Right n) e
+  level_read (suc n) e t v h = chain_read n (level_read n) e t v h.0 ∙ chain_stops (is_level (suc n)) v h.1 (Right n) e
 
   module _ (Fault' : Fails) (faults : ReadsFault operand' Fault') where
     level_fault : (n : ℕ) → ReadsFault (level operand' n) (LevelFails Operand' Fault' n)
     unfolding level
     level_fault zero t f h = signed_fault operand' Fault' faults t f h
     level_fault (suc n) t f (inl h) = ap (λ r. then_read r (Behind n)) (level_fault n t f h)
-    level_fault (suc n) t f (inr (op, a, u, w, j, l, q, h)) = joined_read n (level_read n) a t u j ∙ join_goes n op a u w l q (Err f) (level_fault n w f h)
+    level_fault (suc n) t f (inr (op, a, u, w, j, l, q, h)) = chain_read n (level_read n) a t u j ∙ join_goes n op a u w l q (Err f) (level_fault n w f h)
 
 -- ---- `?:`, and all of it
 

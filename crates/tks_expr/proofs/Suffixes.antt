@@ -13,7 +13,7 @@ use Rattle.tks_parse.specs.Tree.{Script, Parts, no_part}
 use Rattle.tks_parse.specs.declared.syntax.Syntax.{Syntax}
 use Rattle.tks_parse.specs.declared.syntax.Syntax.TheVariants.{Expressions}
 use Rattle.tks_expr.specs.Literal.{literal_len}
-use Rattle.tks_expr.specs.Sign.{joined, join_at, unary_of}
+use Rattle.tks_expr.specs.Sign.{combined, join_at, unary_of}
 use Rattle.tks_expr.specs.Tree.{Expr, Literal, Made, Choice}
 use Rattle.tks_expr.specs.Reading.{Read, then_read, begins_name, trim, made, literal, close, operand, signs, under, signed, when, on_join, chain, is_level, level, colon, question, choice, inner, operand_at}
 use Rattle.tks_expr.specs.declared.operator.Unary.{Unary}
@@ -130,7 +130,7 @@ module _ (operand' : List ℕ → Read) (leaves : (t : List ℕ) → Leaves t (o
 
 -- an operator, and the right operand behind it
 abbrev pub Goes : (Join → Bool) → (Join → List ℕ → Read) → Expr → List ℕ → Join → ℕ → Read
-Goes taken right left u op n = then_read (right op (drop n u)) (λ b v. chain taken right (joined op left b) (length u - length v) u)
+Goes taken right left u op n = then_read (right op (drop n u)) (λ b v. chain taken right (combined op left b) (length u - length v) u)
 
 after_leaves : (c : ℕ) (u : List ℕ) (go : Expr → List ℕ → Read) → ((e : Expr) (v : List ℕ) → Leaves u (go e v)) → (r : Read) → Leaves (c ∷ u) (then_read r go)
 after_leaves c u go ih (Ok y) e w h = suffix_more c u w (ih y.0 y.1 e w h)
@@ -138,7 +138,7 @@ after_leaves c u go ih (Err f) e w h = absurd cc
 
 step_leaves : (taken : Join → Bool) (right : Join → List ℕ → Read) (left : Expr) (c : ℕ) (u : List ℕ) → ((l : Expr) (k : ℕ) → Leaves u (chain taken right l k u)) → (o : Option (Join × ℕ)) → Leaves (c ∷ u) (on_join (Ok (left, c ∷ u)) o (Goes taken right left u))
 step_leaves taken right left c u ih None = leaves_ok (c ∷ u) left (c ∷ u) (0, refl)
-step_leaves taken right left c u ih (Some x) = after_leaves c u (λ b v. chain taken right (joined x.0 left b) (length u - length v) u) (λ b v. ih (joined x.0 left b) (length u - length v)) (right x.0 (drop x.1 u))
+step_leaves taken right left c u ih (Some x) = after_leaves c u (λ b v. chain taken right (combined x.0 left b) (length u - length v) u) (λ b v. ih (combined x.0 left b) (length u - length v)) (right x.0 (drop x.1 u))
 
 chain_leaves : (taken : Join → Bool) (right : Join → List ℕ → Read) (left : Expr) (k : ℕ) (t : List ℕ) → Leaves t (chain taken right left k t)
 chain_leaves taken right left k [] = leaves_ok [] left [] (0, refl)

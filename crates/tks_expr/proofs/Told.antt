@@ -21,9 +21,9 @@ use Rattle.tks_parse.proofs.Spelled.{variable_at}
 use Rattle.tks_text.proofs.Prefixes.{prefix_passes}
 use Rattle.tks_parse.proofs.Tests.{if_case, and_cases, drop_one}
 use Rattle.tks_parse.proofs.Told.{BracketCase, bracket_is, bracket_fails, IndexCase, index_is, index_fails, PartCase, at_stop, at_char, at_escape, at_variable, at_bracket, at_index, at_fault, PartsOutcome, part_case, parts_told, brackets_told, indexes_told, index_rest}
-use Rattle.tks_expr.specs.Expression.{Then, SpaceThen, IsOnePart, OperandThen, StartsOperand, SignedThen, JoinedThen, LevelThen, ChoiceThen, InsideThen, ExprThen, opens_operand, OperandFails, SignedFails, LevelFails, ChoiceFails, InsideFails, ExprFails, ExprOf}
+use Rattle.tks_expr.specs.Expression.{Then, SpaceThen, IsOnePart, OperandThen, StartsOperand, SignedThen, ChainThen, LevelThen, ChoiceThen, InsideThen, ExprThen, opens_operand, OperandFails, SignedFails, LevelFails, ChoiceFails, InsideFails, ExprFails, ExprOf}
 use Rattle.tks_expr.specs.Literal.{literal_len, numeral_len, word_len}
-use Rattle.tks_expr.specs.Sign.{level_of, joined, join_at, unary_of}
+use Rattle.tks_expr.specs.Sign.{level_of, combined, join_at, unary_of}
 use Rattle.tks_expr.specs.Tree.{Expr, Made, One, Choice}
 use Rattle.tks_expr.specs.Reading.{Read, then_read, bad_syntax, begins_name, trim, made, made_text, literal, close, operand, signs, under, signed, when, on_join, chain, is_level, level, colon, question, inner, operand_at, choice_at, ended_read, expr_of}
 use Rattle.tks_expr.specs.declared.operator.Unary.{Unary}
@@ -229,29 +229,29 @@ module _ (operand' : List ℕ → Read) (Operand' : Then) (Fault' : Fails) (tell
   module _ (n : ℕ) (below : Tells (level operand' n) (L n) (M n)) (t : List ℕ) where
     -- what is told behind a left operand, and k bytes
     abbrev Goes : List ℕ → Type 0
-    Goes u = (left : Expr) (k : ℕ) → JoinedThen (L n) (suc n) left t (drop k u) → Told (L (suc n)) (M (suc n)) t (chain (is_level (suc n)) (λ op. level operand' n) left k u)
+    Goes u = (left : Expr) (k : ℕ) → ChainThen (L n) (suc n) left t (drop k u) → Told (L (suc n)) (M (suc n)) t (chain (is_level (suc n)) (λ op. level operand' n) left k u)
 
-    right_told : (left : Expr) (c : ℕ) (u : List ℕ) → Goes u → JoinedThen (L n) (suc n) left t (c ∷ u) → (x : Join × ℕ) → level_of x.0 ≡ suc n → join_at (c ∷ u) ≡ Some x → (r : Read) → Leaves (drop x.1 u) r → Told (L n) (M n) (drop x.1 u) r → Told (L (suc n)) (M (suc n)) t (then_read r (λ b v. chain (is_level (suc n)) (λ op. level operand' n) (joined x.0 left b) (length u - length v) u))
+    right_told : (left : Expr) (c : ℕ) (u : List ℕ) → Goes u → ChainThen (L n) (suc n) left t (c ∷ u) → (x : Join × ℕ) → level_of x.0 ≡ suc n → join_at (c ∷ u) ≡ Some x → (r : Read) → Leaves (drop x.1 u) r → Told (L n) (M n) (drop x.1 u) r → Told (L (suc n)) (M (suc n)) t (then_read r (λ b v. chain (is_level (suc n)) (λ op. level operand' n) (combined x.0 left b) (length u - length v) u))
     right_told left c u ih j x l e (Err f) s h = inr (x.0, left, c ∷ u, drop x.1 u, j, l, (x.1, e, refl), h)
     right_told left c u ih j x l e (Ok y) s h =
         let rest : Suffix u y.1 = suffix_then u (drop x.1 u) y.1 (x.1, refl) (s y.0 y.1 refl) in
-        ih (joined x.0 left y.0) (length u - length y.1)
-        (subst (λ w. JoinedThen (L n) (suc n) (joined x.0 left y.0) t w) (sym (suffix_drop u y.1 rest)) (JoinedThen.more x.0 left y.0 t (c ∷ u) (drop x.1 u) y.1 j l (x.1, e, refl) h))
+        ih (combined x.0 left y.0) (length u - length y.1)
+        (subst (λ w. ChainThen (L n) (suc n) (combined x.0 left y.0) t w) (sym (suffix_drop u y.1 rest)) (ChainThen.more x.0 left y.0 t (c ∷ u) (drop x.1 u) y.1 j l (x.1, e, refl) h))
 
-    step_told : (left : Expr) (c : ℕ) (u : List ℕ) → Goes u → JoinedThen (L n) (suc n) left t (c ∷ u) → (o : Option (Join × ℕ)) → when (is_level (suc n)) (join_at (c ∷ u)) ≡ o → Told (L (suc n)) (M (suc n)) t (on_join (Ok (left, c ∷ u)) o (λ op k. then_read (level operand' n (drop k u)) (λ b v. chain (is_level (suc n)) (λ op. level operand' n) (joined op left b) (length u - length v) u)))
+    step_told : (left : Expr) (c : ℕ) (u : List ℕ) → Goes u → ChainThen (L n) (suc n) left t (c ∷ u) → (o : Option (Join × ℕ)) → when (is_level (suc n)) (join_at (c ∷ u)) ≡ o → Told (L (suc n)) (M (suc n)) t (on_join (Ok (left, c ∷ u)) o (λ op k. then_read (level operand' n (drop k u)) (λ b v. chain (is_level (suc n)) (λ op. level operand' n) (combined op left b) (length u - length v) u)))
     step_told left c u ih j None e = (j, e)
     step_told left c u ih j (Some x) e =
         let is = when_is (is_level (suc n)) (c ∷ u) (join_at (c ∷ u)) x refl e in
         right_told left c u ih j x (eqb-true (level_of x.0) (suc n) is.1) is.0 (level operand' n (drop x.1 u)) (level_leaves operand' leaves n (drop x.1 u)) (below (drop x.1 u))
 
     chain_told : (u : List ℕ) → Goes u
-    chain_told [] left k j = (subst (λ w. JoinedThen (L n) (suc n) left t w) (drop_none k) j, ap (when (is_level (suc n))) join_none)
+    chain_told [] left k j = (subst (λ w. ChainThen (L n) (suc n) left t w) (drop_none k) j, ap (when (is_level (suc n))) join_none)
     chain_told (c ∷ u) left (suc k) j = chain_told u left k j
     chain_told (c ∷ u) left zero j = step_told left c u (chain_told u) j (when (is_level (suc n)) (join_at (c ∷ u))) refl
 
     from_first : (r : Read) → Told (L n) (M n) t r → Told (L (suc n)) (M (suc n)) t (then_read r (λ a u. chain (is_level (suc n)) (λ op. level operand' n) a 0 u))
     from_first (Err f) h = inl h
-    from_first (Ok x) h = chain_told x.1 x.0 0 (JoinedThen.first x.0 t x.1 h)
+    from_first (Ok x) h = chain_told x.1 x.0 0 (ChainThen.first x.0 t x.1 h)
 
   pub level_told : (n : ℕ) → Tells (level operand' n) (L n) (M n)
   unfolding level

@@ -15,7 +15,7 @@ use Rattle.tks_parse.specs.declared.mode.Mode.TheVariants.{Quoted}
 use Rattle.tks_parse.specs.declared.syntax.Syntax.TheVariants.{Expressions}
 use Rattle.tks_expr.specs.Literal.{is_truth_word}
 use Rattle.tks_expr.specs.Reading.{when, is_level, loosest}
-use Rattle.tks_expr.specs.Sign.{level_of, joined, is_letter, join_at, unary_of}
+use Rattle.tks_expr.specs.Sign.{level_of, combined, is_letter, join_at, unary_of}
 use Rattle.tks_expr.specs.Tree.{Expr, Literal, Made, One, Choice}
 use Rattle.tks_expr.specs.declared.operator.Unary.{Unary}
 use Rattle.tks_expr.specs.declared.sign.Join.{Join}
@@ -74,14 +74,14 @@ JoinThen op [] v = ⊥
 JoinThen op (c ∷ u) v = (n : ℕ) × (join_at (c ∷ u) ≡ Some (op, n)) × (drop n u ≡ v)
 
 -- operands of the level below with operators of this level between them, to the left
-pub data JoinedThen (Below : Then) (n : ℕ) : Expr → List ℕ → List ℕ → Type 0 where
-  first : (e : Expr) (t v : List ℕ) → Below e t v → JoinedThen Below n e t v
-  more : (op : Join) (a b : Expr) (t u w v : List ℕ) → JoinedThen Below n a t u → level_of op ≡ n → JoinThen op u w → Below b w v → JoinedThen Below n (joined op a b) t v
+pub data ChainThen (Below : Then) (n : ℕ) : Expr → List ℕ → List ℕ → Type 0 where
+  first : (e : Expr) (t v : List ℕ) → Below e t v → ChainThen Below n e t v
+  more : (op : Join) (a b : Expr) (t u w v : List ℕ) → ChainThen Below n a t u → level_of op ≡ n → JoinThen op u w → Below b w v → ChainThen Below n (combined op a b) t v
 
 -- an expression of a level: up to where no operator of it, or of a tighter one, stands
 abbrev pub LevelThen : Then → ℕ → Then
 LevelThen Operand zero e t v = SignedThen Operand e t v
-LevelThen Operand (suc n) e t v = JoinedThen (LevelThen Operand n) (suc n) e t v × (when (is_level (suc n)) (join_at v) ≡ None)
+LevelThen Operand (suc n) e t v = ChainThen (LevelThen Operand n) (suc n) e t v × (when (is_level (suc n)) (join_at v) ≡ None)
 
 -- ---- `?:`, to the right
 
@@ -124,7 +124,7 @@ abbrev pub LevelFails : Then → Fails → ℕ → Fails
 LevelFails Operand OperandFault zero t fault = SignedFails OperandFault t fault
 LevelFails Operand OperandFault (suc n) t fault =
     LevelFails Operand OperandFault n t fault
-    ⊎ ((op : Join) × (a : Expr) × (u w : List ℕ) × JoinedThen (LevelThen Operand n) (suc n) a t u × (level_of op ≡ suc n) × JoinThen op u w × LevelFails Operand OperandFault n w fault)
+    ⊎ ((op : Join) × (a : Expr) × (u w : List ℕ) × ChainThen (LevelThen Operand n) (suc n) a t u × (level_of op ≡ suc n) × JoinThen op u w × LevelFails Operand OperandFault n w fault)
 
 pub data ChoiceFails (Inside Operand : Then) (InsideFails OperandFault : Fails) : List ℕ → ScriptFault → Type 0 where
   condition : (t : List ℕ) (fault : ScriptFault) → LevelFails Operand OperandFault loosest t fault → ChoiceFails Inside Operand InsideFails OperandFault t fault

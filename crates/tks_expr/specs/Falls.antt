@@ -3,7 +3,7 @@ use Rattle.std.specs.Prelude.{◌≤◌, ◌<◌, List, [], ◌∷◌}
 use Rattle.std.proofs.Common.{arith}
 use denote.Param.Weighed.{most}
 use Rattle.tks_expr.specs.Reading.{under}
-use Rattle.tks_expr.specs.Sign.{joined}
+use Rattle.tks_expr.specs.Sign.{combined}
 use Rattle.tks_expr.specs.Tree.{Expr, One, expr_size}
 use Rattle.tks_expr.specs.View.{linked, expr_of}
 use Rattle.tks_expr.specs.declared.operator.Unary.{Unary}
@@ -18,16 +18,16 @@ under_falls : (ops : List Unary) (e : Expr) → expr_size e ≤ expr_size (under
 under_falls [] e = omega arith
 under_falls (op ∷ ops) e = omega (arith, under_falls ops e)
 
-joined_falls : (op : Join) (a b : Expr) → (expr_size a < expr_size (joined op a b)) × (expr_size b < expr_size (joined op a b))
-joined_falls (Of op) a b = (omega arith, omega arith)
-joined_falls And a b = (omega arith, omega arith)
-joined_falls Or a b = (omega arith, omega arith)
+combined_falls : (op : Join) (a b : Expr) → (expr_size a < expr_size (combined op a b)) × (expr_size b < expr_size (combined op a b))
+combined_falls (Of op) a b = (omega arith, omega arith)
+combined_falls And a b = (omega arith, omega arith)
+combined_falls Or a b = (omega arith, omega arith)
 
 linked_falls : (left : Expr) (links : List Link) → (expr_size left ≤ expr_size (linked left links)) × (most deep-Link links ≤ expr_size (linked left links))
 linked_falls left [] = (omega arith, omega arith)
 linked_falls left (link ∷ links) =
-    let two = joined_falls link.join left link.right in
-    let rest = linked_falls (joined link.join left link.right) links in
+    let two = combined_falls link.join left link.right in
+    let rest = linked_falls (combined link.join left link.right) links in
     (omega (arith, two.0, rest.0), omega (arith, two.1, rest.0, rest.1))
 
 pub node_falls : (n : Node) → deep-Node n ≤ expr_size (expr_of n)
@@ -35,8 +35,8 @@ node_falls (node.Literal text) = omega arith
 node_falls (node.Made parts) = omega arith
 node_falls (node.Signs outer sign operand) = omega (arith, under_falls outer.items (One sign operand))
 node_falls (node.Chain first link links) =
-    let whole = joined link.join first link.right in
-    let two = joined_falls link.join first link.right in
+    let whole = combined link.join first link.right in
+    let two = combined_falls link.join first link.right in
     let rest = linked_falls whole links.items in
     omega (arith, two.0, two.1, rest.0, rest.1)
 node_falls (node.Choice c a b) = omega arith

@@ -11,7 +11,7 @@ use Rattle.tks_parse.specs.Tree.{Script, Parts, no_part}
 use Rattle.tks_parse.specs.declared.syntax.Syntax.{Syntax}
 use Rattle.tks_parse.specs.declared.syntax.Syntax.TheVariants.{Expressions}
 use Rattle.tks_expr.specs.Literal.{literal_len}
-use Rattle.tks_expr.specs.Sign.{level_of, joined, join_at, unary_of}
+use Rattle.tks_expr.specs.Sign.{level_of, combined, join_at, unary_of}
 use Rattle.tks_expr.specs.Tree.{Expr, Literal, Made, One, Choice}
 use Rattle.tks_expr.specs.declared.operator.Unary.{Unary}
 use Rattle.tks_expr.specs.declared.sign.Join.{Join}
@@ -102,7 +102,7 @@ abbrev pub chain : (Join → Bool) → (Join → List ℕ → Read) → Expr →
 chain taken right left k [] = Ok (left, [])
 chain taken right left (suc k) (c ∷ u) = chain taken right left k u
 chain taken right left zero (c ∷ u) = on_join (Ok (left, c ∷ u)) (when taken (join_at (c ∷ u)))
-    (λ op n. then_read (right op (drop n u)) (λ b v. chain taken right (joined op left b) (length u - length v) u))
+    (λ op n. then_read (right op (drop n u)) (λ b v. chain taken right (combined op left b) (length u - length v) u))
 
 -- an operator of this level; one of it or of a tighter level
 abbrev pub is_level : ℕ → Join → Bool

@@ -36,10 +36,10 @@ level_of And = 10
 level_of Or = 11
 
 -- two operands and what joins them
-abbrev pub joined : Join → Expr → Expr → Expr
-joined (Of op) a b = Two op a b
-joined And a b = Both a b
-joined Or a b = Either a b
+abbrev pub combined : Join → Expr → Expr → Expr
+combined (Of op) a b = Two op a b
+combined And a b = Both a b
+combined Or a b = Either a b
 
 abbrev pub is_letter : ℕ → Bool
 is_letter c = (nat_le 65 c && nat_le c 90) || (nat_le 97 c && nat_le c 122)

@@ -1,7 +1,7 @@
 -- The code's trees, as the definitions see them.
 use Rattle.std.specs.Prelude.{List, [], ◌∷◌}
 use Rattle.tks_expr.specs.Reading.{under}
-use Rattle.tks_expr.specs.Sign.{joined}
+use Rattle.tks_expr.specs.Sign.{combined}
 use Rattle.tks_expr.specs.Tree.{Expr, Literal, Made, One, Choice}
 use Rattle.tks_expr.specs.declared.tree.Link.{Link}
 use Rattle.tks_expr.specs.declared.tree.Node.{Node}
@@ -10,11 +10,11 @@ use Rattle.tks_expr.specs.declared.tree.Node.TheVariants as node
 -- a left operand and the links behind it: each operator takes all that stands before it
 abbrev pub linked : Expr → List Link → Expr
 linked left [] = left
-linked left (link ∷ links) = linked (joined link.join left link.right) links
+linked left (link ∷ links) = linked (combined link.join left link.right) links
 
 abbrev pub expr_of : Node → Expr
 expr_of (node.Literal text) = Literal text
 expr_of (node.Made parts) = Made parts
 expr_of (node.Signs outer sign operand) = under outer.items (One sign operand)
-expr_of (node.Chain first link links) = linked (joined link.join first link.right) links.items
+expr_of (node.Chain first link links) = linked (combined link.join first link.right) links.items
 expr_of (node.Choice c a b) = Choice c a b
