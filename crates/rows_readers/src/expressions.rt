@@ -102,7 +102,7 @@ fn show(shown: &mut String, expr: Expr, depth: u32) -> Option<()> {
             shown.push(')').ok()?;
             show_links(shown, links, depth - 1)
         }
-        Node::Choice(condition, first, second) => {
+        Node::Conditional(condition, first, second) => {
             shown.push('(').ok()?;
             show(shown, condition, depth - 1)?;
             shown.push_str("?(").ok()?;

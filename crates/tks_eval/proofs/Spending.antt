@@ -15,7 +15,7 @@ use Rattle.tks_tcl.specs.Plain as commands
 use Rattle.tks_tcl.specs.Plain.{plain}
 use Rattle.tks_tcl.specs.Lists.{concatenated, joined_by}
 use Rattle.tks_tcl.specs.Variables.{stores}
-use Rattle.tks_expr.specs.Tree.{Expr, Literal, Made, One, Two, Both, Either, Choice}
+use Rattle.tks_expr.specs.Tree.{Expr, Literal, Made, One, Two, Both, Either, Conditional}
 use Rattle.tks_expr.specs.Operation.{truth_of, applied, applied_unary, result_of}
 use Rattle.tks_expr.specs.Reading.{expr_of}
 use Rattle.tks_expr.specs.Value.{choice}
@@ -193,7 +193,7 @@ module _ {S : Type 0} where
           after_spends bound (value_does limits inner a state variables fuel) (λ x. by_truth limits inner x (text_done (codes "1")) (and_then (value_does limits inner b) (truth_told limits inner)))
           (value_spends a bound state variables fuel h)
           (λ x. choice_spends (truth_of x) (text_done (codes "1")) (and_then (value_does limits inner b) (truth_told limits inner)) bound (text_spends (codes "1") bound) right)
-      value_spends (Choice c a b) bound state variables fuel h =
+      value_spends (Conditional c a b) bound state variables fuel h =
           after_spends bound (value_does limits inner c state variables fuel) (λ x. by_truth limits inner x (value_does limits inner a) (value_does limits inner b))
           (value_spends c bound state variables fuel h)
           (λ x. choice_spends (truth_of x) (value_does limits inner a) (value_does limits inner b) bound (value_spends a bound) (value_spends b bound))

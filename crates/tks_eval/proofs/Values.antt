@@ -6,7 +6,7 @@ use Rattle.tks_text.specs.declared.fault.ScriptFault.{ScriptFault}
 use Rattle.tks_text.specs.declared.limits.Limits.{Limits}
 use Rattle.tks_vars.specs.Variables.{Variables}
 use Rattle.tks_tcl.specs.Cause.{fits, value_or_fault}
-use Rattle.tks_expr.specs.Tree.{Expr, Literal, Made, One, Two, Both, Either, Choice}
+use Rattle.tks_expr.specs.Tree.{Expr, Literal, Made, One, Two, Both, Either, Conditional}
 use Rattle.tks_expr.specs.Sign.{combined}
 use Rattle.tks_expr.specs.View.{linked}
 use Rattle.tks_expr.specs.Reading.{under}
@@ -174,7 +174,7 @@ module _ {S : Type 0} where
       value_passes (frame.Truth links) code text state variables fuel h =
           ap (links_do limits inner links) (after_other code text state variables fuel (truth_told limits inner) h) ∙ links_pass links code text state variables fuel h
       value_passes (frame.Signs signs) code text state variables fuel h = after_other code text state variables fuel (λ x. told_text limits inner (signs_applied signs x)) h
-      value_passes (frame.Choice a b) code text state variables fuel h =
+      value_passes (frame.Conditional a b) code text state variables fuel h =
           after_other code text state variables fuel (λ x. by_truth limits inner x (value_does limits inner a) (value_does limits inner b)) h
       value_passes frame.Whole code text state variables fuel h =
           after_other code text state variables fuel
@@ -185,7 +185,7 @@ module _ {S : Type 0} where
       value_stops (frame.Right operator x links) why = links_stop links why
       value_stops (frame.Truth links) why = links_stop links why
       value_stops (frame.Signs signs) why = refl
-      value_stops (frame.Choice a b) why = refl
+      value_stops (frame.Conditional a b) why = refl
       value_stops frame.Whole why = refl
 
 -- ---- weights
@@ -197,7 +197,7 @@ value_weighs (One op a) = omega arith
 value_weighs (Two op a b) = omega arith
 value_weighs (Both a b) = omega arith
 value_weighs (Either a b) = omega arith
-value_weighs (Choice c a b) = omega arith
+value_weighs (Conditional c a b) = omega arith
 
 links_weigh_some : (links : List Link) → 0 < links_weight links
 links_weigh_some [] = omega arith
@@ -208,7 +208,7 @@ frame_weighs (frame.Links links) = links_weigh_some links
 frame_weighs (frame.Right operator x links) = omega arith
 frame_weighs (frame.Truth links) = omega arith
 frame_weighs (frame.Signs signs) = omega arith
-frame_weighs (frame.Choice a b) = omega arith
+frame_weighs (frame.Conditional a b) = omega arith
 frame_weighs frame.Whole = omega arith
 
 combined_weighs : (op : Join) (a b : Expr) → value_weight (combined op a b) ≡ value_weight a + value_weight b + 5

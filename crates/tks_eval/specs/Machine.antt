@@ -6,7 +6,7 @@ use Rattle.tks_parse.specs.Reading.{script_of}
 use Rattle.tks_parse.specs.View.{parts_of, words_of, script_of_commands}
 use Rattle.tks_vars.specs.Variables.{Variables}
 use Rattle.tks_eval.specs.Outcome.{Outcome, End, Meaning, Next, after, after_body, caught, appended, fails, given}
-use Rattle.tks_expr.specs.Tree.{Expr, Literal, Made, One, Two, Both, Either, Choice}
+use Rattle.tks_expr.specs.Tree.{Expr, Literal, Made, One, Two, Both, Either, Conditional}
 use Rattle.tks_expr.specs.declared.tree.Link.{Link}
 use Rattle.tks_eval.specs.Evaluation.{element_name, with_value, parts_do, words_in, words_do, commands_do, evaluate, value_does, after_truth, branches_do, catch_ends, each, settled, without_frame, returned, after_script, scripts_do}
 use Rattle.tks_eval.specs.Values.{after_value}
@@ -81,7 +81,7 @@ value_weight (One op a) = value_weight a + 2
 value_weight (Two op a b) = value_weight a + value_weight b + 5
 value_weight (Both a b) = value_weight a + value_weight b + 5
 value_weight (Either a b) = value_weight a + value_weight b + 5
-value_weight (Choice c a b) = value_weight c + value_weight a + value_weight b + 4
+value_weight (Conditional c a b) = value_weight c + value_weight a + value_weight b + 4
 
 abbrev pub links_weight : List Link → ℕ
 links_weight [] = 1
@@ -92,7 +92,7 @@ value_frame_weight (value.Links links) = links_weight links
 value_frame_weight (value.Right operator x links) = links_weight links + 1
 value_frame_weight (value.Truth links) = links_weight links + 1
 value_frame_weight (value.Signs signs) = 1
-value_frame_weight (value.Choice a b) = value_weight a + value_weight b + 1
+value_frame_weight (value.Conditional a b) = value_weight a + value_weight b + 1
 value_frame_weight value.Whole = 1
 
 abbrev pub text_weight : List ℕ → ℕ

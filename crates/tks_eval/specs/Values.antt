@@ -54,5 +54,5 @@ module _ {S : Type 0} (limits : Limits) (inner : Level S) where
   after_value (frame.Right operator x links) outcome = links_do links (after outcome (λ y. told_text (applied operator x y)))
   after_value (frame.Truth links) outcome = links_do links (after outcome truth_told)
   after_value (frame.Signs signs) outcome = after outcome (λ x. told_text (signs_applied signs x))
-  after_value (frame.Choice a b) outcome = after outcome (λ x. by_truth x (value_does limits inner a) (value_does limits inner b))
+  after_value (frame.Conditional a b) outcome = after outcome (λ x. by_truth x (value_does limits inner a) (value_does limits inner b))
   after_value frame.Whole outcome = result_told limits outcome

@@ -35,7 +35,7 @@ pub enum ValueFrame {
     /// Signs, the innermost first.
     Signs(Rest<Unary>),
     /// `?:`, at its condition.
-    Choice(Expr, Expr),
+    Conditional(Expr, Expr),
     /// `expr`, at the whole expression.
     Whole,
 }
@@ -129,9 +129,9 @@ impl Machine {
                 self.stack.push(Frame::Value(ValueFrame::Links(links)))?;
                 Ok(Now::Value(first))
             }
-            Node::Choice(condition, if_true, if_false) => {
+            Node::Conditional(condition, if_true, if_false) => {
                 self.stack
-                    .push(Frame::Value(ValueFrame::Choice(if_true, if_false)))?;
+                    .push(Frame::Value(ValueFrame::Conditional(if_true, if_false)))?;
                 Ok(Now::Value(condition))
             }
         }
@@ -171,7 +171,7 @@ impl Machine {
                 let text = apply_signs(alloc, signs, text)?;
                 Ok(Now::At(Ending { code: 0, text }))
             }
-            ValueFrame::Choice(if_true, if_false) => {
+            ValueFrame::Conditional(if_true, if_false) => {
                 if truth_of(&text)? {
                     Ok(Now::Value(if_true))
                 } else {

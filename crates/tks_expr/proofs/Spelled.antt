@@ -23,11 +23,11 @@ use Rattle.tks_parse.proofs.Spelled.{parts_read, script_reads, quoted_whole, nex
 use Rattle.tks_text.proofs.Prefixes.{prefix_of}
 use Rattle.tks_parse.proofs.Tests.{or_left, or_right}
 use Rattle.tks_parse.proofs.Told.{index_rest}
-use Rattle.tks_expr.specs.Expression.{Then, SpaceThen, LiteralThen, IsOnePart, OperandThen, StartsOperand, SignedThen, JoinThen, ChainThen, LevelThen, ChoiceThen, InsideThen, ExprThen, opens_operand, OperandFails, SignedFails, LevelFails, ChoiceFails, InsideFails, ExprFails, ExprOf}
+use Rattle.tks_expr.specs.Expression.{Then, SpaceThen, LiteralThen, IsOnePart, OperandThen, StartsOperand, SignedThen, JoinThen, ChainThen, LevelThen, ConditionalThen, InsideThen, ExprThen, opens_operand, OperandFails, SignedFails, LevelFails, ConditionalFails, InsideFails, ExprFails, ExprOf}
 use Rattle.tks_expr.specs.Literal.{literal_len, numeral_len, word_len}
 use Rattle.tks_expr.specs.Sign.{level_of, combined, unary_of}
-use Rattle.tks_expr.specs.Tree.{Expr, Literal, Made, One, Choice}
-use Rattle.tks_expr.specs.Reading.{Read, then_read, bad_syntax, begins_name, trim, made, made_text, literal, close, operand, signs, under, signed, chain, is_level, level, colon, question, inner, operand_at, choice_at, ended_read, expr_of}
+use Rattle.tks_expr.specs.Tree.{Expr, Literal, Made, One, Conditional}
+use Rattle.tks_expr.specs.Reading.{Read, then_read, bad_syntax, begins_name, trim, made, made_text, literal, close, operand, signs, under, signed, chain, is_level, level, colon, question, inner, operand_at, conditional_at, ended_read, expr_of}
 use Rattle.tks_expr.specs.declared.operator.Unary.{Unary}
 use Rattle.tks_expr.specs.declared.sign.Join.{Join}
 use Rattle.tks_expr.proofs.Literals.{LiteralAt, literal_reads, literal_spelled}
@@ -303,40 +303,40 @@ module _ (d : ℕ) (inside : ReadsThen (inner d) (InsideThen d)) where
   no_colon c a [] h = refl
   no_colon c a (x ∷ v) h = rw h refl
 
-  asked : (c : Expr) (t u : List ℕ) → LevelThen Operand 11 c t (63 ∷ u) → choice_at d t ≡ then_read (inner d u) (colon (inner d) c)
+  asked : (c : Expr) (t u : List ℕ) → LevelThen Operand 11 c t (63 ∷ u) → conditional_at d t ≡ then_read (inner d u) (colon (inner d) c)
   asked c t u h = ap (λ r. then_read r (question (inner d))) (condition_read c t (63 ∷ u) h)
 
-  parted : (c a : Expr) (t u w : List ℕ) → LevelThen Operand 11 c t (63 ∷ u) → InsideThen d a u (58 ∷ w) → choice_at d t ≡ then_read (inner d w) (λ b v. Before (Choice c a b) v)
+  parted : (c a : Expr) (t u w : List ℕ) → LevelThen Operand 11 c t (63 ∷ u) → InsideThen d a u (58 ∷ w) → conditional_at d t ≡ then_read (inner d w) (λ b v. Before (Conditional c a b) v)
   parted c a t u w h i = asked c t u h ∙ ap (λ r. then_read r (colon (inner d) c)) (inside a u (58 ∷ w) i)
 
-  choice_read : ReadsThen (choice_at d) (ExprThen d)
-  choice_read _ _ _ (ChoiceThen.binary e t v h b) = ap (λ r. then_read r (question (inner d))) (condition_read e t v h) ∙ no_question e v b
-  choice_read _ _ _ (ChoiceThen.choice c a b t u w v h i k) = parted c a t u w h i ∙ ap (λ r. then_read r (λ b v. Before (Choice c a b) v)) (inside b w v k)
+  conditional_read : ReadsThen (conditional_at d) (ExprThen d)
+  conditional_read _ _ _ (ConditionalThen.binary e t v h b) = ap (λ r. then_read r (question (inner d))) (condition_read e t v h) ∙ no_question e v b
+  conditional_read _ _ _ (ConditionalThen.conditional c a b t u w v h i k) = parted c a t u w h i ∙ ap (λ r. then_read r (λ b v. Before (Conditional c a b) v)) (inside b w v k)
 
   module _ (faults : ReadsFault (inner d) (InsideFails d)) where
-    choice_fault : ReadsFault (choice_at d) (ExprFails d)
-    choice_fault _ _ (ChoiceFails.condition t f h) =
+    conditional_fault : ReadsFault (conditional_at d) (ExprFails d)
+    conditional_fault _ _ (ConditionalFails.condition t f h) =
         ap (λ r. then_read r (question (inner d)))
         (level_fault (operand_at d) (operand_at_leaves d) Operand (operand_read d (InsideThen d) inside) (OperandFails (InsideThen d) (InsideFails d) d) (operand_fault d (InsideThen d) inside (InsideFails d) faults) 11 t f h)
-    choice_fault _ _ (ChoiceFails.middle c t u f h k) = asked c t u h ∙ ap (λ r. then_read r (colon (inner d) c)) (faults u f k)
-    choice_fault _ _ (ChoiceFails.no_colon c a t u v h i b) = asked c t u h ∙ ap (λ r. then_read r (colon (inner d) c)) (inside a u v i) ∙ no_colon c a v b
-    choice_fault _ _ (ChoiceFails.right c a t u w f h i k) = parted c a t u w h i ∙ ap (λ r. then_read r (λ b v. Before (Choice c a b) v)) (faults w f k)
+    conditional_fault _ _ (ConditionalFails.middle c t u f h k) = asked c t u h ∙ ap (λ r. then_read r (colon (inner d) c)) (faults u f k)
+    conditional_fault _ _ (ConditionalFails.no_colon c a t u v h i b) = asked c t u h ∙ ap (λ r. then_read r (colon (inner d) c)) (inside a u v i) ∙ no_colon c a v b
+    conditional_fault _ _ (ConditionalFails.right c a t u w f h i k) = parted c a t u w h i ∙ ap (λ r. then_read r (λ b v. Before (Conditional c a b) v)) (faults w f k)
 
 inside_read : (d : ℕ) → ReadsThen (inner d) (InsideThen d)
 unfolding inner
 inside_read zero e t v h = absurd h
-inside_read (suc d) e t v h = choice_read d (inside_read d) e t v h
+inside_read (suc d) e t v h = conditional_read d (inside_read d) e t v h
 
 inside_fault : (d : ℕ) → ReadsFault (inner d) (InsideFails d)
 unfolding inner
 inside_fault zero t f h = ap Err (sym h)
-inside_fault (suc d) t f h = choice_fault d (inside_read d) (inside_fault d) t f h
+inside_fault (suc d) t f h = conditional_fault d (inside_read d) (inside_fault d) t f h
 
 expr_read : (t : List ℕ) (r : Result Expr ScriptFault) → ExprOf t r → r ≡ expr_of t
 unfolding expr_of
-expr_read t (Ok e) h = sym (ap ended_read (choice_read 32 (inside_read 32) e t [] h))
-expr_read t (Err f) (inl h) = sym (ap ended_read (choice_fault 32 (inside_read 32) (inside_fault 32) t f h))
-expr_read t (Err f) (inr (e, c, v, h, k)) = sym (ap ended_read (choice_read 32 (inside_read 32) e t (c ∷ v) h) ∙ ap Err (sym k))
+expr_read t (Ok e) h = sym (ap ended_read (conditional_read 32 (inside_read 32) e t [] h))
+expr_read t (Err f) (inl h) = sym (ap ended_read (conditional_fault 32 (inside_read 32) (inside_fault 32) t f h))
+expr_read t (Err f) (inr (e, c, v, h, k)) = sym (ap ended_read (conditional_read 32 (inside_read 32) e t (c ∷ v) h) ∙ ap Err (sym k))
 
 -- a text spells the expression that is read, or has the fault that is read, and no other
 pub spells_expr_of : (t : List ℕ) (r : Result Expr ScriptFault) → ExprOf t r ↔ (r ≡ expr_of t)

@@ -14,8 +14,8 @@ use Rattle.tks_parse.specs.declared.syntax.Syntax.{Syntax}
 use Rattle.tks_parse.specs.declared.syntax.Syntax.TheVariants.{Expressions}
 use Rattle.tks_expr.specs.Literal.{literal_len}
 use Rattle.tks_expr.specs.Sign.{combined, join_at, unary_of}
-use Rattle.tks_expr.specs.Tree.{Expr, Literal, Made, Choice}
-use Rattle.tks_expr.specs.Reading.{Read, then_read, begins_name, trim, made, literal, close, operand, signs, under, signed, when, on_join, chain, is_level, level, colon, question, choice, inner, operand_at}
+use Rattle.tks_expr.specs.Tree.{Expr, Literal, Made, Conditional}
+use Rattle.tks_expr.specs.Reading.{Read, then_read, begins_name, trim, made, literal, close, operand, signs, under, signed, when, on_join, chain, is_level, level, colon, question, conditional, inner, operand_at}
 use Rattle.tks_expr.specs.declared.operator.Unary.{Unary}
 use Rattle.tks_expr.specs.declared.sign.Join.{Join}
 
@@ -159,7 +159,7 @@ module _ (inner' : List ℕ → Read) (inside : (t : List ℕ) → Leaves t (inn
   colon_leaves c a [] = leaves_fault [] expression_syntax
   colon_leaves c a (x ∷ u) =
       if_case (Leaves (x ∷ u)) (eqb x 58) _ _
-      (λ _. leaves_behind (x ∷ u) u _ (1, refl) (leaves_then u (inner' u) (λ b v. Ok (Choice c a b, v)) (inside u) (λ b v. leaves_ok v (Choice c a b) v (0, refl))))
+      (λ _. leaves_behind (x ∷ u) u _ (1, refl) (leaves_then u (inner' u) (λ b v. Ok (Conditional c a b, v)) (inside u) (λ b v. leaves_ok v (Conditional c a b) v (0, refl))))
       (λ _. leaves_fault (x ∷ u) expression_syntax)
 
   question_leaves : (c : Expr) (u : List ℕ) → Leaves u (question inner' c u)
@@ -169,13 +169,13 @@ module _ (inner' : List ℕ → Read) (inside : (t : List ℕ) → Leaves t (inn
       (λ _. leaves_behind (x ∷ u) u _ (1, refl) (leaves_then u (inner' u) (colon inner' c) (inside u) (colon_leaves c)))
       (λ _. leaves_ok (x ∷ u) c (x ∷ u) (0, refl))
 
-  choice_leaves : (operand' : List ℕ → Read) → ((t : List ℕ) → Leaves t (operand' t)) → (t : List ℕ) → Leaves t (choice inner' operand' t)
-  choice_leaves operand' leaves t = leaves_then t (level operand' 11 t) (question inner') (level_leaves operand' leaves 11 t) question_leaves
+  conditional_leaves : (operand' : List ℕ → Read) → ((t : List ℕ) → Leaves t (operand' t)) → (t : List ℕ) → Leaves t (conditional inner' operand' t)
+  conditional_leaves operand' leaves t = leaves_then t (level operand' 11 t) (question inner') (level_leaves operand' leaves 11 t) question_leaves
 
 pub inner_leaves : (d : ℕ) (t : List ℕ) → Leaves t (inner d t)
 unfolding inner
 inner_leaves zero t = leaves_fault t _
-inner_leaves (suc d) t = choice_leaves (inner d) (inner_leaves d) (operand_at d) (operand_leaves (inner d) (script.nest d) (script.index d) (inner_leaves d)) t
+inner_leaves (suc d) t = conditional_leaves (inner d) (inner_leaves d) (operand_at d) (operand_leaves (inner d) (script.nest d) (script.index d) (inner_leaves d)) t
 
 pub operand_at_leaves : (d : ℕ) (t : List ℕ) → Leaves t (operand_at d t)
 operand_at_leaves d = operand_leaves (inner d) (script.nest d) (script.index d) (inner_leaves d)

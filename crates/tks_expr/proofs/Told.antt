@@ -21,11 +21,11 @@ use Rattle.tks_parse.proofs.Spelled.{variable_at}
 use Rattle.tks_text.proofs.Prefixes.{prefix_passes}
 use Rattle.tks_parse.proofs.Tests.{if_case, and_cases, drop_one}
 use Rattle.tks_parse.proofs.Told.{BracketCase, bracket_is, bracket_fails, IndexCase, index_is, index_fails, PartCase, at_stop, at_char, at_escape, at_variable, at_bracket, at_index, at_fault, PartsOutcome, part_case, parts_told, brackets_told, indexes_told, index_rest}
-use Rattle.tks_expr.specs.Expression.{Then, SpaceThen, IsOnePart, OperandThen, StartsOperand, SignedThen, ChainThen, LevelThen, ChoiceThen, InsideThen, ExprThen, opens_operand, OperandFails, SignedFails, LevelFails, ChoiceFails, InsideFails, ExprFails, ExprOf}
+use Rattle.tks_expr.specs.Expression.{Then, SpaceThen, IsOnePart, OperandThen, StartsOperand, SignedThen, ChainThen, LevelThen, ConditionalThen, InsideThen, ExprThen, opens_operand, OperandFails, SignedFails, LevelFails, ConditionalFails, InsideFails, ExprFails, ExprOf}
 use Rattle.tks_expr.specs.Literal.{literal_len, numeral_len, word_len}
 use Rattle.tks_expr.specs.Sign.{level_of, combined, join_at, unary_of}
-use Rattle.tks_expr.specs.Tree.{Expr, Made, One, Choice}
-use Rattle.tks_expr.specs.Reading.{Read, then_read, bad_syntax, begins_name, trim, made, made_text, literal, close, operand, signs, under, signed, when, on_join, chain, is_level, level, colon, question, inner, operand_at, choice_at, ended_read, expr_of}
+use Rattle.tks_expr.specs.Tree.{Expr, Made, One, Conditional}
+use Rattle.tks_expr.specs.Reading.{Read, then_read, bad_syntax, begins_name, trim, made, made_text, literal, close, operand, signs, under, signed, when, on_join, chain, is_level, level, colon, question, inner, operand_at, conditional_at, ended_read, expr_of}
 use Rattle.tks_expr.specs.declared.operator.Unary.{Unary}
 use Rattle.tks_expr.specs.declared.sign.Join.{Join}
 use Rattle.tks_expr.proofs.Literals.{literal_reads, literal_spelled}
@@ -262,40 +262,40 @@ module _ (operand' : List ℕ → Read) (Operand' : Then) (Fault' : Fails) (tell
 
 module _ (inner' : List ℕ → Read) (Inside : Then) (InsideF : Fails) (inside : Tells inner' Inside InsideF) (Operand' : Then) (Fault' : Fails) where
   abbrev C : Then
-  C = ChoiceThen Inside Operand'
+  C = ConditionalThen Inside Operand'
 
   abbrev D : Fails
-  D = ChoiceFails Inside Operand' InsideF Fault'
+  D = ConditionalFails Inside Operand' InsideF Fault'
 
-  last_told : (c a : Expr) (t u w : List ℕ) → LevelThen Operand' 11 c t (63 ∷ u) → Inside a u (58 ∷ w) → (r : Read) → Told Inside InsideF w r → Told C D t (then_read r (λ b v. Ok (Choice c a b, v)))
-  last_told c a t u w h i (Ok x) k = ChoiceThen.choice c a x.0 t u w x.1 h i k
-  last_told c a t u w h i (Err f) k = ChoiceFails.right c a t u w f h i k
+  last_told : (c a : Expr) (t u w : List ℕ) → LevelThen Operand' 11 c t (63 ∷ u) → Inside a u (58 ∷ w) → (r : Read) → Told Inside InsideF w r → Told C D t (then_read r (λ b v. Ok (Conditional c a b, v)))
+  last_told c a t u w h i (Ok x) k = ConditionalThen.conditional c a x.0 t u w x.1 h i k
+  last_told c a t u w h i (Err f) k = ConditionalFails.right c a t u w f h i k
 
   colon_told : (c : Expr) (t u : List ℕ) → LevelThen Operand' 11 c t (63 ∷ u) → (r : Read) → Told Inside InsideF u r → Told C D t (then_read r (colon inner' c))
-  colon_told c t u h (Err f) k = ChoiceFails.middle c t u f h k
-  colon_told c t u h (Ok (a, [])) k = ChoiceFails.no_colon c a t u [] h k tt
+  colon_told c t u h (Err f) k = ConditionalFails.middle c t u f h k
+  colon_told c t u h (Ok (a, [])) k = ConditionalFails.no_colon c a t u [] h k tt
   colon_told c t u h (Ok (a, x ∷ w)) k =
       if_case (Told C D t) (eqb x 58) _ _
       (λ q. last_told c a t u w h (subst (λ z. Inside a u (z ∷ w)) (eqb-true x 58 q) k) (inner' w) (inside w))
-      (λ q. ChoiceFails.no_colon c a t u (x ∷ w) h k q)
+      (λ q. ConditionalFails.no_colon c a t u (x ∷ w) h k q)
 
   question_told : (t : List ℕ) (r : Read) → Told (LevelThen Operand' 11) (LevelFails Operand' Fault' 11) t r → Told C D t (then_read r (question inner'))
-  question_told t (Err f) h = ChoiceFails.condition t f h
-  question_told t (Ok (c, [])) h = ChoiceThen.binary c t [] h tt
+  question_told t (Err f) h = ConditionalFails.condition t f h
+  question_told t (Ok (c, [])) h = ConditionalThen.binary c t [] h tt
   question_told t (Ok (c, x ∷ u)) h =
       if_case (Told C D t) (eqb x 63) _ _
       (λ q. colon_told c t u (subst (λ z. LevelThen Operand' 11 c t (z ∷ u)) (eqb-true x 63 q) h) (inner' u) (inside u))
-      (λ q. ChoiceThen.binary c t (x ∷ u) h q)
+      (λ q. ConditionalThen.binary c t (x ∷ u) h q)
 
-choice_from : (d : ℕ) → Tells (inner d) (InsideThen d) (InsideFails d) → Tells (choice_at d) (ExprThen d) (ExprFails d)
-choice_from d inside t =
+conditional_from : (d : ℕ) → Tells (inner d) (InsideThen d) (InsideFails d) → Tells (conditional_at d) (ExprThen d) (ExprFails d)
+conditional_from d inside t =
     question_told (inner d) (InsideThen d) (InsideFails d) inside (OperandThen (InsideThen d) d) (OperandFails (InsideThen d) (InsideFails d) d) t (level (operand_at d) 11 t)
     (level_told (operand_at d) (OperandThen (InsideThen d) d) (OperandFails (InsideThen d) (InsideFails d) d) (operand_told d inside) (operand_at_leaves d) 11 t)
 
 inside_told : (d : ℕ) → Tells (inner d) (InsideThen d) (InsideFails d)
 unfolding inner
 inside_told zero t = refl
-inside_told (suc d) t = choice_from d (inside_told d) t
+inside_told (suc d) t = conditional_from d (inside_told d) t
 
 whole_told : (t : List ℕ) (r : Read) → Told (ExprThen 32) (ExprFails 32) t r → ExprOf t (ended_read r)
 whole_told t (Err f) h = inl h
@@ -305,4 +305,4 @@ whole_told t (Ok (e, c ∷ v)) h = inr (e, c, v, h, refl)
 -- each text spells what is read of it
 pub expr_told : (t : List ℕ) → ExprOf t (expr_of t)
 unfolding expr_of
-expr_told t = whole_told t (choice_at 32 t) (choice_from 32 (inside_told 32) t)
+expr_told t = whole_told t (conditional_at 32 t) (conditional_from 32 (inside_told 32) t)

@@ -16,7 +16,7 @@ use Rattle.tks_parse.specs.declared.syntax.Syntax.TheVariants.{Expressions}
 use Rattle.tks_expr.specs.Literal.{is_truth_word}
 use Rattle.tks_expr.specs.Reading.{when, is_level, loosest}
 use Rattle.tks_expr.specs.Sign.{level_of, combined, is_letter, join_at, unary_of}
-use Rattle.tks_expr.specs.Tree.{Expr, Literal, Made, One, Choice}
+use Rattle.tks_expr.specs.Tree.{Expr, Literal, Made, One, Conditional}
 use Rattle.tks_expr.specs.declared.operator.Unary.{Unary}
 use Rattle.tks_expr.specs.declared.sign.Join.{Join}
 
@@ -85,17 +85,17 @@ LevelThen Operand (suc n) e t v = ChainThen (LevelThen Operand n) (suc n) e t v 
 
 -- ---- `?:`, to the right
 
-pub data ChoiceThen (Inside Operand : Then) : Expr → List ℕ → List ℕ → Type 0 where
-  binary : (e : Expr) (t v : List ℕ) → LevelThen Operand loosest e t v → BeginsNot (λ c. c == 63) v → ChoiceThen Inside Operand e t v
-  choice : (c a b : Expr) (t u w v : List ℕ) → LevelThen Operand loosest c t (63 ∷ u) → Inside a u (58 ∷ w) → Inside b w v → ChoiceThen Inside Operand (Choice c a b) t v
+pub data ConditionalThen (Inside Operand : Then) : Expr → List ℕ → List ℕ → Type 0 where
+  binary : (e : Expr) (t v : List ℕ) → LevelThen Operand loosest e t v → BeginsNot (λ c. c == 63) v → ConditionalThen Inside Operand e t v
+  conditional : (c a b : Expr) (t u w v : List ℕ) → LevelThen Operand loosest c t (63 ∷ u) → Inside a u (58 ∷ w) → Inside b w v → ConditionalThen Inside Operand (Conditional c a b) t v
 
 -- what stands in parentheses, and on either side of a `:`, with d of them and of brackets left to open
 abbrev pub InsideThen : ℕ → Then
 InsideThen zero e t v = ⊥
-InsideThen (suc d) e t v = ChoiceThen (InsideThen d) (OperandThen (InsideThen d) d) e t v
+InsideThen (suc d) e t v = ConditionalThen (InsideThen d) (OperandThen (InsideThen d) d) e t v
 
 abbrev pub ExprThen : ℕ → Then
-ExprThen d = ChoiceThen (InsideThen d) (OperandThen (InsideThen d) d)
+ExprThen d = ConditionalThen (InsideThen d) (OperandThen (InsideThen d) d)
 
 -- ---- faults
 
@@ -126,18 +126,18 @@ LevelFails Operand OperandFault (suc n) t fault =
     LevelFails Operand OperandFault n t fault
     ⊎ ((op : Join) × (a : Expr) × (u w : List ℕ) × ChainThen (LevelThen Operand n) (suc n) a t u × (level_of op ≡ suc n) × JoinThen op u w × LevelFails Operand OperandFault n w fault)
 
-pub data ChoiceFails (Inside Operand : Then) (InsideFails OperandFault : Fails) : List ℕ → ScriptFault → Type 0 where
-  condition : (t : List ℕ) (fault : ScriptFault) → LevelFails Operand OperandFault loosest t fault → ChoiceFails Inside Operand InsideFails OperandFault t fault
-  middle : (c : Expr) (t u : List ℕ) (fault : ScriptFault) → LevelThen Operand loosest c t (63 ∷ u) → InsideFails u fault → ChoiceFails Inside Operand InsideFails OperandFault t fault
-  no_colon : (c a : Expr) (t u v : List ℕ) → LevelThen Operand loosest c t (63 ∷ u) → Inside a u v → BeginsNot (λ x. x == 58) v → ChoiceFails Inside Operand InsideFails OperandFault t expression_syntax
-  right : (c a : Expr) (t u w : List ℕ) (fault : ScriptFault) → LevelThen Operand loosest c t (63 ∷ u) → Inside a u (58 ∷ w) → InsideFails w fault → ChoiceFails Inside Operand InsideFails OperandFault t fault
+pub data ConditionalFails (Inside Operand : Then) (InsideFails OperandFault : Fails) : List ℕ → ScriptFault → Type 0 where
+  condition : (t : List ℕ) (fault : ScriptFault) → LevelFails Operand OperandFault loosest t fault → ConditionalFails Inside Operand InsideFails OperandFault t fault
+  middle : (c : Expr) (t u : List ℕ) (fault : ScriptFault) → LevelThen Operand loosest c t (63 ∷ u) → InsideFails u fault → ConditionalFails Inside Operand InsideFails OperandFault t fault
+  no_colon : (c a : Expr) (t u v : List ℕ) → LevelThen Operand loosest c t (63 ∷ u) → Inside a u v → BeginsNot (λ x. x == 58) v → ConditionalFails Inside Operand InsideFails OperandFault t expression_syntax
+  right : (c a : Expr) (t u w : List ℕ) (fault : ScriptFault) → LevelThen Operand loosest c t (63 ∷ u) → Inside a u (58 ∷ w) → InsideFails w fault → ConditionalFails Inside Operand InsideFails OperandFault t fault
 
 abbrev pub InsideFails : ℕ → Fails
 InsideFails zero t fault = fault ≡ too_deeply_nested
-InsideFails (suc d) t fault = ChoiceFails (InsideThen d) (OperandThen (InsideThen d) d) (InsideFails d) (OperandFails (InsideThen d) (InsideFails d) d) t fault
+InsideFails (suc d) t fault = ConditionalFails (InsideThen d) (OperandThen (InsideThen d) d) (InsideFails d) (OperandFails (InsideThen d) (InsideFails d) d) t fault
 
 abbrev pub ExprFails : ℕ → Fails
-ExprFails d = ChoiceFails (InsideThen d) (OperandThen (InsideThen d) d) (InsideFails d) (OperandFails (InsideThen d) (InsideFails d) d)
+ExprFails d = ConditionalFails (InsideThen d) (OperandThen (InsideThen d) d) (InsideFails d) (OperandFails (InsideThen d) (InsideFails d) d)
 
 -- the text t spells this expression, or has this fault first
 abbrev pub ExprOf : List ℕ → Result Expr ScriptFault → Type 0

@@ -39,4 +39,4 @@ node_falls (node.Chain first link links) =
     let two = combined_falls link.join first link.right in
     let rest = linked_falls whole links.items in
     omega (arith, two.0, two.1, rest.0, rest.1)
-node_falls (node.Choice c a b) = omega arith
+node_falls (node.Conditional c a b) = omega arith

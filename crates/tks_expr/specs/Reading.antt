@@ -12,7 +12,7 @@ use Rattle.tks_parse.specs.declared.syntax.Syntax.{Syntax}
 use Rattle.tks_parse.specs.declared.syntax.Syntax.TheVariants.{Expressions}
 use Rattle.tks_expr.specs.Literal.{literal_len}
 use Rattle.tks_expr.specs.Sign.{level_of, combined, join_at, unary_of}
-use Rattle.tks_expr.specs.Tree.{Expr, Literal, Made, One, Choice}
+use Rattle.tks_expr.specs.Tree.{Expr, Literal, Made, One, Conditional}
 use Rattle.tks_expr.specs.declared.operator.Unary.{Unary}
 use Rattle.tks_expr.specs.declared.sign.Join.{Join}
 
@@ -121,7 +121,7 @@ level operand (suc n) t = then_read (level operand n t) (λ a u. chain (is_level
 -- behind the middle operand
 abbrev pub colon : (List ℕ → Read) → Expr → Expr → List ℕ → Read
 colon inner c a [] = bad_syntax
-colon inner c a (x ∷ u) = if x == 58 then then_read (inner u) (λ b v. Ok (Choice c a b, v)) else bad_syntax
+colon inner c a (x ∷ u) = if x == 58 then then_read (inner u) (λ b v. Ok (Conditional c a b, v)) else bad_syntax
 
 -- behind the condition, where there is a `?`
 abbrev pub question : (List ℕ → Read) → Expr → List ℕ → Read
@@ -132,14 +132,14 @@ question inner c (x ∷ u) = if x == 63 then then_read (inner u) (colon inner c)
 abbrev pub loosest : ℕ
 loosest = 11
 
-abbrev pub choice : (List ℕ → Read) → (List ℕ → Read) → List ℕ → Read
-choice inner operand t = then_read (level operand loosest t) (question inner)
+abbrev pub conditional : (List ℕ → Read) → (List ℕ → Read) → List ℕ → Read
+conditional inner operand t = then_read (level operand loosest t) (question inner)
 
 -- ---- all of it, with `depth` brackets, parentheses and `?:` left to open
 
 unfoldable pub inner : ℕ → List ℕ → Read
 inner zero t = Err too_deeply_nested
-inner (suc depth) t = choice (inner depth) (operand (inner depth) (script.nest depth) (script.index depth)) t
+inner (suc depth) t = conditional (inner depth) (operand (inner depth) (script.nest depth) (script.index depth)) t
 
 abbrev pub operand_at : ℕ → List ℕ → Read
 operand_at depth t = operand (inner depth) (script.nest depth) (script.index depth) t
@@ -147,8 +147,8 @@ operand_at depth t = operand (inner depth) (script.nest depth) (script.index dep
 abbrev pub level_at : ℕ → ℕ → List ℕ → Read
 level_at depth n t = level (operand_at depth) n t
 
-abbrev pub choice_at : ℕ → List ℕ → Read
-choice_at depth t = choice (inner depth) (operand_at depth) t
+abbrev pub conditional_at : ℕ → List ℕ → Read
+conditional_at depth t = conditional (inner depth) (operand_at depth) t
 
 -- nothing stands behind the whole
 abbrev pub ended : Expr → List ℕ → Result Expr ScriptFault
@@ -161,4 +161,4 @@ ended_read (Err f) = Err f
 
 -- the expression of a whole text, or its first fault
 unfoldable pub expr_of : List ℕ → Result Expr ScriptFault
-expr_of t = ended_read (choice_at 32 t)
+expr_of t = ended_read (conditional_at 32 t)

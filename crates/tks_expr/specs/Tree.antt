@@ -8,7 +8,7 @@ use Rattle.tks_expr.specs.contracts.operator.Unary.{the_row as unary-row}
 use Rattle.tks_expr.specs.contracts.operator.Binary.{the_row as binary-row}
 
 -- a literal operand, one that is made of parts (variables, scripts in brackets, texts), and operators; Both is `&&`,
--- Either is `||`, Choice is `?:`
+-- Either is `||`, Conditional is `?:`
 pub data Expr : Type 0 where
   Literal : List ℕ → Expr
   Made : Parts → Expr
@@ -16,7 +16,7 @@ pub data Expr : Type 0 where
   Two : Binary → Expr → Expr → Expr
   Both : Expr → Expr → Expr
   Either : Expr → Expr → Expr
-  Choice : Expr → Expr → Expr → Expr
+  Conditional : Expr → Expr → Expr → Expr
 
 -- how many operators there are
 abbrev pub expr_size : Expr → ℕ
@@ -26,7 +26,7 @@ expr_size (One op a) = 1 + expr_size a
 expr_size (Two op a b) = 1 + expr_size a + expr_size b
 expr_size (Both a b) = 1 + expr_size a + expr_size b
 expr_size (Either a b) = 1 + expr_size a + expr_size b
-expr_size (Choice c a b) = 1 + expr_size c + expr_size a + expr_size b
+expr_size (Conditional c a b) = 1 + expr_size c + expr_size a + expr_size b
 
 -- ---- trees as stored values: each tree as a tree of numbers, and two with one code are one
 
@@ -37,7 +37,7 @@ code_expr (One op a) = gcons (gnum 2) (gcons (unary-row.coded.code op) (code_exp
 code_expr (Two op a b) = gcons (gnum 3) (gcons (binary-row.coded.code op) (gcons (code_expr a) (code_expr b)))
 code_expr (Both a b) = gcons (gnum 4) (gcons (code_expr a) (code_expr b))
 code_expr (Either a b) = gcons (gnum 5) (gcons (code_expr a) (code_expr b))
-code_expr (Choice c a b) = gcons (gnum 6) (gcons (code_expr c) (gcons (code_expr a) (code_expr b)))
+code_expr (Conditional c a b) = gcons (gnum 6) (gcons (code_expr c) (gcons (code_expr a) (code_expr b)))
 
 pub inj_expr : (x y : Expr) → code_expr x ≡ code_expr y → x ≡ y
 inj_expr (Literal s) (Literal t) p = let a = text_code.inj s t cc in cc
@@ -46,7 +46,7 @@ inj_expr (One f a) (One g b) p = let q = unary-row.coded.inj f g cc in let r = i
 inj_expr (Two f a b) (Two g x y) p = let q = binary-row.coded.inj f g cc in let r = inj_expr a x cc in let s = inj_expr b y cc in cc
 inj_expr (Both a b) (Both x y) p = let r = inj_expr a x cc in let s = inj_expr b y cc in cc
 inj_expr (Either a b) (Either x y) p = let r = inj_expr a x cc in let s = inj_expr b y cc in cc
-inj_expr (Choice c a b) (Choice z x y) p = let q = inj_expr c z cc in let r = inj_expr a x cc in let s = inj_expr b y cc in cc
+inj_expr (Conditional c a b) (Conditional z x y) p = let q = inj_expr c z cc in let r = inj_expr a x cc in let s = inj_expr b y cc in cc
 inj_expr _ _ p = cc
 
 abbrev pub expr_code : Coded Expr

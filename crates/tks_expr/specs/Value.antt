@@ -5,7 +5,7 @@ use Rattle.std.specs.Prelude.{ℕ, Bool, true, false, List, codes, Result, Ok, E
 use Rattle.tks_text.specs.declared.fault.ScriptFault.{ScriptFault}
 use Rattle.tks_parse.specs.Tree.{Parts}
 use Rattle.tks_expr.specs.Operation.{truth_of, applied, applied_unary, result_of}
-use Rattle.tks_expr.specs.Tree.{Expr, Literal, Made, One, Two, Both, Either, Choice}
+use Rattle.tks_expr.specs.Tree.{Expr, Literal, Made, One, Two, Both, Either, Conditional}
 
 module _ {O : Type 0} (done : List ℕ → O) (failed : ScriptFault → O) (after : O → (List ℕ → O) → O) (made : Parts → O) where
   -- a text, or an error
@@ -31,7 +31,7 @@ module _ {O : Type 0} (done : List ℕ → O) (failed : ScriptFault → O) (afte
   value (Two op a b) = after (value a) (λ x. after (value b) (λ y. told (applied op x y)))
   value (Both a b) = after (value a) (λ x. choice (truth_of x) (after (value b) truth_text) (done (codes "0")))
   value (Either a b) = after (value a) (λ x. choice (truth_of x) (done (codes "1")) (after (value b) truth_text))
-  value (Choice c a b) = after (value c) (λ x. choice (truth_of x) (value a) (value b))
+  value (Conditional c a b) = after (value c) (λ x. choice (truth_of x) (value a) (value b))
 
   -- the result of a whole expression
   abbrev pub expression_value : Expr → O

@@ -2,7 +2,7 @@
 use Rattle.std.specs.Prelude.{List, [], ◌∷◌}
 use Rattle.tks_expr.specs.Reading.{under}
 use Rattle.tks_expr.specs.Sign.{combined}
-use Rattle.tks_expr.specs.Tree.{Expr, Literal, Made, One, Choice}
+use Rattle.tks_expr.specs.Tree.{Expr, Literal, Made, One, Conditional}
 use Rattle.tks_expr.specs.declared.tree.Link.{Link}
 use Rattle.tks_expr.specs.declared.tree.Node.{Node}
 use Rattle.tks_expr.specs.declared.tree.Node.TheVariants as node
@@ -17,4 +17,4 @@ expr_of (node.Literal text) = Literal text
 expr_of (node.Made parts) = Made parts
 expr_of (node.Signs outer sign operand) = under outer.items (One sign operand)
 expr_of (node.Chain first link links) = linked (combined link.join first link.right) links.items
-expr_of (node.Choice c a b) = Choice c a b
+expr_of (node.Conditional c a b) = Conditional c a b

@@ -6,7 +6,7 @@ ghost use Rattle.tks_text.specs.Text.{IsText};
 ghost use Rattle.tks_text.specs.declared.fault.Failure.TheVariants as failure;
 ghost use Rattle.tks_parse.specs.Fault.{expression_syntax};
 ghost use Rattle.tks_parse.specs.Gives.{IsTextPiece};
-ghost use Rattle.tks_expr.specs.Reading.{then_read, begins_name, trim, made, literal, close, operand_at, signs, under, signed, when, within_level, level_at, question, colon, choice_at, inner, expr_of};
+ghost use Rattle.tks_expr.specs.Reading.{then_read, begins_name, trim, made, literal, close, operand_at, signs, under, signed, when, within_level, level_at, question, colon, conditional_at, inner, expr_of};
 ghost use Rattle.tks_expr.specs.Seen.{step_of};
 ghost use Rattle.tks_expr.specs.Sign.{join_at};
 ghost use Rattle.tks_expr.specs.View.{expr_of as node_expr, linked};
@@ -264,8 +264,8 @@ fn read_branches(
     match rest {
         [b':', behind @ ..] => {
             let (second, rest) = read_inner(alloc, behind, depth)?;
-            let choice = Expr::new(alloc, Node::Choice(condition, first, second))?;
-            Ok((choice, rest))
+            let conditional = Expr::new(alloc, Node::Conditional(condition, first, second))?;
+            Ok((conditional, rest))
         }
         _ => Err(bad_syntax()),
     }
@@ -273,9 +273,9 @@ fn read_branches(
 
 // An expression.
 #[cycle(parse)]
-fn read_choice(alloc: Global, text: &[u8], depth: u32) -> Result<(Expr, &[u8]), Failure>
+fn read_conditional(alloc: Global, text: &[u8], depth: u32) -> Result<(Expr, &[u8]), Failure>
     requires { IsText text.now }
-    ensures gives { Gives (λ x. (x.0, x.1.now)) result (choice_at depth text.now) }
+    ensures gives { Gives (λ x. (x.0, x.1.now)) result (conditional_at depth text.now) }
     ensures bound { IfOk result (λ x. length x.1.now ≤ length text.now) }
     ensures text { IfOk result (λ x. IsText x.1.now) }
 {
@@ -298,7 +298,7 @@ fn read_inner(alloc: Global, text: &[u8], depth: u32) -> Result<(Expr, &[u8]), F
     if depth == 0 {
         return Err(Syntax::Scripts.fault(ErrorNumber::TooDeeplyNested));
     }
-    read_choice(alloc, text, depth - 1)
+    read_conditional(alloc, text, depth - 1)
 }
 
 /// The expression that a text spells (expr(n)), or its first fault: of a script in brackets its own, more than 32
@@ -307,7 +307,7 @@ fn read_inner(alloc: Global, text: &[u8], depth: u32) -> Result<(Expr, &[u8]), F
 pub fn parse_expr(alloc: Global, text: &Txt) -> Result<Expr, Failure>
     ensures read { Gives (λ e. e) result (expr_of text.now) }
 {
-    let (expr, rest) = read_choice(alloc, text.as_bytes(), MAX_DEPTH)?;
+    let (expr, rest) = read_conditional(alloc, text.as_bytes(), MAX_DEPTH)?;
     if !rest.is_empty() {
         return Err(bad_syntax());
     }

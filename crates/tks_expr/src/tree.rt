@@ -33,7 +33,7 @@ pub enum Node {
     /// An operand, and the links behind it in the order of the text, the first of them apart.
     Chain(Expr, Link, Vec<Link>),
     /// `?:`, which passes over one of its last two operands.
-    Choice(Expr, Expr, Expr),
+    Conditional(Expr, Expr, Expr),
 }
 
 /// An operator and its right operand. The left one is all that stands before it in its chain.

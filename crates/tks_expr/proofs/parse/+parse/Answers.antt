@@ -6,7 +6,7 @@ use Rattle.tks_expr.specs.declared.tree.Expr.{Expr}
 use Rattle.tks_expr.proofs.parse.+parse.Goals as goal
 
 pub read_inner-returns-clause-gives : goal.read_inner-returns-clause-gives
-read_inner-returns-clause-gives t c = rw (inner_opens c.args.depth c.args.text.now (omega arith)) c.read_choice.ensures.gives
+read_inner-returns-clause-gives t c = rw (inner_opens c.args.depth c.args.text.now (omega arith)) c.read_conditional.ensures.gives
 
 pub read_level-returns-in_err-first-clause-gives : goal.read_level-returns-in_err-first-clause-gives
 read_level-returns-in_err-first-clause-gives t c =

@@ -23,8 +23,8 @@ decreases-read_level l = 17 * l.depth + 4 + l.level
 abbrev pub decreases-read_branches : goal.decreases-read_branches
 decreases-read_branches l = 17 * l.depth + 1
 
-abbrev pub decreases-read_choice : goal.decreases-read_choice
-decreases-read_choice l = 17 * l.depth + 16
+abbrev pub decreases-read_conditional : goal.decreases-read_conditional
+decreases-read_conditional l = 17 * l.depth + 16
 
 abbrev pub invariant-read_level-joins : goal.invariant-read_level-joins
 invariant-read_level-joins l = record {
