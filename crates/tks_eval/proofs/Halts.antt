@@ -20,7 +20,7 @@ use Rattle.tks_text.specs.declared.fault.Failure.TheVariants as failure
 use Rattle.tks_tcl.specs.Cause.{value_or_fault}
 use Rattle.tks_expr.specs.Operation.{truth_of}
 use Rattle.tks_expr.specs.Reading.{expr_of}
-use Rattle.tks_expr.specs.Value.{choice}
+use Rattle.tks_expr.specs.Value.{by_condition}
 use Rattle.tks_expr.specs.declared.tree.Link.{Link}
 use Rattle.tks_eval.specs.Values.{told_text, by_truth, links_do}
 use Rattle.tks_eval.specs.Machine.{resume, GoesSo}
@@ -89,7 +89,7 @@ module _ {S : Type 0} (host : Meaning S) (limits : Limits) where
         (Err (halt_of_failure why)) m state variables
     truth_halts view links text first second (failure.Script fault) h =
         ap (λ v. resume host limits m.left m.stack (links_do limits (evaluate host limits m.left) links
-        (choice text_done (fails limits) and_then (made_text limits (evaluate host limits m.left)) v first second state variables m.fuel))) h
+        (by_condition text_done (fails limits) and_then (made_text limits (evaluate host limits m.left)) v first second state variables m.fuel))) h
         ∙ ap (resume host limits m.left m.stack) (links_fail limits (evaluate host limits m.left) links fault state variables m.fuel)
     truth_halts view links text first second failure.NoMemory h = tt
 

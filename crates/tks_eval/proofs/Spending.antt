@@ -18,7 +18,7 @@ use Rattle.tks_tcl.specs.Variables.{stores}
 use Rattle.tks_expr.specs.Tree.{Expr, Literal, Made, One, Two, Both, Either, Conditional}
 use Rattle.tks_expr.specs.Operation.{truth_of, applied, applied_unary, result_of}
 use Rattle.tks_expr.specs.Reading.{expr_of}
-use Rattle.tks_expr.specs.Value.{choice}
+use Rattle.tks_expr.specs.Value.{by_condition}
 use Rattle.tks_eval.specs.Outcome.{Outcome, End, Stopped, TooLarge, Next, Level, Answer, Unknown, Comes, PassesLimit, Meaning, after_step, after, after_body, after_next, caught, appended, fails, given}
 use Rattle.tks_eval.specs.Names.{control_named}
 use Rattle.tks_eval.specs.Branches.{Condition, branches}
@@ -159,17 +159,17 @@ module _ {S : Type 0} where
       told_spends (Ok x) bound state variables fuel h = h
       told_spends (Err fault) bound state variables fuel h = fails_spends fault bound state variables fuel h
 
-      choice_spends : (value : Result Bool ScriptFault) (first second : Next S) (bound : ℕ) → Within bound first → Within bound second
-          → Within bound (choice text_done (fails limits) and_then (made_text limits inner) value first second)
-      choice_spends (Ok true) first second bound f g state variables fuel h = f state variables fuel h
-      choice_spends (Ok false) first second bound f g state variables fuel h = g state variables fuel h
-      choice_spends (Err fault) first second bound f g state variables fuel h = fails_spends fault bound state variables fuel h
+      by_condition_spends : (value : Result Bool ScriptFault) (first second : Next S) (bound : ℕ) → Within bound first → Within bound second
+          → Within bound (by_condition text_done (fails limits) and_then (made_text limits inner) value first second)
+      by_condition_spends (Ok true) first second bound f g state variables fuel h = f state variables fuel h
+      by_condition_spends (Ok false) first second bound f g state variables fuel h = g state variables fuel h
+      by_condition_spends (Err fault) first second bound f g state variables fuel h = fails_spends fault bound state variables fuel h
 
       text_spends : (text : List ℕ) (bound : ℕ) → Within bound (text_done text)
       text_spends text bound state variables fuel h = h
 
       truth_spends : (text : List ℕ) (bound : ℕ) → Within bound (truth_told limits inner text)
-      truth_spends text bound = choice_spends (truth_of text) (text_done (codes "1")) (text_done (codes "0")) bound (text_spends (codes "1") bound) (text_spends (codes "0") bound)
+      truth_spends text bound = by_condition_spends (truth_of text) (text_done (codes "1")) (text_done (codes "0")) bound (text_spends (codes "1") bound) (text_spends (codes "0") bound)
 
       value_spends : (e : Expr) (bound : ℕ) → Within bound (value_does limits inner e)
       value_spends (Literal text) bound state variables fuel h = h
@@ -186,17 +186,17 @@ module _ {S : Type 0} where
           λ s v u k. after_spends bound (value_does limits inner b s v u) (truth_told limits inner) (value_spends b bound s v u k) (λ y. truth_spends y bound) in
           after_spends bound (value_does limits inner a state variables fuel) (λ x. by_truth limits inner x (and_then (value_does limits inner b) (truth_told limits inner)) (text_done (codes "0")))
           (value_spends a bound state variables fuel h)
-          (λ x. choice_spends (truth_of x) (and_then (value_does limits inner b) (truth_told limits inner)) (text_done (codes "0")) bound right (text_spends (codes "0") bound))
+          (λ x. by_condition_spends (truth_of x) (and_then (value_does limits inner b) (truth_told limits inner)) (text_done (codes "0")) bound right (text_spends (codes "0") bound))
       value_spends (Either a b) bound state variables fuel h =
           let right : Within bound (and_then (value_does limits inner b) (truth_told limits inner)) =
           λ s v u k. after_spends bound (value_does limits inner b s v u) (truth_told limits inner) (value_spends b bound s v u k) (λ y. truth_spends y bound) in
           after_spends bound (value_does limits inner a state variables fuel) (λ x. by_truth limits inner x (text_done (codes "1")) (and_then (value_does limits inner b) (truth_told limits inner)))
           (value_spends a bound state variables fuel h)
-          (λ x. choice_spends (truth_of x) (text_done (codes "1")) (and_then (value_does limits inner b) (truth_told limits inner)) bound (text_spends (codes "1") bound) right)
+          (λ x. by_condition_spends (truth_of x) (text_done (codes "1")) (and_then (value_does limits inner b) (truth_told limits inner)) bound (text_spends (codes "1") bound) right)
       value_spends (Conditional c a b) bound state variables fuel h =
           after_spends bound (value_does limits inner c state variables fuel) (λ x. by_truth limits inner x (value_does limits inner a) (value_does limits inner b))
           (value_spends c bound state variables fuel h)
-          (λ x. choice_spends (truth_of x) (value_does limits inner a) (value_does limits inner b) bound (value_spends a bound) (value_spends b bound))
+          (λ x. by_condition_spends (truth_of x) (value_does limits inner a) (value_does limits inner b) bound (value_spends a bound) (value_spends b bound))
 
       pub expression_spends : (text : List ℕ) (bound : ℕ) → Within bound (expression_does limits inner text)
       expression_spends text bound state variables fuel h =

@@ -12,7 +12,7 @@ use Rattle.tks_expr.specs.View.{linked}
 use Rattle.tks_expr.specs.Reading.{under}
 use Rattle.tks_expr.specs.Operation as texts
 use Rattle.tks_expr.specs.Operation.{truth_of, applied, applied_unary, result_of}
-use Rattle.tks_expr.specs.Value.{choice}
+use Rattle.tks_expr.specs.Value.{by_condition}
 use Rattle.tks_expr.specs.declared.operator.Unary.{Unary}
 use Rattle.tks_expr.specs.declared.sign.Join.{Join}
 use Rattle.tks_expr.specs.declared.sign.Join.TheVariants.{Of, And, Or}
@@ -150,15 +150,15 @@ module _ {S : Type 0} where
 
       -- ---- frames
 
-      abbrev by_choice : Result Bool ScriptFault → Next S
-      by_choice r = choice text_done (fails limits) and_then (made_text limits inner) r (text_done (codes "1")) (text_done (codes "0"))
+      abbrev one_or_zero : Result Bool ScriptFault → Next S
+      one_or_zero r = by_condition text_done (fails limits) and_then (made_text limits inner) r (text_done (codes "1")) (text_done (codes "0"))
 
       -- the truth of a text, told as a text
       pub truth_tells : (text : List ℕ) (state : S) (variables : Variables) (fuel : ℕ)
           → truth_told limits inner text state variables fuel ≡ told_text limits inner (truth_shown text) state variables fuel
       truth_tells text state variables fuel = elim (truth_of text) as (λ r.
-          by_choice r state variables fuel ≡ told_text limits inner (texts.after r (λ holds. Ok (cond holds (codes "1") (codes "0")))) state variables fuel) [
-            | Ok holds ↦ elim holds as (λ h. by_choice (Ok h) state variables fuel ≡ told_text limits inner (Ok (cond h (codes "1") (codes "0"))) state variables fuel) [
+          one_or_zero r state variables fuel ≡ told_text limits inner (texts.after r (λ holds. Ok (cond holds (codes "1") (codes "0")))) state variables fuel) [
+            | Ok holds ↦ elim holds as (λ h. one_or_zero (Ok h) state variables fuel ≡ told_text limits inner (Ok (cond h (codes "1") (codes "0"))) state variables fuel) [
               | true ↦ refl
               | false ↦ refl
             ]

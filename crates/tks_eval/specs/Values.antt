@@ -5,7 +5,7 @@ use Rattle.tks_text.specs.declared.limits.Limits.{Limits}
 use Rattle.tks_expr.specs.Tree.{Expr}
 use Rattle.tks_expr.specs.Operation.{truth_of, applied, applied_unary}
 use Rattle.tks_expr.specs.Operation as texts
-use Rattle.tks_expr.specs.Value.{told, choice, truth_text}
+use Rattle.tks_expr.specs.Value.{told, by_condition, truth_text}
 use Rattle.tks_expr.specs.declared.operator.Unary.{Unary}
 use Rattle.tks_expr.specs.declared.sign.Join.{Join}
 use Rattle.tks_expr.specs.declared.sign.Join.TheVariants.{Of, And, Or}
@@ -31,7 +31,7 @@ module _ {S : Type 0} (limits : Limits) (inner : Level S) where
 
   -- one of two things, by the truth of a text
   abbrev pub by_truth : List ℕ → Next S → Next S → Next S
-  by_truth text = choice text_done (fails limits) and_then (made_text limits inner) (truth_of text)
+  by_truth text = by_condition text_done (fails limits) and_then (made_text limits inner) (truth_of text)
 
   -- the truth of a text, as a text
   abbrev pub truth_told : List ℕ → Next S

@@ -14,14 +14,14 @@ module _ {O : Type 0} (done : List ℕ → O) (failed : ScriptFault → O) (afte
   told (Err fault) = failed fault
 
   -- one of two outcomes, by whether a condition holds
-  abbrev pub choice : Result Bool ScriptFault → O → O → O
-  choice (Ok true) where_true where_false = where_true
-  choice (Ok false) where_true where_false = where_false
-  choice (Err fault) where_true where_false = failed fault
+  abbrev pub by_condition : Result Bool ScriptFault → O → O → O
+  by_condition (Ok true) where_true where_false = where_true
+  by_condition (Ok false) where_true where_false = where_false
+  by_condition (Err fault) where_true where_false = failed fault
 
   -- `1` where a text holds as a condition, else `0`
   abbrev pub truth_text : List ℕ → O
-  truth_text text = choice (truth_of text) (done (codes "1")) (done (codes "0"))
+  truth_text text = by_condition (truth_of text) (done (codes "1")) (done (codes "0"))
 
   -- the text of an operand; `&&`, `||` and `?:` pass over what they don't need
   abbrev pub value : Expr → O
@@ -29,9 +29,9 @@ module _ {O : Type 0} (done : List ℕ → O) (failed : ScriptFault → O) (afte
   value (Made parts) = made parts
   value (One op a) = after (value a) (λ x. told (applied_unary op x))
   value (Two op a b) = after (value a) (λ x. after (value b) (λ y. told (applied op x y)))
-  value (Both a b) = after (value a) (λ x. choice (truth_of x) (after (value b) truth_text) (done (codes "0")))
-  value (Either a b) = after (value a) (λ x. choice (truth_of x) (done (codes "1")) (after (value b) truth_text))
-  value (Conditional c a b) = after (value c) (λ x. choice (truth_of x) (value a) (value b))
+  value (Both a b) = after (value a) (λ x. by_condition (truth_of x) (after (value b) truth_text) (done (codes "0")))
+  value (Either a b) = after (value a) (λ x. by_condition (truth_of x) (done (codes "1")) (after (value b) truth_text))
+  value (Conditional c a b) = after (value c) (λ x. by_condition (truth_of x) (value a) (value b))
 
   -- the result of a whole expression
   abbrev pub expression_value : Expr → O
