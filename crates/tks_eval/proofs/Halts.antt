@@ -12,7 +12,7 @@ use Rattle.tks_tcl.specs.declared.stop.Stop.{Stop}
 use Rattle.tks_tcl.specs.declared.stop.Stop.TheVariants as stop
 use Rattle.tks_eval.specs.Outcome.{Outcome, End, Stopped, Why, Next, Level, Answer, OutOfSteps, TooDeep, TooLarge, Meaning, after_step, fails, given}
 use Rattle.tks_eval.specs.Meets.{AnswersSo, StopsSo, FailsSo, TakesStep, TellsSo, ReadsSo, halt_of_interrupt, halt_of_failure}
-use Rattle.tks_eval.specs.Evaluation.{plain_does, host_does, evaluate, text_done, and_then, made_text, value_does, chosen, after_truth, tested}
+use Rattle.tks_eval.specs.Evaluation.{plain_does, host_does, evaluate, text_done, and_then, made_text, value_does, if_holds, after_truth, tested}
 use Rattle.tks_tcl.specs.Plain as commands
 use Rattle.tks_text.specs.Fault.{fault_text, Gives}
 use Rattle.tks_text.specs.declared.fault.Failure.{Failure}
@@ -100,7 +100,7 @@ module _ {S : Type 0} (host : Meaning S) (limits : Limits) where
         ap (λ f. resume host limits m.left m.stack (tested limits (evaluate host limits m.left) condition first second state variables f)) h.0
         ∙ ap (λ v. resume host limits m.left m.stack (after_truth limits (given limits (value_or_fault v) state variables m.fuel (λ e. value_does limits (evaluate host limits m.left) e state variables m.fuel)) first second)) h.1
         ∙ ap (resume host limits m.left m.stack) (after_fails limits fault state variables m.fuel
-        (λ text state variables fuel. given limits (value_or_fault (truth_of text)) state variables fuel (λ holds. chosen holds first second state variables fuel)))
+        (λ text state variables fuel. given limits (value_or_fault (truth_of text)) state variables fuel (λ holds. if_holds holds first second state variables fuel)))
     test_halts condition first second fuel (halt.Stop stop.Budget) h =
         ap (λ f. resume host limits m.left m.stack (tested limits (evaluate host limits m.left) condition first second state variables f)) h.0 ∙ resume_stopped m.left m.stack OutOfSteps
     test_halts condition first second fuel (halt.Stop stop.NoMemory) h = tt

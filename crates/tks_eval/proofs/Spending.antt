@@ -23,7 +23,7 @@ use Rattle.tks_eval.specs.Outcome.{Outcome, End, Stopped, TooLarge, Next, Level,
 use Rattle.tks_eval.specs.Names.{control_named}
 use Rattle.tks_eval.specs.Branches.{Condition, branches}
 use Rattle.tks_eval.specs.Procedures.{entered, proc_form}
-use Rattle.tks_eval.specs.Evaluation.{element_name, with_value, words_in, foreach_form, text_done, and_then, done, without_frame, returned, at_global, global_does, after_script, scripts_do, plan_does, parts_do, made_text, value_does, expression_does, chosen, after_truth, tested, wrong_words, result_told, expr_does, script_does, branches_do, form_does, behind_body, turn_does, turns, loop_does, while_does, for_does, catch_ends, catch_does, each, settled, procedure_does, control_does, host_does, plain_does, command_does, call, words_do, commands_do, evaluate}
+use Rattle.tks_eval.specs.Evaluation.{element_name, with_value, words_in, foreach_form, text_done, and_then, done, without_frame, returned, at_global, global_does, after_script, scripts_do, plan_does, parts_do, made_text, value_does, expression_does, if_holds, after_truth, tested, wrong_words, result_told, expr_does, script_does, branches_do, form_does, behind_body, turn_does, turns, loop_does, while_does, for_does, catch_ends, catch_does, each, settled, procedure_does, control_does, host_does, plain_does, command_does, call, words_do, commands_do, evaluate}
 use Rattle.tks_eval.specs.Values.{told_text, by_truth, truth_told}
 use Rattle.tks_eval.specs.declared.branches.Branches.{Branches}
 use Rattle.tks_eval.specs.declared.branches.Test.{Test}
@@ -202,17 +202,17 @@ module _ {S : Type 0} where
       expression_spends text bound state variables fuel h =
           given_spends bound (value_or_fault (expr_of text)) state variables fuel (λ e. value_does limits inner e state variables fuel) h (λ e. value_spends e bound state variables fuel h)
 
-      chosen_spends : (holds : Bool) (first second : Next S) (bound : ℕ) → Within bound first → Within bound second → Within bound (chosen holds first second)
-      chosen_spends true first second bound f g = f
-      chosen_spends false first second bound f g = g
+      if_holds_spends : (holds : Bool) (first second : Next S) (bound : ℕ) → Within bound first → Within bound second → Within bound (if_holds holds first second)
+      if_holds_spends true first second bound f g = f
+      if_holds_spends false first second bound f g = g
 
       pub tested_spends : (condition : List ℕ) (first second : Next S) (bound : ℕ) → Within bound first → Within bound second → Within bound (tested limits inner condition first second)
       tested_spends condition first second bound f g state variables fuel h =
           step_spends bound fuel (λ u. after_truth limits (expression_does limits inner condition state variables u) first second) h (λ less k.
           after_spends bound (expression_does limits inner condition state variables less)
-          (λ text s v u. given limits (value_or_fault (truth_of text)) s v u (λ holds. chosen holds first second s v u))
+          (λ text s v u. given limits (value_or_fault (truth_of text)) s v u (λ holds. if_holds holds first second s v u))
           (expression_spends condition bound state variables less k)
-          (λ text s v u l. given_spends bound (value_or_fault (truth_of text)) s v u (λ holds. chosen holds first second s v u) l (λ holds. chosen_spends holds first second bound f g s v u l)))
+          (λ text s v u l. given_spends bound (value_or_fault (truth_of text)) s v u (λ holds. if_holds holds first second s v u) l (λ holds. if_holds_spends holds first second bound f g s v u l)))
 
       -- ---- commands that run scripts
 

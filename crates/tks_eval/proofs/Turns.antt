@@ -6,7 +6,7 @@ use Rattle.tks_vars.specs.Variables.{Variables}
 use Rattle.tks_tcl.specs.Cause.{Cause, Fault, OverLimit, value_or_fault}
 use Rattle.tks_expr.specs.Operation.{truth_of}
 use Rattle.tks_eval.specs.Outcome.{Outcome, End, Stopped, Next, Level, after, after_body, after_next, given}
-use Rattle.tks_eval.specs.Evaluation.{chosen, after_truth, expression_does, tested, script_does, behind_body, turn_does, turns, loop_does, done}
+use Rattle.tks_eval.specs.Evaluation.{if_holds, after_truth, expression_does, tested, script_does, behind_body, turn_does, turns, loop_does, done}
 use Rattle.tks_eval.specs.declared.loops.Loop.{Loop}
 use Rattle.tks_eval.proofs.Spending.{Spends, Thrifty, script_spends, expression_spends, optional_spends}
 
@@ -29,15 +29,15 @@ module _ {S : Type 0} where
   next_same bound (End code text state variables fuel) f g h k =
       ap (λ o. cond (code == 0) o (cond (code == 3) (End 0 [] state variables fuel) (End code text state variables fuel))) (k state variables fuel h)
 
-  chosen_same : (holds : Bool) (f g last : Next S) (state : S) (variables : Variables) (fuel : ℕ) → f state variables fuel ≡ g state variables fuel
-      → chosen holds f last state variables fuel ≡ chosen holds g last state variables fuel
-  chosen_same true f g last state variables fuel h = h
-  chosen_same false f g last state variables fuel h = refl
+  if_holds_same : (holds : Bool) (f g last : Next S) (state : S) (variables : Variables) (fuel : ℕ) → f state variables fuel ≡ g state variables fuel
+      → if_holds holds f last state variables fuel ≡ if_holds holds g last state variables fuel
+  if_holds_same true f g last state variables fuel h = h
+  if_holds_same false f g last state variables fuel h = refl
 
   module _ (limits : Limits) (inner : Level S) (thrifty : Thrifty inner) (loop : Loop) where
     given_same : (value : Result Bool Cause) (f g last : Next S) (state : S) (variables : Variables) (fuel : ℕ) → f state variables fuel ≡ g state variables fuel
-        → given limits value state variables fuel (λ holds. chosen holds f last state variables fuel) ≡ given limits value state variables fuel (λ holds. chosen holds g last state variables fuel)
-    given_same (Ok holds) f g last state variables fuel h = chosen_same holds f g last state variables fuel h
+        → given limits value state variables fuel (λ holds. if_holds holds f last state variables fuel) ≡ given limits value state variables fuel (λ holds. if_holds holds g last state variables fuel)
+    given_same (Ok holds) f g last state variables fuel h = if_holds_same holds f g last state variables fuel h
     given_same (Err (Fault fault)) f g last state variables fuel h = refl
     given_same (Err OverLimit) f g last state variables fuel h = refl
 
@@ -53,8 +53,8 @@ module _ {S : Type 0} where
         ≡ after_truth limits (expression_does limits inner loop.condition state variables bound) (turn_does inner loop g) done
     test_same bound f g same state variables =
         after_same bound (expression_does limits inner loop.condition state variables bound)
-        (λ text s v u. given limits (value_or_fault (truth_of text)) s v u (λ holds. chosen holds (turn_does inner loop f) done s v u))
-        (λ text s v u. given limits (value_or_fault (truth_of text)) s v u (λ holds. chosen holds (turn_does inner loop g) done s v u))
+        (λ text s v u. given limits (value_or_fault (truth_of text)) s v u (λ holds. if_holds holds (turn_does inner loop f) done s v u))
+        (λ text s v u. given limits (value_or_fault (truth_of text)) s v u (λ holds. if_holds holds (turn_does inner loop g) done s v u))
         (expression_spends limits inner thrifty loop.condition bound state variables bound (omega arith))
         (λ text s v u k. given_same (value_or_fault (truth_of text)) (turn_does inner loop f) (turn_does inner loop g) done s v u (turn_same bound f g same s v u k))
 

@@ -64,8 +64,8 @@ module _ {S : Type 0} where
   done state variables fuel = End 0 [] state variables fuel
 
   -- the first of two things where something holds, else the second
-  abbrev pub chosen : Bool → Next S → Next S → Next S
-  chosen holds first second state variables fuel = if holds then first state variables fuel else second state variables fuel
+  abbrev pub if_holds : Bool → Next S → Next S → Next S
+  if_holds holds first second state variables fuel = if holds then first state variables fuel else second state variables fuel
 
   -- a script that may be left out
   abbrev pub script_does : Level S → Option (List ℕ) → Next S
@@ -136,7 +136,7 @@ module _ {S : Type 0} (limits : Limits) where
   abbrev pub after_truth : Outcome S → Next S → Next S → Outcome S
   after_truth outcome first second =
       after outcome (λ text state variables fuel.
-      given limits (value_or_fault (truth_of text)) state variables fuel (λ holds. chosen holds first second state variables fuel))
+      given limits (value_or_fault (truth_of text)) state variables fuel (λ holds. if_holds holds first second state variables fuel))
 
   -- a condition takes a step before it is read
   abbrev pub tested : Level S → List ℕ → Next S → Next S → Next S
