@@ -5,7 +5,7 @@ use Rattle.tks_codec.specs.declared.header.Header.{Header}
 use Rattle.tks_disk.specs.DiskModel.{View, Images, on, beside}
 use Rattle.tks_disk.specs.declared.disk.Side.{Side}
 use Rattle.tks_disk.specs.declared.disk.Side.TheVariants.{A, B}
-use Rattle.tks_journal.specs.Fronts.{HeadOf, FrontIs, chosen}
+use Rattle.tks_journal.specs.Fronts.{HeadOf, FrontIs, live_front}
 use Rattle.tks_journal.specs.Loading.{StoredAt}
 use Rattle.tks_journal.specs.Moments.{IsSettled}
 use Rattle.tks_journal.specs.Resting.{HoldsNothing, gives_way}
@@ -37,7 +37,7 @@ front_face (Whole head) x is = ap face (sym (take-append-drop head.at x)) ∙ he
 
 -- ---- a fault
 
-like_fault : (a b : Front) (x y : List ℕ) (f : SideFault) → chosen a b ≡ Err f → decided (face_like a x) (face_like b y) ≡ Err f
+like_fault : (a b : Front) (x y : List ℕ) (f : SideFault) → live_front a b ≡ Err f → decided (face_like a x) (face_like b y) ≡ Err f
 like_fault Unknown b x y f e = cc e
 like_fault Closed Unknown x y f e = cc e
 like_fault Closed Broken x y f e = cc e
@@ -58,13 +58,13 @@ like_fault (Whole h) (Whole k) x y f e = by_tests (h.header.generation == k.head
     by_tests false true e = absurd (cc e)
     by_tests false false e = absurd (cc e)
 
-pub chosen_fault : (a b : Front) (i : Images) (f : SideFault) → FrontIs a i.a → FrontIs b i.b → chosen a b ≡ Err f → holds i ≡ Err f
+pub live_front_fault : (a b : Front) (i : Images) (f : SideFault) → FrontIs a i.a → FrontIs b i.b → live_front a b ≡ Err f → holds i ≡ Err f
 unfolding held
-chosen_fault a b i f is_a is_b e = ap (λ (x : Face). decided x (face i.b)) (front_face a i.a is_a) ∙ ap (decided (face_like a i.a)) (front_face b i.b is_b) ∙ like_fault a b i.a i.b f e
+live_front_fault a b i f is_a is_b e = ap (λ (x : Face). decided x (face i.b)) (front_face a i.a is_a) ∙ ap (decided (face_like a i.a)) (front_face b i.b is_b) ∙ like_fault a b i.a i.b f e
 
 -- ---- neither side
 
-both_closed : (a b : Front) (x y : List ℕ) → FrontIs a x → FrontIs b y → chosen a b ≡ Ok None → (face x ≡ closed) × (face y ≡ closed)
+both_closed : (a b : Front) (x y : List ℕ) → FrontIs a x → FrontIs b y → live_front a b ≡ Ok None → (face x ≡ closed) × (face y ≡ closed)
 both_closed Unknown b x y is_a is_b e = absurd (cc e)
 both_closed Closed Unknown x y is_a is_b e = absurd (cc e)
 both_closed Closed Broken x y is_a is_b e = absurd (cc e)
@@ -84,8 +84,8 @@ both_closed (Whole h) (Whole k) x y is_a is_b e = by_tests (h.header.generation 
     by_tests false true e = absurd (cc e)
     by_tests false false e = absurd (cc e)
 
-pub chosen_nothing : (a b : Front) (v : View) → IsSettled v → FrontIs a v.reads.a → FrontIs b v.reads.b → chosen a b ≡ Ok None → HoldsNothing v
-chosen_nothing a b v settled is_a is_b e =
+pub live_front_nothing : (a b : Front) (v : View) → IsSettled v → FrontIs a v.reads.a → FrontIs b v.reads.b → live_front a b ≡ Ok None → HoldsNothing v
+live_front_nothing a b v settled is_a is_b e =
     let both = both_closed a b v.reads.a v.reads.b is_a is_b e in
     record { settled = settled; nothing = nothing_held v.reads.a v.reads.b both.0 both.1 }
 
@@ -102,7 +102,7 @@ not_less m n differ less = grind (arith, nat_tests)
 of_pair : (i : Images) (s side : Side) (h head : Head) → Selected s h i → ◌≡◌ {A = Side × Head} (s, h) (side, head) → Selected side head i
 of_pair i s side h head selected e = subst (λ (p : Side × Head). Selected p.0 p.1 i) e selected
 
-selected : (a b : Front) (i : Images) (side : Side) (head : Head) → FrontIs a i.a → FrontIs b i.b → chosen a b ≡ Ok (Some (side, head)) → Selected side head i
+selected : (a b : Front) (i : Images) (side : Side) (head : Head) → FrontIs a i.a → FrontIs b i.b → live_front a b ≡ Ok (Some (side, head)) → Selected side head i
 selected Unknown b i side head is_a is_b e = absurd (cc e)
 selected Closed Unknown i side head is_a is_b e = absurd (cc e)
 selected Closed Broken i side head is_a is_b e = absurd (cc e)
@@ -123,8 +123,8 @@ selected (Whole h) (Whole k) i side head is_a is_b e = by_tests (h.header.genera
     by_tests false d true l e = of_pair i A side h head (record { head_of = is_a.0; size = is_a.1; yields = ap (gives_way h.header.generation) (front_face (Whole k) i.b is_b) ∙ l }) (cc e)
     by_tests false d false l e = of_pair i B side k head (record { head_of = is_b.0; size = is_b.1; yields = ap (gives_way k.header.generation) (front_face (Whole h) i.a is_a) ∙ not_less h.header.generation k.header.generation d l }) (cc e)
 
-pub chosen_stored : (a b : Front) (v : View) (side : Side) (head : Head) → IsSettled v → FrontIs a v.reads.a → FrontIs b v.reads.b → chosen a b ≡ Ok (Some (side, head)) → StoredAt v side head.header head.at head.len
-chosen_stored a b v side head settled is_a is_b e =
+pub live_front_stored : (a b : Front) (v : View) (side : Side) (head : Head) → IsSettled v → FrontIs a v.reads.a → FrontIs b v.reads.b → live_front a b ≡ Ok (Some (side, head)) → StoredAt v side head.header head.at head.len
+live_front_stored a b v side head settled is_a is_b e =
     let s = selected a b v.reads side head is_a is_b e in
     record {
       settled = settled;
@@ -134,7 +134,7 @@ chosen_stored a b v side head settled is_a is_b e =
     }
 
 -- the same as a clause of what was found
-pub chosen_so : (H : Type 0) (a b : Front) (v : View) (o : Option (Side × Head)) → (H → IsSettled v × FrontIs a v.reads.a × FrontIs b v.reads.b) → chosen a b ≡ Ok o
+pub live_front_so : (H : Type 0) (a b : Front) (v : View) (o : Option (Side × Head)) → (H → IsSettled v × FrontIs a v.reads.a × FrontIs b v.reads.b) → live_front a b ≡ Ok o
     → IfSome o (λ found. H → StoredAt v found.0 found.1.header found.1.at found.1.len)
-chosen_so H a b v None facts e = tt
-chosen_so H a b v (Some found) facts e = λ h. let f = facts h in chosen_stored a b v found.0 found.1 f.0 f.1 f.2 e
+live_front_so H a b v None facts e = tt
+live_front_so H a b v (Some found) facts e = λ h. let f = facts h in live_front_stored a b v found.0 found.1 f.0 f.1 f.2 e

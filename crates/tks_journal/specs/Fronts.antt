@@ -47,17 +47,18 @@ newest a b =
     if a.header.generation == b.header.generation then Err Damaged
     else (if nat_lt b.header.generation a.header.generation then Ok (Some (A, a)) else Ok (Some (B, b)))
 
-abbrev pub chosen : Front → Front → Result (Option (Side × Head)) SideFault
-chosen Unknown b = Err UnknownFormat
-chosen Closed Unknown = Err UnknownFormat
-chosen Broken Unknown = Err UnknownFormat
-chosen (Whole a) Unknown = Err UnknownFormat
-chosen Broken Closed = Err Damaged
-chosen Broken Broken = Err Damaged
-chosen Broken (Whole b) = Err Damaged
-chosen Closed Broken = Err Damaged
-chosen (Whole a) Broken = Err Damaged
-chosen Closed Closed = Ok None
-chosen (Whole a) Closed = Ok (Some (A, a))
-chosen Closed (Whole b) = Ok (Some (B, b))
-chosen (Whole a) (Whole b) = newest a b
+-- the live side with its front, if any
+abbrev pub live_front : Front → Front → Result (Option (Side × Head)) SideFault
+live_front Unknown b = Err UnknownFormat
+live_front Closed Unknown = Err UnknownFormat
+live_front Broken Unknown = Err UnknownFormat
+live_front (Whole a) Unknown = Err UnknownFormat
+live_front Broken Closed = Err Damaged
+live_front Broken Broken = Err Damaged
+live_front Broken (Whole b) = Err Damaged
+live_front Closed Broken = Err Damaged
+live_front (Whole a) Broken = Err Damaged
+live_front Closed Closed = Ok None
+live_front (Whole a) Closed = Ok (Some (A, a))
+live_front Closed (Whole b) = Ok (Some (B, b))
+live_front (Whole a) (Whole b) = newest a b

@@ -2,7 +2,7 @@
 ghost use Rattle.std.specs.Prelude.{◌≡◌, ◌↔◌, ◌<◌, ◌≤◌, ◌+◌, ◌∷◌, [], ℕ, List, IfOk, Err, length, take, drop};
 ghost use Rattle.tks_disk.specs.DiskModel.{on, Rests};
 ghost use Rattle.tks_journal.specs.Opening.{Tells, NoSideFault};
-ghost use Rattle.tks_journal.specs.Fronts.{FrontIs, AttemptIs, IsOpenSide, chosen, front_with, newest};
+ghost use Rattle.tks_journal.specs.Fronts.{FrontIs, AttemptIs, IsOpenSide, live_front, front_with, newest};
 ghost use Rattle.tks_journal.specs.Sides.{is_given};
 
 use crate::error::OpenError;
@@ -131,7 +131,7 @@ pub fn front_of<D: Disk>(alloc: Global, disk: &mut D, side: Side) -> Result<Fron
 
 /// Which side is live, by the fronts of both.
 pub fn choose(a: Front, b: Front) -> Result<Option<(Side, Head)>, SideFault>
-    ensures { result ≡ chosen a b }
+    ensures { result ≡ live_front a b }
 {
     match (a, b) {
         (Front::Unknown, _) | (_, Front::Unknown) => Err(SideFault::UnknownFormat),
