@@ -5,7 +5,7 @@ use Rattle.std.proofs.lemmas.List.{length-drop, length-take, drop_more, drop_all
 use Rattle.tks_codec.specs.declared.header.Header.{Header}
 use Rattle.tks_disk.specs.DiskModel.{View, Images, on, beside}
 use Rattle.tks_disk.specs.declared.disk.Side.{Side}
-use Rattle.tks_journal.specs.Loading.{behind, with_behind, StoredAt, joined, so_far, FramesAt, ShutAt, FrameIs}
+use Rattle.tks_journal.specs.Loading.{behind, with_behind, StoredAt, extended, so_far, FramesAt, ShutAt, FrameIs}
 use Rattle.tks_journal.specs.Moments.{IsSettled}
 use Rattle.tks_journal.specs.Resting.{IsLive, begun_as}
 use Rattle.tks_journal.specs.Sides.{size_at, with_front, frames_from, frames, Kept, kept, content, holds, with_frames, live_of, pair, framed}
@@ -60,9 +60,9 @@ module _ (x : List ℕ) (at : ℕ) (body : List ℕ) (fits : at + 5 + length bod
 
 -- ---- one frame further
 
-joined_front : (s : Result (Option Kept) SideFault) (body : List ℕ) (o : Option (List (List ℕ))) → joined s (with_front body o) ≡ joined (with_frames (body ∷ []) s) o
-joined_front s body None = refl
-joined_front s body (Some more) = sym (more_frames (body ∷ []) more s)
+extended_front : (s : Result (Option Kept) SideFault) (body : List ℕ) (o : Option (List (List ℕ))) → extended s (with_front body o) ≡ extended (with_frames (body ∷ []) s) o
+extended_front s body None = refl
+extended_front s body (Some more) = sym (more_frames (body ∷ []) more s)
 
 -- images, with what stands from a place on named
 pub named_behind : (live : Side) (at : ℕ) (reads : Images) → reads ≡ with_behind live at (drop at (on live reads)) reads
@@ -91,12 +91,12 @@ module _ (v : View) (live : Side) (g at len : ℕ) (f : FramesAt v live g at len
     longer : (bytes : List ℕ) → take on_at x ++ bytes ≡ take at x ++ (1 ∷ (head ++ (body ++ bytes)))
     longer bytes = ap (λ (l : List ℕ). l ++ bytes) (front_on x at body within_x is) ∙ simp append_assoc
 
-    next_passes : (bytes : List ℕ) → holds (with_behind live on_at bytes v.reads) ≡ joined (with_frames (body ∷ []) s) (frames bytes)
+    next_passes : (bytes : List ℕ) → holds (with_behind live on_at bytes v.reads) ≡ extended (with_frames (body ∷ []) s) (frames bytes)
     next_passes bytes =
         ap (λ l. holds (pair live l (beside live v.reads))) (longer bytes)
         ∙ f.passes (1 ∷ (head ++ (body ++ bytes)))
-        ∙ ap (joined s) (one_frame head body bytes head_long is.size)
-        ∙ joined_front s body (frames bytes)
+        ∙ ap (extended s) (one_frame head body bytes head_long is.size)
+        ∙ extended_front s body (frames bytes)
 
     next_so_far : so_far live on_at v.reads ≡ with_frames (body ∷ []) s
     next_so_far = next_passes (0 ∷ []) ∙ no_frames (with_frames (body ∷ []) s)
@@ -107,7 +107,7 @@ module _ (v : View) (live : Side) (g at len : ℕ) (f : FramesAt v live g at len
       size = f.size;
       within = fits;
       is_live = ap live_of next_so_far ∙ same_live (body ∷ []) s ∙ f.is_live;
-      passes = λ bytes. next_passes bytes ∙ ap (λ r. joined r (frames bytes)) (sym next_so_far);
+      passes = λ bytes. next_passes bytes ∙ ap (λ r. extended r (frames bytes)) (sym next_so_far);
     }
 
     pub frame_met : frames (behind live at v.reads) ≡ with_front body (frames (behind live on_at v.reads))
@@ -119,7 +119,7 @@ module _ (v : View) (live : Side) (g at len : ℕ) (f : FramesAt v live g at len
     none_left = shut_here x at shut.there shut.shut
 
     held_so_far : holds v.reads ≡ s
-    held_so_far = ap holds (named_behind live at v.reads) ∙ f.passes (drop at x) ∙ ap (joined s) none_left ∙ no_frames s
+    held_so_far = ap holds (named_behind live at v.reads) ∙ f.passes (drop at x) ∙ ap (extended s) none_left ∙ no_frames s
 
     pub live_at_end : IsLive v live g at
     live_at_end = record {
@@ -129,7 +129,7 @@ module _ (v : View) (live : Side) (g at len : ℕ) (f : FramesAt v live g at len
         shut = shut.shut;
         carries = record {
           carries = λ more gate tail all closed.
-              f.passes (framed more ++ gate ∷ tail) ∙ ap (joined s) (frames_framed more gate tail all closed) ∙ ap (with_frames more) (sym held_so_far);
+              f.passes (framed more ++ gate ∷ tail) ∙ ap (extended s) (frames_framed more gate tail all closed) ∙ ap (with_frames more) (sym held_so_far);
         };
       };
       is_live = ap live_of held_so_far ∙ f.is_live;
@@ -141,14 +141,14 @@ frames_still v m live g at len f settled same = record {
   size = f.size ∙ ap (λ (i : Images). length (on live i)) (sym same);
   within = f.within;
   is_live = ap (λ (i : Images). live_of (so_far live at i)) same ∙ f.is_live;
-  passes = λ bytes. ap (λ (i : Images). holds (with_behind live at bytes i)) same ∙ f.passes bytes ∙ ap (λ (i : Images). joined (so_far live at i) (frames bytes)) (sym same);
+  passes = λ bytes. ap (λ (i : Images). holds (with_behind live at bytes i)) same ∙ f.passes bytes ∙ ap (λ (i : Images). extended (so_far live at i) (frames bytes)) (sym same);
 }
 
 -- ---- the world
 
-joined_kept : (live : Side) (header : Header) (world : List ℕ) (o : Option (List (List ℕ))) → kept live header world o ≡ joined (begun_as live header world) o
-joined_kept live header world None = refl
-joined_kept live header world (Some more) = refl
+extended_kept : (live : Side) (header : Header) (world : List ℕ) (o : Option (List (List ℕ))) → kept live header world o ≡ extended (begun_as live header world) o
+extended_kept live header world None = refl
+extended_kept live header world (Some more) = refl
 
 module _ (v : View) (live : Side) (header : Header) (at len : ℕ) (f : StoredAt v live header at len) where
   abbrev x' : List ℕ
@@ -186,5 +186,5 @@ module _ (v : View) (live : Side) (header : Header) (at len : ℕ) (f : StoredAt
       size = f.size;
       within = fits;
       is_live = ap live_of (world_passes (0 ∷ []));
-      passes = λ bytes. world_passes bytes ∙ joined_kept live header world (frames bytes) ∙ ap (λ r. joined r (frames bytes)) (sym (world_passes (0 ∷ [])));
+      passes = λ bytes. world_passes bytes ∙ extended_kept live header world (frames bytes) ∙ ap (λ r. extended r (frames bytes)) (sym (world_passes (0 ∷ [])));
     }

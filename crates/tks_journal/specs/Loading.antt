@@ -43,9 +43,9 @@ pub record StoredAt (view : View) (live : Side) (header : Header) (at len : ℕ)
   pub passes : (bytes : List ℕ) → holds (with_behind live at bytes view.reads) ≡ content live header bytes
 
 -- what was held before, and these frames too, unless there is none
-abbrev pub joined : Result (Option Kept) SideFault → Option (List (List ℕ)) → Result (Option Kept) SideFault
-joined before None = Err Damaged
-joined before (Some more) = with_frames more before
+abbrev pub extended : Result (Option Kept) SideFault → Option (List (List ℕ)) → Result (Option Kept) SideFault
+extended before None = Err Damaged
+extended before (Some more) = with_frames more before
 
 -- what the sides would hold if a closed gate stood at this place
 abbrev pub so_far : Side → ℕ → Images → Result (Option Kept) SideFault
@@ -57,7 +57,7 @@ pub record FramesAt (view : View) (live : Side) (generation at len : ℕ) : Type
   pub size : len ≡ length (on live view.reads)
   pub within : at ≤ len
   pub is_live : live_of (so_far live at view.reads) ≡ Some (live, generation)
-  pub passes : (bytes : List ℕ) → holds (with_behind live at bytes view.reads) ≡ joined (so_far live at view.reads) (frames bytes)
+  pub passes : (bytes : List ℕ) → holds (with_behind live at bytes view.reads) ≡ extended (so_far live at view.reads) (frames bytes)
 
 -- a closed gate stands at this place
 pub record ShutAt (live : Side) (at : ℕ) (reads : Images) : Type 0 where
