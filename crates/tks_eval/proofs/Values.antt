@@ -8,7 +8,7 @@ use Rattle.tks_vars.specs.Variables.{Variables}
 use Rattle.tks_tcl.specs.Cause.{fits, value_or_fault}
 use Rattle.tks_expr.specs.Tree.{Expr, Literal, Made, One, Two, Both, Either, Conditional}
 use Rattle.tks_expr.specs.Sign.{combined}
-use Rattle.tks_expr.specs.View.{linked}
+use Rattle.tks_expr.specs.View.{chained}
 use Rattle.tks_expr.specs.Reading.{under}
 use Rattle.tks_expr.specs.Operation as texts
 use Rattle.tks_expr.specs.Operation.{truth_of, applied, applied_unary, result_of}
@@ -111,11 +111,11 @@ module _ {S : Type 0} where
       combined_does Or left right state variables fuel = refl
 
       -- the value of a chain is what its links make of its first operand's
-      pub linked_does : (left : Expr) (links : List Link) (state : S) (variables : Variables) (fuel : ℕ)
-          → value_does limits inner (linked left links) state variables fuel ≡ links_do limits inner links (value_does limits inner left state variables fuel)
-      linked_does left [] state variables fuel = refl
-      linked_does left (link ∷ links) state variables fuel =
-          linked_does (combined link.join left link.right) links state variables fuel
+      pub chained_does : (left : Expr) (links : List Link) (state : S) (variables : Variables) (fuel : ℕ)
+          → value_does limits inner (chained left links) state variables fuel ≡ links_do limits inner links (value_does limits inner left state variables fuel)
+      chained_does left [] state variables fuel = refl
+      chained_does left (link ∷ links) state variables fuel =
+          chained_does (combined link.join left link.right) links state variables fuel
           ∙ ap (links_do limits inner links) (combined_does link.join left link.right state variables fuel)
 
       -- ---- signs
@@ -216,12 +216,12 @@ combined_weighs (Of op) a b = refl
 combined_weighs And a b = refl
 combined_weighs Or a b = refl
 
-links_weigh : (left : Expr) (links : List Link) → value_weight left + links_weight links ≤ value_weight (linked left links) + 1
+links_weigh : (left : Expr) (links : List Link) → value_weight left + links_weight links ≤ value_weight (chained left links) + 1
 links_weigh left [] = omega arith
 links_weigh left (link ∷ links) = omega (arith, combined_weighs link.join left link.right, links_weigh (combined link.join left link.right) links)
 
 pub chain_weighs : (first : Expr) (link : Link) (links : List Link)
-    → value_weight first + links_weight (link ∷ links) < value_weight (linked (combined link.join first link.right) links)
+    → value_weight first + links_weight (link ∷ links) < value_weight (chained (combined link.join first link.right) links)
 chain_weighs first link links = omega (arith, combined_weighs link.join first link.right, links_weigh (combined link.join first link.right) links)
 
 pub under_weighs : (ops : List Unary) (e : Expr) → value_weight e ≤ value_weight (under ops e)

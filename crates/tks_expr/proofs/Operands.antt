@@ -5,7 +5,7 @@ use Rattle.tks_parse.specs.declared.builder.Piece.{Piece}
 use Rattle.tks_parse.proofs.Joins.{join_parts_none}
 use Rattle.tks_expr.specs.Sign.{combined}
 use Rattle.tks_expr.specs.Tree.{Expr, Made, One}
-use Rattle.tks_expr.specs.View.{linked}
+use Rattle.tks_expr.specs.View.{chained}
 use Rattle.tks_expr.specs.Reading.{trim, made, under, inner, conditional_at}
 use Rattle.tks_expr.specs.declared.operator.Unary.{Unary}
 use Rattle.tks_expr.specs.declared.tree.Link.{Link}
@@ -22,6 +22,6 @@ pub under_push : (ops : List Unary) (op : Unary) (e : Expr) → under (ops ++ op
 under_push [] op e = refl
 under_push (o ∷ ops) op e = ap (One o) (under_push ops op e)
 
-pub linked_push : (left : Expr) (links : List Link) (link : Link) → linked left (links ++ link ∷ []) ≡ combined link.join (linked left links) link.right
-linked_push left [] link = refl
-linked_push left (next ∷ links) link = linked_push (combined next.join left next.right) links link
+pub chained_push : (left : Expr) (links : List Link) (link : Link) → chained left (links ++ link ∷ []) ≡ combined link.join (chained left links) link.right
+chained_push left [] link = refl
+chained_push left (next ∷ links) link = chained_push (combined next.join left next.right) links link

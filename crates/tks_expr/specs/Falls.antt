@@ -5,7 +5,7 @@ use denote.Param.Weighed.{most}
 use Rattle.tks_expr.specs.Reading.{under}
 use Rattle.tks_expr.specs.Sign.{combined}
 use Rattle.tks_expr.specs.Tree.{Expr, One, expr_size}
-use Rattle.tks_expr.specs.View.{linked, expr_of}
+use Rattle.tks_expr.specs.View.{chained, expr_of}
 use Rattle.tks_expr.specs.declared.operator.Unary.{Unary}
 use Rattle.tks_expr.specs.declared.sign.Join.{Join}
 use Rattle.tks_expr.specs.declared.sign.Join.TheVariants.{Of, And, Or}
@@ -23,11 +23,11 @@ combined_falls (Of op) a b = (omega arith, omega arith)
 combined_falls And a b = (omega arith, omega arith)
 combined_falls Or a b = (omega arith, omega arith)
 
-linked_falls : (left : Expr) (links : List Link) → (expr_size left ≤ expr_size (linked left links)) × (most deep-Link links ≤ expr_size (linked left links))
-linked_falls left [] = (omega arith, omega arith)
-linked_falls left (link ∷ links) =
+chained_falls : (left : Expr) (links : List Link) → (expr_size left ≤ expr_size (chained left links)) × (most deep-Link links ≤ expr_size (chained left links))
+chained_falls left [] = (omega arith, omega arith)
+chained_falls left (link ∷ links) =
     let two = combined_falls link.join left link.right in
-    let rest = linked_falls (combined link.join left link.right) links in
+    let rest = chained_falls (combined link.join left link.right) links in
     (omega (arith, two.0, rest.0), omega (arith, two.1, rest.0, rest.1))
 
 pub node_falls : (n : Node) → deep-Node n ≤ expr_size (expr_of n)
@@ -37,6 +37,6 @@ node_falls (node.Signs outer sign operand) = omega (arith, under_falls outer.ite
 node_falls (node.Chain first link links) =
     let whole = combined link.join first link.right in
     let two = combined_falls link.join first link.right in
-    let rest = linked_falls whole links.items in
+    let rest = chained_falls whole links.items in
     omega (arith, two.0, two.1, rest.0, rest.1)
 node_falls (node.Conditional c a b) = omega arith

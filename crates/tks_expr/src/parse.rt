@@ -9,7 +9,7 @@ ghost use Rattle.tks_parse.specs.Gives.{IsTextPiece};
 ghost use Rattle.tks_expr.specs.Reading.{then_read, begins_name, trim, made, literal, close, operand_at, signs, under, signed, when, within_level, level_at, question, colon, conditional_at, inner, expr_of};
 ghost use Rattle.tks_expr.specs.Seen.{step_of};
 ghost use Rattle.tks_expr.specs.Sign.{join_at};
-ghost use Rattle.tks_expr.specs.View.{expr_of as node_expr, linked};
+ghost use Rattle.tks_expr.specs.View.{expr_of as node_expr, chained};
 
 use crate::literal::literal_len;
 use crate::operator::Unary;
@@ -217,7 +217,7 @@ fn join_within(text: &[u8], level: u32) -> Option<(Join, usize)>
 
 // An operand and the links behind it.
 fn with_links(alloc: Global, first: Expr, mut links: Vec<Link>) -> Result<Expr, AllocError>
-    ensures { IfOk result (λ e. e ≡ linked first links.items) }
+    ensures { IfOk result (λ e. e ≡ chained first links.items) }
 {
     if links.is_empty() {
         return Ok(first);

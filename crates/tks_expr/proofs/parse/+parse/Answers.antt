@@ -1,7 +1,7 @@
 use Rattle.std.proofs.Common.{ℕ, List, Bor, arith, sym}
 use Rattle.std.proofs.lemmas.Result.{err_from_is_err_and}
 use Rattle.tks_expr.proofs.Climbing.{climb_begins, climb_fails_first, climb_fails, climb_goes, climb_stops}
-use Rattle.tks_expr.proofs.Operands.{inner_opens, linked_push}
+use Rattle.tks_expr.proofs.Operands.{inner_opens, chained_push}
 use Rattle.tks_expr.specs.declared.tree.Expr.{Expr}
 use Rattle.tks_expr.proofs.parse.+parse.Goals as goal
 
@@ -30,7 +30,7 @@ pub read_level-joins-preserved : goal.read_level-joins-preserved
 read_level-joins-preserved t c =
     let right = rw (c.split_at.ensures.back, c.level.ensures) at c.in_ok-right.ensures.gives in
     record {
-      so_far = rw (c.in_ok-push.ensures.items, linked_push) (climb_goes c.args.depth c.args.level _ c.joins.rest.now (c.in-Some.join, c.in-Some.more) c.in_ok-right.right c.in_ok-right.behind.now _ c.joins.invariant.so_far (sym c.in-Some.ensures.value) right);
+      so_far = rw (c.in_ok-push.ensures.items, chained_push) (climb_goes c.args.depth c.args.level _ c.joins.rest.now (c.in-Some.join, c.in-Some.more) c.in_ok-right.right c.in_ok-right.behind.now _ c.joins.invariant.so_far (sym c.in-Some.ensures.value) right);
       len = omega (arith, c.in_ok-right.ensures.bound, c.joins.invariant.len);
       is_text = c.in_ok-right.ensures.text;
     }

@@ -1,7 +1,7 @@
 use Rattle.std.proofs.Common.{◌≡◌, ◌≤◌, length, ◌+◌, ◌*◌}
 use Rattle.tks_text.specs.Text.{IsText}
 use Rattle.tks_expr.specs.Reading.{level_at, chain, within_level}
-use Rattle.tks_expr.specs.View.{expr_of, linked}
+use Rattle.tks_expr.specs.View.{expr_of, chained}
 use Rattle.tks_expr.proofs.Climbing.{tighter}
 use Rattle.tks_expr.proofs.parse.+parse.Given as goal
 
@@ -28,7 +28,7 @@ decreases-read_conditional l = 17 * l.depth + 16
 
 abbrev pub invariant-read_level-joins : goal.invariant-read_level-joins
 invariant-read_level-joins l = record {
-  so_far : chain (within_level l.level) (tighter l.depth) (linked (expr_of l.first-inside.node.value) l.links.items) 0 l.rest ≡ level_at l.depth l.level l.text;
+  so_far : chain (within_level l.level) (tighter l.depth) (chained (expr_of l.first-inside.node.value) l.links.items) 0 l.rest ≡ level_at l.depth l.level l.text;
   len : length l.rest ≤ length l.text;
   is_text : IsText l.rest;
 }
