@@ -132,15 +132,15 @@ unary_value unary.Complement a = after (integer_in a) (λ x. Ok (complement x))
 unary_value unary.Not a = after (truth_of a) (λ holds. Ok (truth (not holds)))
 
 -- an integer in decimal
-abbrev pub written : Result ℤ ScriptFault → Result (List ℕ) ScriptFault
-written value = after value (λ z. Ok (signed_decimal z))
+abbrev pub in_decimal : Result ℤ ScriptFault → Result (List ℕ) ScriptFault
+in_decimal value = after value (λ z. Ok (signed_decimal z))
 
 -- what an operator gives for texts
 abbrev pub applied : Binary → List ℕ → List ℕ → Result (List ℕ) ScriptFault
-applied operator a b = written (binary_value operator a b)
+applied operator a b = in_decimal (binary_value operator a b)
 
 abbrev pub applied_unary : Unary → List ℕ → Result (List ℕ) ScriptFault
-applied_unary operator a = written (unary_value operator a)
+applied_unary operator a = in_decimal (unary_value operator a)
 
 -- ---- results
 
