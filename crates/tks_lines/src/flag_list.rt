@@ -105,7 +105,7 @@ impl Flags {
     }
 
     // The first so many flags, then some that are all the same, then those behind another place.
-    fn joined(
+    fn replaced(
         &self,
         alloc: Global,
         front: usize,
@@ -136,7 +136,7 @@ impl Flags {
         requires { count < 2 ^ 63 }
         ensures { IfOk result (λ f. f ≡ spliced place (replicate count value) self.now) }
     {
-        let flags = self.joined(alloc, place, count, value, place)?;
+        let flags = self.replaced(alloc, place, count, value, place)?;
         Ok(flags)
     }
 
@@ -144,7 +144,7 @@ impl Flags {
     pub(crate) fn cut(&self, alloc: Global, first: usize, last: usize) -> Result<Flags, AllocError>
         ensures { IfOk result (λ f. f ≡ cut first last self.now) }
     {
-        let flags = self.joined(alloc, first, 0, false, last.max(first))?;
+        let flags = self.replaced(alloc, first, 0, false, last.max(first))?;
         Ok(flags)
     }
 
@@ -159,7 +159,7 @@ impl Flags {
         ensures { IfOk result (λ f. f ≡ painted value first last self.now) }
     {
         let count = last.min(self.len()).saturating_sub(first);
-        let flags = self.joined(alloc, first, count, value, last.max(first))?;
+        let flags = self.replaced(alloc, first, count, value, last.max(first))?;
         Ok(flags)
     }
 
