@@ -5,13 +5,13 @@ use Rattle.tks_text.specs.Limits.{Wider}
 use Rattle.tks_text.specs.Text.{same_text}
 use Rattle.tks_text.specs.Fault.{fault_text}
 use Rattle.tks_text.specs.declared.limits.Limits.{Limits}
-use Rattle.tks_vars.specs.Variables.{Variables, with_value, with_global_value, linked, exists, grown_by_value, grown_by_global_value, grown_by_link}
+use Rattle.tks_vars.specs.Variables.{Variables, with_value, with_global_value, with_global_link, exists, grown_by_value, grown_by_global_value, grown_by_link}
 use Rattle.tks_tcl.specs.Cause.{Cause, Fault, OverLimit, after, value_or_fault, fits, within, wrong_words}
 use Rattle.tks_tcl.specs.Codes.{bare_code, says, code_does}
 use Rattle.tks_tcl.specs.Words.{truth_text}
 use Rattle.tks_tcl.specs.Lists.{list_does}
 use Rattle.tks_tcl.specs.Strings.{string_does}
-use Rattle.tks_tcl.specs.Variables.{answers, may_grow, stores, stores_global, link_within, linked_all, value_in, increased, appended, list_appended, silent, set_does, incr_does, append_does, lappend_does, global_does, info_does, unset_does, variable_does}
+use Rattle.tks_tcl.specs.Variables.{answers, may_grow, stores, stores_global, link_within, with_global_links, value_in, increased, appended, list_appended, silent, set_does, incr_does, append_does, lappend_does, global_does, info_does, unset_does, variable_does}
 use Rattle.tks_tcl.specs.Names.{command_named}
 use Rattle.tks_tcl.specs.Plain.{Answer, Answers, PassesLimit, Ending, with_code_0, command_does, answered, plain}
 use Rattle.tks_tcl.specs.declared.codes.CodeCommand.{CodeCommand}
@@ -109,9 +109,9 @@ module _ (limits wider : Limits) (w : Wider limits wider) where
   stored_keep name variables value = after_keeps (itself value) (stores_keep name variables)
 
   link_keeps : (name : List ℕ) (variables : Variables) → Keeps (link_within limits name variables) (link_within wider name variables)
-  link_keeps name variables = room_keeps _ _ (may_grow_wider (grown_by_link variables name)) (itself (value_or_fault (linked variables name)))
+  link_keeps name variables = room_keeps _ _ (may_grow_wider (grown_by_link variables name)) (itself (value_or_fault (with_global_link variables name)))
 
-  links_keep : (names : List (List ℕ)) (variables : Variables) → Keeps (linked_all limits names variables) (linked_all wider names variables)
+  links_keep : (names : List (List ℕ)) (variables : Variables) → Keeps (with_global_links limits names variables) (with_global_links wider names variables)
   links_keep [] variables = itself (Ok variables)
   links_keep (name ∷ names) variables = after_keeps (link_keeps name variables) (links_keep names)
 

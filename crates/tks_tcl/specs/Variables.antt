@@ -8,7 +8,7 @@ use Rattle.tks_text.specs.declared.fault.ErrorNumber.TheVariants.{NoSuchVariable
 use Rattle.tks_text.specs.declared.fault.ScriptFault.{ScriptFault}
 use Rattle.tks_text.specs.declared.limits.Limits.{Limits}
 use Rattle.tks_list.specs.Quoting.{joined}
-use Rattle.tks_vars.specs.Variables.{Variables, value_of, exists, with_value, with_global_value, without, linked, grown_by_value, grown_by_global_value, grown_by_link}
+use Rattle.tks_vars.specs.Variables.{Variables, value_of, exists, with_value, with_global_value, without, with_global_link, grown_by_value, grown_by_global_value, grown_by_link}
 use Rattle.tks_tcl.specs.Cause.{Cause, Fault, OverLimit, after, value_or_fault, bare, wrong_words, fits, within}
 use Rattle.tks_tcl.specs.Words.{integer_in, list_in, truth_text}
 use Rattle.tks_tcl.specs.declared.variables.VariableCommand.{VariableCommand}
@@ -100,12 +100,12 @@ module _ (limits : Limits) where
 
   -- the variables after a name was made a link to a global
   abbrev pub link_within : List ℕ → Variables → Result Variables Cause
-  link_within name variables = if may_grow (grown_by_link variables name) then value_or_fault (linked variables name) else Err OverLimit
+  link_within name variables = if may_grow (grown_by_link variables name) then value_or_fault (with_global_link variables name) else Err OverLimit
 
   -- the same of each of these names, one after the other
-  abbrev pub linked_all : List (List ℕ) → Variables → Result Variables Cause
-  linked_all [] variables = Ok variables
-  linked_all (name ∷ names) variables = after (link_within name variables) (linked_all names)
+  abbrev pub with_global_links : List (List ℕ) → Variables → Result Variables Cause
+  with_global_links [] variables = Ok variables
+  with_global_links (name ∷ names) variables = after (link_within name variables) (with_global_links names)
 
   -- ---- the commands
 
@@ -134,7 +134,7 @@ module _ (limits : Limits) where
   -- global name ..
   abbrev pub global_does : List ℕ → List (List ℕ) → Variables → Result Changed Cause
   global_does command [] variables = wrong_words command
-  global_does command (name ∷ names) variables = after (linked_all (name ∷ names) variables) silent
+  global_does command (name ∷ names) variables = after (with_global_links (name ∷ names) variables) silent
 
   -- info exists name
   abbrev pub info_does : List ℕ → List (List ℕ) → Variables → Result Changed Cause

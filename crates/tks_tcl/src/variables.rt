@@ -1,6 +1,6 @@
 ghost use Rattle.std.specs.Prelude.{◌≡◌, ◌++◌, ◌+ℤ◌, OnOk, OnErr};
 ghost use Rattle.tks_tcl.specs.Meets.{GivesSo};
-ghost use Rattle.tks_tcl.specs.Variables.{value_in, is_missing, value_or, decimal_within, increased, flat, appended, list_appended, without_all, may_grow, stores, stores_global, link_within, linked_all, set_does, unset_does, incr_does, append_does, lappend_does, global_does, info_does, variable_does};
+ghost use Rattle.tks_tcl.specs.Variables.{value_in, is_missing, value_or, decimal_within, increased, flat, appended, list_appended, without_all, may_grow, stores, stores_global, link_within, with_global_links, set_does, unset_does, incr_does, append_does, lappend_does, global_does, info_does, variable_does};
 
 use crate::interrupt::{Interrupt, error, fits, within, wrong_words};
 use crate::words::{integer_in, list_in, truth_text};
@@ -345,7 +345,7 @@ fn link(variables: &mut Vars, name: &Txt, limits: &Limits) -> Result<(), Interru
 
 // Makes names links one after the other.
 fn link_all(variables: &mut Vars, names: &[Txt], limits: &Limits) -> Result<(), Interrupt>
-    ensures { GivesSo (λ _. variables.new) result (linked_all limits.now names.now variables.old) }
+    ensures { GivesSo (λ _. variables.new) result (with_global_links limits.now names.now variables.old) }
 {
     for name in names {
         link(variables, name, limits)?;
@@ -355,7 +355,7 @@ fn link_all(variables: &mut Vars, names: &[Txt], limits: &Limits) -> Result<(), 
 
 // The same, where an error leaves the variables as they were.
 fn link_each(variables: &mut Vars, names: &[Txt], limits: &Limits) -> Result<(), Interrupt>
-    ensures value { GivesSo (λ _. variables.new) result (linked_all limits.now names.now variables.old) }
+    ensures value { GivesSo (λ _. variables.new) result (with_global_links limits.now names.now variables.old) }
     ensures err { OnErr result (variables.new ≡ variables.old) }
 {
     if let [name] = names {

@@ -6,7 +6,7 @@ use Rattle.std.specs.FinMap as map
 use Rattle.tks_text.specs.declared.fault.ErrorNumber.{ErrorNumber}
 use Rattle.tks_vars.specs.Table.{Map}
 use Rattle.tks_vars.specs.Names.{Name, named}
-use Rattle.tks_vars.specs.Variables.{Variables, Frame, about, after, written, taken, on_name, is_link, is_global, innermost, seen_through, with_value, without_at, with_link, linked, content_of, with_content, left_with}
+use Rattle.tks_vars.specs.Variables.{Variables, Frame, about, after, written, taken, on_name, is_link, is_global, innermost, seen_through, with_value, without_at, with_link, with_global_link, content_of, with_content, left_with}
 use Rattle.tks_vars.specs.Parts.{own, local_left, put_local, take_local}
 use Rattle.tks_vars.specs.declared.content.Content.{Content}
 use Rattle.tks_vars.specs.declared.content.Local.{Local}
@@ -99,5 +99,5 @@ module _ (globals : Map Content) (procedures : Map Procedure) (below : List (Opt
         ∙ ap (λ (n : Option Name). on_name n (λ name. after (taken (content_of (holding frame) name.variable) name.index) (left_with (holding frame) name.variable))) is
         ∙ local_taken frame name (no_link_in name local)
 
-    pub links : linked now text ≡ about text (after (with_link frame text) holding)
-    links = ap (λ v. linked v text) held
+    pub links : with_global_link now text ≡ about text (after (with_link frame text) holding)
+    links = ap (λ v. with_global_link v text) held

@@ -190,15 +190,15 @@ link_by frame variable (Some index) = Err BadName
 abbrev pub with_link : Frame → List ℕ → Result Frame ErrorNumber
 with_link frame text = on_name (named text) (λ name. link_by frame name.variable name.index)
 
-abbrev pub linked_in : Variables → Option Frame → List ℕ → Result Variables ErrorNumber
-linked_in variables None text = Ok variables
-linked_in variables (Some frame) text =
+abbrev pub with_link_in : Variables → Option Frame → List ℕ → Result Variables ErrorNumber
+with_link_in variables None text = Ok variables
+with_link_in variables (Some frame) text =
     after (with_link frame text) (λ linked. record variables { locals = changed (λ _. linked) variables.locals })
 
 -- the variables after a name was made a link to the global of that name; where the globals are the present frame nothing
 -- changes
-abbrev pub linked : Variables → List ℕ → Result Variables ScriptFault
-linked variables text = about text (linked_in variables (innermost variables.locals) text)
+abbrev pub with_global_link : Variables → List ℕ → Result Variables ScriptFault
+with_global_link variables text = about text (with_link_in variables (innermost variables.locals) text)
 
 -- the variables with a new frame
 abbrev pub pushed : Variables → Variables

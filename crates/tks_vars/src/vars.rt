@@ -2,7 +2,7 @@ ghost use Rattle.std.specs.Prelude.{◌≡◌, length, reverse, false, IfOk, OnO
 ghost use Rattle.std.specs.FinMap as map;
 ghost use Rattle.tks_text.specs.Fault.{Gives};
 ghost use Rattle.tks_vars.specs.Meets.{AnswersSo};
-ghost use Rattle.tks_vars.specs.Variables.{no_variables, at_global_level, innermost, content_of, is_global, value_at, value_of, with_value, global_value_at, global_value_of, with_global_value, without_at, without, exists, linked, pushed, pushed_global, frame_of, pushed_with, frame_size, popped, with_procedure, size_in, grown_by_value, grown_by_global_value, grown_by_link};
+ghost use Rattle.tks_vars.specs.Variables.{no_variables, at_global_level, innermost, content_of, is_global, value_at, value_of, with_value, global_value_at, global_value_of, with_global_value, without_at, without, exists, with_global_link, pushed, pushed_global, frame_of, pushed_with, frame_size, popped, with_procedure, size_in, grown_by_value, grown_by_global_value, grown_by_link};
 
 use crate::clones::CloneIn;
 use crate::content::{Content, Local};
@@ -289,7 +289,7 @@ impl Vars {
     /// Makes a name of the present frame a link to the global of that name, whether there is one or not. Where
     /// the globals are the present frame nothing is done.
     pub fn link_global(&mut self, name: &Txt) -> Result<(), Failure>
-        ensures value { Gives (λ _. self.new) result (linked self.old name.now) }
+        ensures value { Gives (λ _. self.new) result (with_global_link self.old name.now) }
         ensures err { OnErr result (self.new ≡ self.old) }
     {
         if self.locals.is_empty() {
