@@ -3,7 +3,7 @@ use Rattle.std.proofs.Common.{Decides, ◌≡◌, ◌≢◌, ◌⊎◌, inl, inr
 use Rattle.std.proofs.lemmas.Bool.Decides.{Decides-and, Decides-or, Decides-like, Decides-eqb}
 use Rattle.tks_event.specs.declared.event.Event.{Event}
 use Rattle.tks_event.specs.declared.pattern.Pattern.{Pattern}
-use Rattle.tks_bind.specs.Matching.{fits, is_linked, may_lie_before}
+use Rattle.tks_bind.specs.Matching.{fits, may_follow, may_lie_before}
 use Rattle.tks_bind.specs.Occurs.{FitsAt, Follows, EndsAt, turned, Occurs}
 use Rattle.tks_bind.specs.Search.{goes_back, comes_before, fits_at, goes_on_at, ends_at}
 
@@ -29,7 +29,7 @@ module _ (p : Pattern) (e : Event) (history : List Event) (reached : ℕ → Boo
   longer n from d at_n f = record {
     rises = let low = f.rises in omega arith;
     stands = f.stands;
-    linked = f.linked;
+    may_follow = f.may_follow;
     between = λ place b low high s. by place b low high s (place == n) (Decides-eqb place n);
   }
     where
@@ -40,7 +40,7 @@ module _ (p : Pattern) (e : Event) (history : List Event) (reached : ℕ → Boo
           f.between place b low (omega (arith, other)) s
 
   shorter : (n from : ℕ) (d : Event) → from < n → Follows p history from d (suc n) e → Follows p history from d n e
-  shorter n from d low f = record { rises = low; stands = f.stands; linked = f.linked; between = λ place b from_low high s. f.between place b from_low (omega arith) s }
+  shorter n from d low f = record { rises = low; stands = f.stands; may_follow = f.may_follow; between = λ place b from_low high s. f.between place b from_low (omega arith) s }
 
   below : (n from : ℕ) → from < suc n → (c : Bool) → Decides c (from ≡ n) → c ≡ false → from < n
   below n from low c same e = let other : from ≢ n = λ g. let h : false ≡ true = sym e ∙ same.1 g in cc in omega (arith, other)
@@ -59,20 +59,20 @@ module _ (p : Pattern) (e : Event) (history : List Event) (reached : ℕ → Boo
   up_none : (n : ℕ) → slice_get history n ≡ None → Before n → Before (suc n)
   up_none n gone (from, d, f, there) = (from, d, longer n from d (λ b s. absurd (none_is_some (slice_get history n) b gone s)) f, there)
 
-  down_some : (n : ℕ) (d : Event) → slice_get history n ≡ Some d → Before (suc n) → (Ends n × (is_linked p d e ≡ true)) ⊎ ((may_lie_before e d ≡ true) × Before n)
+  down_some : (n : ℕ) (d : Event) → slice_get history n ≡ Some d → Before (suc n) → (Ends n × (may_follow p d e ≡ true)) ⊎ ((may_lie_before e d ≡ true) × Before n)
   down_some n d stands (from, b, f, there) = by (from == n) (Decides-eqb from n)
     where
-      by : (c : Bool) → Decides c (from ≡ n) → (Ends n × (is_linked p d e ≡ true)) ⊎ ((may_lie_before e d ≡ true) × Before n)
+      by : (c : Bool) → Decides c (from ≡ n) → (Ends n × (may_follow p d e ≡ true)) ⊎ ((may_lie_before e d ≡ true) × Before n)
       by true same =
           let at_n : slice_get history n ≡ Some b = subst (λ k. slice_get history k ≡ Some b) (same.0 refl) f.stands in
-          inl (subst Ends (same.0 refl) there, subst (λ x. is_linked p x e ≡ true) (one_event (slice_get history n) d b stands at_n) f.linked)
+          inl (subst Ends (same.0 refl) there, subst (λ x. may_follow p x e ≡ true) (one_event (slice_get history n) d b stands at_n) f.may_follow)
       by false same =
           let low = below n from f.rises false same refl in
           inr (f.between n d low (omega arith) stands, (from, b, shorter n from b low f, there))
 
-  up_some : (n : ℕ) (d : Event) → slice_get history n ≡ Some d → (Ends n × (is_linked p d e ≡ true)) ⊎ ((may_lie_before e d ≡ true) × Before n) → Before (suc n)
+  up_some : (n : ℕ) (d : Event) → slice_get history n ≡ Some d → (Ends n × (may_follow p d e ≡ true)) ⊎ ((may_lie_before e d ≡ true) × Before n) → Before (suc n)
   up_some n d stands (inl here) =
-      (n, d, record { rises = omega arith; stands = stands; linked = here.1; between = λ place b low high s. absurd (omega arith) }, here.0)
+      (n, d, record { rises = omega arith; stands = stands; may_follow = here.1; between = λ place b low high s. absurd (omega arith) }, here.0)
   up_some n d stands (inr (may, before)) =
       let at_n = λ (b : Event) (s : slice_get history n ≡ Some b). subst (λ x. may_lie_before e x ≡ true) (sym (one_event (slice_get history n) d b stands s)) may in
       (before.0, before.1, longer n before.0 before.1 at_n before.2, before.3)
@@ -85,9 +85,9 @@ module _ (p : Pattern) (e : Event) (history : List Event) (reached : ℕ → Boo
           → Decides (goes_back p e (reached n) o (comes_before p e reached history n)) (Before (suc n))
       by None gone rest = Decides-like (comes_before p e reached history n) (up_none n gone) (down_none n gone) rest
       by (Some d) stands rest =
-          Decides-like ((reached n && is_linked p d e) || (may_lie_before e d && comes_before p e reached history n)) (up_some n d stands) (down_some n d stands) (
-          Decides-or (reached n && is_linked p d e) (may_lie_before e d && comes_before p e reached history n)
-          (Decides-and (reached n) (is_linked p d e) (ends n) (is_itself (is_linked p d e)))
+          Decides-like ((reached n && may_follow p d e) || (may_lie_before e d && comes_before p e reached history n)) (up_some n d stands) (down_some n d stands) (
+          Decides-or (reached n && may_follow p d e) (may_lie_before e d && comes_before p e reached history n)
+          (Decides-and (reached n) (may_follow p d e) (ends n) (is_itself (may_follow p d e)))
           (Decides-and (may_lie_before e d) (comes_before p e reached history n) (is_itself (may_lie_before e d)) rest)
           )
 

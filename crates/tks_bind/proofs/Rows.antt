@@ -4,7 +4,7 @@ use Rattle.std.proofs.Common.{Decides, ◌≡◌, ◌≢◌, ◌==◌, ◌&&◌,
 use Rattle.std.proofs.lemmas.Option.{slice_get-get_or}
 use Rattle.tks_event.specs.declared.event.Event.{Event}
 use Rattle.tks_event.specs.declared.pattern.Pattern.{Pattern}
-use Rattle.tks_bind.specs.Matching.{fits, is_linked, may_lie_before}
+use Rattle.tks_bind.specs.Matching.{fits, may_follow, may_lie_before}
 use Rattle.tks_bind.specs.Occurs.{turned}
 use Rattle.tks_bind.specs.Search.{reached_in, comes_before, goes_on_at, ends_at, Tells}
 
@@ -41,21 +41,21 @@ one_told row test n b h e told k less = by (k == n) (Decides-eqb k n)
 
 module _ (p : Pattern) (e : Event) (f : ℕ → Bool) (history : List Event) where
   stepped : (n : ℕ) (d : Event) → 0 < n → slice_get history (n - 1) ≡ Some d
-      → comes_before p e f history n ≡ ((f (n - 1) && is_linked p d e) || (may_lie_before e d && comes_before p e f history (n - 1)))
+      → comes_before p e f history n ≡ ((f (n - 1) && may_follow p d e) || (may_lie_before e d && comes_before p e f history (n - 1)))
   stepped zero d h stands = absurd (omega arith)
   stepped (suc n) d h stands =
       let less : suc n - 1 ≡ n = omega arith in
       let there : slice_get history n ≡ Some d = subst (λ k. slice_get history k ≡ Some d) less stands in
       rw (less, there) refl
 
-  pub found : (n : ℕ) (d : Event) → 0 < n → slice_get history (n - 1) ≡ Some d → (f (n - 1) && is_linked p d e) ≡ true → comes_before p e f history n ≡ true
+  pub found : (n : ℕ) (d : Event) → 0 < n → slice_get history (n - 1) ≡ Some d → (f (n - 1) && may_follow p d e) ≡ true → comes_before p e f history n ≡ true
   found n d h stands chosen = stepped n d h stands ∙ (rw chosen refl)
 
-  pub ended : (n : ℕ) (d : Event) → 0 < n → slice_get history (n - 1) ≡ Some d → (f (n - 1) && is_linked p d e) ≡ false → may_lie_before e d ≡ false
+  pub ended : (n : ℕ) (d : Event) → 0 < n → slice_get history (n - 1) ≡ Some d → (f (n - 1) && may_follow p d e) ≡ false → may_lie_before e d ≡ false
       → comes_before p e f history n ≡ false
   ended n d h stands chosen may = stepped n d h stands ∙ (rw (chosen, may) refl)
 
-  pub further : (n : ℕ) (d : Event) → 0 < n → slice_get history (n - 1) ≡ Some d → (f (n - 1) && is_linked p d e) ≡ false → may_lie_before e d ≡ true
+  pub further : (n : ℕ) (d : Event) → 0 < n → slice_get history (n - 1) ≡ Some d → (f (n - 1) && may_follow p d e) ≡ false → may_lie_before e d ≡ true
       → comes_before p e f history (n - 1) ≡ comes_before p e f history n
   further n d h stands chosen may = sym (stepped n d h stands ∙ (rw (chosen, may) refl))
 

@@ -29,8 +29,8 @@ is_close before later =
 
 -- what a chosen event and the one chosen before it have to be to each other: they are in one window, and close where the
 -- pattern is near
-abbrev pub is_linked : Pattern → Event → Event → Bool
-is_linked p before later = (before.window == later.window) && (not p.near || is_close before later)
+abbrev pub may_follow : Pattern → Event → Event → Bool
+may_follow p before later = (before.window == later.window) && (not p.near || is_close before later)
 
 -- whether an event may lie before a chosen one: it is neither a key nor a button that goes down, or a modifier key that
 -- goes down where the chosen one is a key that goes down

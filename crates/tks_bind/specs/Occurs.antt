@@ -2,7 +2,7 @@
 use Rattle.std.specs.Prelude.{◌≡◌, ℕ, ◌-◌, ◌<◌, true, List, [], ◌∷◌, length, slice_get, Some}
 use Rattle.tks_event.specs.declared.event.Event.{Event}
 use Rattle.tks_event.specs.declared.pattern.Pattern.{Pattern}
-use Rattle.tks_bind.specs.Matching.{fits, is_linked, may_lie_before}
+use Rattle.tks_bind.specs.Matching.{fits, may_follow, may_lie_before}
 
 -- this event stands at a place of the history and fits a pattern
 pub record FitsAt (p : Pattern) (history : List Event) (place : ℕ) (e : Event) : Type 0 where
@@ -17,7 +17,7 @@ MayLieBetween history from to chosen = (place : ℕ) (e : Event) → from < plac
 pub record Follows (p : Pattern) (history : List Event) (from : ℕ) (d : Event) (place : ℕ) (e : Event) : Type 0 where
   pub rises : from < place
   pub stands : slice_get history from ≡ Some d
-  pub linked : is_linked p d e ≡ true
+  pub may_follow : may_follow p d e ≡ true
   pub between : MayLieBetween history from place e
 
 -- the patterns before one, if there are any, end at a place before that of its event

@@ -2,12 +2,12 @@
 use Rattle.std.specs.Prelude.{◌≡◌, ℕ, zero, suc, ◌<◌, Bool, false, ◌&&◌, ◌||◌, List, [], ◌∷◌, get_or, slice_get, Option, Some, None}
 use Rattle.tks_event.specs.declared.event.Event.{Event}
 use Rattle.tks_event.specs.declared.pattern.Pattern.{Pattern}
-use Rattle.tks_bind.specs.Matching.{fits, is_linked, may_lie_before}
+use Rattle.tks_bind.specs.Matching.{fits, may_follow, may_lie_before}
 
 -- going back from a chosen event: this event is chosen before it, or may lie between
 abbrev pub goes_back : Pattern → Event → Bool → Option Event → Bool → Bool
 goes_back p e reached None rest = rest
-goes_back p e reached (Some d) rest = (reached && is_linked p d e) || (may_lie_before e d && rest)
+goes_back p e reached (Some d) rest = (reached && may_follow p d e) || (may_lie_before e d && rest)
 
 -- whether the patterns before one end before a place, where it has this event
 abbrev pub comes_before : Pattern → Event → (ℕ → Bool) → List Event → ℕ → Bool

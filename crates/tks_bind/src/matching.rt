@@ -1,7 +1,7 @@
 //! Which events a pattern fits, and what may lie between.
 ghost use Rattle.std.specs.Prelude.{◌≡◌};
 ghost use Rattle.tks_event.specs.Sequences.{is_some_text};
-ghost use Rattle.tks_bind.specs.Matching.{fits, is_of_button, is_close, is_linked, may_lie_before};
+ghost use Rattle.tks_bind.specs.Matching.{fits, is_of_button, is_close, may_follow, may_lie_before};
 
 use tks_event::{Event, Kind, Pattern, is_modifier_key};
 
@@ -42,8 +42,8 @@ fn is_close(before: &Event, later: &Event) -> bool
 }
 
 /// Whether an event may be chosen for a pattern where the other one is chosen before it.
-pub fn is_linked(pattern: &Pattern, before: &Event, later: &Event) -> bool
-    ensures { result ≡ is_linked pattern.now before.now later.now }
+pub fn may_follow(pattern: &Pattern, before: &Event, later: &Event) -> bool
+    ensures { result ≡ may_follow pattern.now before.now later.now }
 {
     before.window == later.window && (!pattern.near || is_close(before, later))
 }

@@ -2,11 +2,11 @@
 ghost use Rattle.std.specs.Prelude.{◌≡◌, ◌&&◌, ◌≤◌, ◌<◌, ◌-◌, [], length, slice_get};
 ghost use Rattle.std.specs.Bool.{Decides};
 ghost use Rattle.tks_bind.specs.Occurs.{turned, Occurs};
-ghost use Rattle.tks_bind.specs.Matching.{fits, is_linked};
+ghost use Rattle.tks_bind.specs.Matching.{fits, may_follow};
 ghost use Rattle.tks_bind.specs.Search.{comes_before, fits_at, goes_on_at, ends_at, reached_in, Tells};
 
 use crate::history::MAX_HISTORY;
-use crate::matching::{fits, is_linked, may_lie_before};
+use crate::matching::{fits, may_follow, may_lie_before};
 use tks_event::{Event, Pattern};
 
 /// For each event of a history, whether some patterns end there.
@@ -14,9 +14,9 @@ type Row = [bool; MAX_HISTORY];
 
 // Whether an event is chosen before another, where some patterns end at it or don't.
 fn is_chosen(reached: bool, pattern: &Pattern, earlier: &Event, event: &Event) -> bool
-    ensures { result ≡ (reached && is_linked pattern.now earlier.now event.now) }
+    ensures { result ≡ (reached && may_follow pattern.now earlier.now event.now) }
 {
-    reached && is_linked(pattern, earlier, event)
+    reached && may_follow(pattern, earlier, event)
 }
 
 // Whether the patterns that end as the row tells come before a place whose event is chosen for the next pattern.
