@@ -10,7 +10,7 @@ use Rattle.tks_text.specs.declared.fault.Failure.{Failure}
 use Rattle.tks_text.specs.declared.fault.Failure.TheVariants as failure
 use Rattle.tks_vars.specs.Table.{Map}
 use Rattle.tks_vars.specs.Names.{Name, element}
-use Rattle.tks_vars.specs.Variables.{about, after, written, taken, Frame}
+use Rattle.tks_vars.specs.Variables.{about, after, updated, taken, Frame}
 use Rattle.tks_vars.specs.Parts.{own, global_left, local_left, put_global, put_local, take_global, take_local}
 use Rattle.tks_vars.specs.declared.content.Content.{Content}
 use Rattle.tks_vars.specs.declared.content.Content.TheVariants.{Scalar, Array}
@@ -45,22 +45,22 @@ module _ (text : List ℕ) where
   about_failed (Ok y) f fault e = absurd cc
   about_failed (Err number) f fault e = cc
 
-  pub put_there : (m new : Map Content) (name : Name) (value : List ℕ) (old now : Content) → Some old ≡ map.get m name.variable → about text (written (Some old) name.index value) ≡ Ok now
+  pub put_there : (m new : Map Content) (name : Name) (value : List ℕ) (old now : Content) → Some old ≡ map.get m name.variable → about text (updated (Some old) name.index value) ≡ Ok now
       → new ≡ map.insert m name.variable now → about text (put_global m name value) ≡ Ok new
   put_there m new name value old now at is e =
-      ap (λ (o : Option Content). about text (after (written o name.index value) (map.insert m name.variable))) (sym at)
-      ∙ about_after (written (Some old) name.index value) (map.insert m name.variable) now is ∙ ap Ok (sym e)
+      ap (λ (o : Option Content). about text (after (updated o name.index value) (map.insert m name.variable))) (sym at)
+      ∙ about_after (updated (Some old) name.index value) (map.insert m name.variable) now is ∙ ap Ok (sym e)
 
   both : (r : Result Content ErrorNumber) (f : Local → Frame) → about text (after r (λ c. f (Own c))) ≡ about text (after (after r (λ c. Own c)) f)
   both (Ok c) f = refl
   both (Err number) f = refl
 
-  pub put_own : (m new : Frame) (name : Name) (value : List ℕ) (old now : Local) → Some old ≡ map.get m name.variable → about text (after (written (own (Some old)) name.index value) (λ c. Own c)) ≡ Ok now
+  pub put_own : (m new : Frame) (name : Name) (value : List ℕ) (old now : Local) → Some old ≡ map.get m name.variable → about text (after (updated (own (Some old)) name.index value) (λ c. Own c)) ≡ Ok now
       → new ≡ map.insert m name.variable now → about text (put_local m name value) ≡ Ok new
   put_own m new name value old now at is e =
-      ap (λ (o : Option Local). about text (after (written (own o) name.index value) (λ c. map.insert m name.variable (Own c)))) (sym at)
-      ∙ both (written (own (Some old)) name.index value) (map.insert m name.variable)
-      ∙ about_after (after (written (own (Some old)) name.index value) (λ c. Own c)) (map.insert m name.variable) now is ∙ ap Ok (sym e)
+      ap (λ (o : Option Local). about text (after (updated (own o) name.index value) (λ c. map.insert m name.variable (Own c)))) (sym at)
+      ∙ both (updated (own (Some old)) name.index value) (map.insert m name.variable)
+      ∙ about_after (after (updated (own (Some old)) name.index value) (λ c. Own c)) (map.insert m name.variable) now is ∙ ap Ok (sym e)
 
 pub after_ok : {X Y : Type 0} (r : Result X ErrorNumber) (f : X → Y) (x : X) → r ≡ Ok x → after r f ≡ Ok (f x)
 after_ok {X = X} r f x e = ap (λ (s : Result X ErrorNumber). after s f) e

@@ -6,7 +6,7 @@ use Rattle.std.specs.FinMap as map
 use Rattle.tks_text.specs.declared.fault.ErrorNumber.{ErrorNumber}
 use Rattle.tks_vars.specs.Table.{Map}
 use Rattle.tks_vars.specs.Names.{Name, named}
-use Rattle.tks_vars.specs.Variables.{Variables, Frame, about, after, written, taken, on_name, is_link, is_global, innermost, seen_through, with_value, without_at, with_link, with_global_link, content_of, with_content, left_with}
+use Rattle.tks_vars.specs.Variables.{Variables, Frame, about, after, updated, taken, on_name, is_link, is_global, innermost, seen_through, with_value, without_at, with_link, with_global_link, content_of, with_content, left_with}
 use Rattle.tks_vars.specs.Parts.{own, local_left, put_local, take_local}
 use Rattle.tks_vars.specs.declared.content.Content.{Content}
 use Rattle.tks_vars.specs.declared.content.Local.{Local}
@@ -70,11 +70,11 @@ module _ (globals : Map Content) (procedures : Map Procedure) (below : List (Opt
     leaves_own None = ap (λ b. if b then record (holding frame) { globals = map.remove globals name.variable } else holding (map.remove frame name.variable)) no_link
     leaves_own (Some c) = puts_own c
 
-    local_put : (value : List ℕ) → after (written (content_of (holding frame) name.variable) name.index value) (with_content (holding frame) name.variable) ≡ after (put_local frame name value) holding
+    local_put : (value : List ℕ) → after (updated (content_of (holding frame) name.variable) name.index value) (with_content (holding frame) name.variable) ≡ after (put_local frame name value) holding
     local_put value =
-        ap (λ (o : Option Content). after (written o name.index value) (with_content (holding frame) name.variable)) reads_own
-        ∙ after_same (written (own (map.get frame name.variable)) name.index value) _ _ puts_own
-        ∙ sym (after_both (written (own (map.get frame name.variable)) name.index value) (λ c. map.insert frame name.variable (Own c)) holding)
+        ap (λ (o : Option Content). after (updated o name.index value) (with_content (holding frame) name.variable)) reads_own
+        ∙ after_same (updated (own (map.get frame name.variable)) name.index value) _ _ puts_own
+        ∙ sym (after_both (updated (own (map.get frame name.variable)) name.index value) (λ c. map.insert frame name.variable (Own c)) holding)
 
     local_taken : after (taken (content_of (holding frame) name.variable) name.index) (left_with (holding frame) name.variable) ≡ after (take_local frame name) holding
     local_taken =
@@ -90,7 +90,7 @@ module _ (globals : Map Content) (procedures : Map Procedure) (below : List (Opt
     pub sets : (name : Name) (value : List ℕ) → named text ≡ Some name → is_global (innermost now.locals) name.variable ≡ false → with_value now text value ≡ about text (after (put_local frame name value) holding)
     sets name value is local =
         ap (λ v. with_value v text value) held
-        ∙ ap (λ (n : Option Name). about text (on_name n (λ name. after (written (content_of (holding frame) name.variable) name.index value) (with_content (holding frame) name.variable)))) is
+        ∙ ap (λ (n : Option Name). about text (on_name n (λ name. after (updated (content_of (holding frame) name.variable) name.index value) (with_content (holding frame) name.variable)))) is
         ∙ ap (about text) (local_put frame name (no_link_in name local) value)
 
     pub takes : (name : Name) → named text ≡ Some name → is_global (innermost now.locals) name.variable ≡ false → without_at now text ≡ after (take_local frame name) holding

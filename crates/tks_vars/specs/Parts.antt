@@ -5,7 +5,7 @@ use Rattle.tks_text.specs.declared.fault.ErrorNumber.{ErrorNumber}
 use Rattle.tks_text.specs.declared.fault.ErrorNumber.TheVariants.{NoSuchVariable}
 use Rattle.tks_vars.specs.Table.{Map}
 use Rattle.tks_vars.specs.Names.{Name}
-use Rattle.tks_vars.specs.Variables.{Frame, after, written, taken}
+use Rattle.tks_vars.specs.Variables.{Frame, after, updated, taken}
 use Rattle.tks_vars.specs.declared.content.Content.{Content}
 use Rattle.tks_vars.specs.declared.content.Local.{Local}
 use Rattle.tks_vars.specs.declared.content.Local.TheVariants.{Own, Link}
@@ -18,11 +18,11 @@ own (Some Link) = None
 
 -- the globals after a name was given a value
 abbrev pub put_global : Map Content → Name → List ℕ → Result (Map Content) ErrorNumber
-put_global globals name value = after (written (map.get globals name.variable) name.index value) (map.insert globals name.variable)
+put_global globals name value = after (updated (map.get globals name.variable) name.index value) (map.insert globals name.variable)
 
 -- the same of a procedure's frame, where the name is no link
 abbrev pub put_local : Frame → Name → List ℕ → Result Frame ErrorNumber
-put_local frame name value = after (written (own (map.get frame name.variable)) name.index value) (λ content. map.insert frame name.variable (Own content))
+put_local frame name value = after (updated (own (map.get frame name.variable)) name.index value) (λ content. map.insert frame name.variable (Own content))
 
 abbrev pub global_left : Map Content → List ℕ → Option Content → Map Content
 global_left globals variable None = map.remove globals variable

@@ -60,13 +60,13 @@ value_in (Some (Array elements)) None = Err WrongKindOfVariable
 value_in (Some (Array elements)) (Some index) = element_of (map.get elements index)
 
 -- what it becomes by a value
-abbrev pub written : Option Content → Option (List ℕ) → List ℕ → Result Content ErrorNumber
-written None None value = Ok (Scalar value)
-written None (Some index) value = Ok (Array (map.insert map.empty index value))
-written (Some (Scalar old)) None value = Ok (Scalar value)
-written (Some (Scalar old)) (Some index) value = Err WrongKindOfVariable
-written (Some (Array elements)) None value = Err WrongKindOfVariable
-written (Some (Array elements)) (Some index) value = Ok (Array (map.insert elements index value))
+abbrev pub updated : Option Content → Option (List ℕ) → List ℕ → Result Content ErrorNumber
+updated None None value = Ok (Scalar value)
+updated None (Some index) value = Ok (Array (map.insert map.empty index value))
+updated (Some (Scalar old)) None value = Ok (Scalar value)
+updated (Some (Scalar old)) (Some index) value = Err WrongKindOfVariable
+updated (Some (Array elements)) None value = Err WrongKindOfVariable
+updated (Some (Array elements)) (Some index) value = Ok (Array (map.insert elements index value))
 
 abbrev pub without_element : Map (List ℕ) → List ℕ → Result (Option Content) ErrorNumber
 without_element elements index = if map.contains_key elements index then Ok (Some (Array (map.remove elements index))) else Err NoSuchVariable
@@ -159,7 +159,7 @@ value_of variables text = about text (value_at variables text)
 abbrev pub with_value : Variables → List ℕ → List ℕ → Result Variables ScriptFault
 with_value variables text value =
     about text (on_name (named text) (λ name.
-    after (written (content_of variables name.variable) name.index value) (with_content variables name.variable)))
+    after (updated (content_of variables name.variable) name.index value) (with_content variables name.variable)))
 
 abbrev pub left_with : Variables → List ℕ → Option Content → Variables
 left_with variables variable None = without_content variables variable

@@ -1,7 +1,7 @@
 ghost use Rattle.std.specs.Prelude.{◌≡◌, IfOk, OnErr, None, Some, Ok, false};
 ghost use Rattle.tks_text.specs.Fault.{Gives};
 ghost use Rattle.tks_vars.specs.Meets.{AnswersSo, index_seen};
-ghost use Rattle.tks_vars.specs.Variables.{about, after, value_in, written, taken, without_element, is_there, grown_inside, is_link};
+ghost use Rattle.tks_vars.specs.Variables.{about, after, value_in, updated, taken, without_element, is_there, grown_inside, is_link};
 ghost use Rattle.tks_vars.specs.Parts.{own};
 
 use crate::clones::CloneIn;
@@ -28,7 +28,7 @@ pub enum Local {
 impl Content {
     /// A new variable with a value: a scalar, or an array with one element.
     pub fn of(alloc: Global, index: Option<&[u8]>, value: Txt) -> Result<Content, AllocError>
-        ensures { IfOk result (λ made. written None (index_seen index.entry) value ≡ Ok made) }
+        ensures { IfOk result (λ made. updated None (index_seen index.entry) value ≡ Ok made) }
     {
         match index {
             None => Ok(Content::Scalar(value)),
@@ -66,7 +66,7 @@ impl Content {
 
     /// Gives the whole variable, or an element, a value. The error tells the name.
     pub fn write(&mut self, name: &Txt, index: Option<&[u8]>, value: Txt) -> Result<(), Failure>
-        ensures value { Gives (λ _. self.new) result (about name.now (written (Some self.old) (index_seen index.entry) value)) }
+        ensures value { Gives (λ _. self.new) result (about name.now (updated (Some self.old) (index_seen index.entry) value)) }
         ensures err { OnErr result (self.new ≡ self.old) }
     {
         match (self, index) {
@@ -110,7 +110,7 @@ impl Local {
     /// The same as `Content::write`, of a procedure's own variable.
     pub fn write(&mut self, name: &Txt, index: Option<&[u8]>, value: Txt) -> Result<(), Failure>
         requires { is_link (Some self.old) ≡ false }
-        ensures value { Gives (λ _. self.new) result (about name.now (after (written (own (Some self.old)) (index_seen index.entry) value) (λ c. Local.Own c))) }
+        ensures value { Gives (λ _. self.new) result (about name.now (after (updated (own (Some self.old)) (index_seen index.entry) value) (λ c. Local.Own c))) }
         ensures err { OnErr result (self.new ≡ self.old) }
     {
         match self {
