@@ -16,7 +16,7 @@ use Rattle.tks_event.specs.declared.kind.Kind.{Kind}
 use Rattle.tks_event.specs.declared.lead.Lead.{Lead}
 use Rattle.tks_event.specs.declared.modifiers.Modifier.{Modifier}
 use Rattle.tks_event.specs.declared.words.Word.{Word}
-use Rattle.tks_event.specs.declared.reading.Written.{Written}
+use Rattle.tks_event.specs.declared.reading.ParsedPattern.{ParsedPattern}
 use Rattle.tks_event.specs.declared.collected.Collected.{Collected}
 use Rattle.tks_event.specs.declared.pattern.Pattern.{Pattern}
 use Rattle.tks_event.specs.declared.pattern.Repeated.{Repeated}
@@ -32,12 +32,12 @@ word_then w [] = None
 word_then w (c ∷ u) = if c == 62 then Some (w ∷ [], u) else with_word w (words_at (drop (prefix_len is_separator u) u))
 
 -- a pattern as it is written
-abbrev pub written : Written → Repeated
-written w = record { pattern = record { near = false; kind = w.kind; modifiers = w.modifiers; detail = w.detail.now }; times = w.times }
+abbrev pub pattern_seen : ParsedPattern → Repeated
+pattern_seen w = record { pattern = record { near = false; kind = w.kind; modifiers = w.modifiers; detail = w.detail.now }; times = w.times }
 
 -- the same, and what stands behind it
-abbrev pub written_then : Option (Written × Bor (List ℕ)) → Option (Repeated × List ℕ)
-written_then o = option_map (λ x. (written x.0, x.1.now)) o
+abbrev pub pattern_seen_then : Option (ParsedPattern × Bor (List ℕ)) → Option (Repeated × List ℕ)
+pattern_seen_then o = option_map (λ x. (pattern_seen x.0, x.1.now)) o
 
 -- ---- modifiers and repeat words
 

@@ -2,10 +2,10 @@
 ghost use Rattle.std.specs.Prelude.{◌≡◌, ◌++◌, IfOk, OnOk, false};
 ghost use Rattle.tks_text.specs.Text.{IsText};
 ghost use Rattle.tks_event.specs.Sequences.{near_ones, events_of};
-ghost use Rattle.tks_event.specs.View.{written as as_written, standing, kept, none_kept, kept_with, room};
+ghost use Rattle.tks_event.specs.View.{pattern_seen, standing, kept, none_kept, kept_with, room};
 
 use crate::pattern::Pattern;
-use crate::reading::Written;
+use crate::reading::ParsedPattern;
 use smallvec::SmallVec;
 use std::alloc::{AllocError, Global};
 use tks_text::Txt;
@@ -24,11 +24,11 @@ pub(crate) struct Collected {
 /// A pattern as it is written, close behind another or not.
 pub(crate) fn pattern_of(
     alloc: Global,
-    written: &Written<'_>,
+    written: &ParsedPattern<'_>,
     near: bool,
 ) -> Result<Pattern, AllocError>
     requires { IsText written.now.detail.now }
-    ensures { IfOk result (λ p. p ≡ standing near (as_written written.now)) }
+    ensures { IfOk result (λ p. p ≡ standing near (pattern_seen written.now)) }
 {
     Ok(Pattern {
         near,
@@ -42,11 +42,11 @@ pub(crate) fn pattern_of(
 fn push_near(
     alloc: Global,
     patterns: &mut SmallVec<Pattern, 2>,
-    written: &Written<'_>,
+    written: &ParsedPattern<'_>,
     count: u8,
 ) -> Result<(), AllocError>
     requires { IsText written.now.detail.now }
-    ensures { OnOk result (patterns.new.items ≡ patterns.old.items ++ near_ones (standing false (as_written written.now)) count) }
+    ensures { OnOk result (patterns.new.items ≡ patterns.old.items ++ near_ones (standing false (pattern_seen written.now)) count) }
 {
     for done in 0..count {
         let pattern = pattern_of(alloc, written, true)?;
@@ -74,9 +74,13 @@ impl Collected {
     }
 
     /// Adds a pattern as often as it comes.
-    pub(crate) fn add(&mut self, alloc: Global, written: &Written<'_>) -> Result<(), AllocError>
+    pub(crate) fn add(
+        &mut self,
+        alloc: Global,
+        written: &ParsedPattern<'_>,
+    ) -> Result<(), AllocError>
         requires { IsText written.now.detail.now }
-        ensures { OnOk result (kept self.new ≡ kept_with (kept self.old) (events_of (as_written written.now))) }
+        ensures { OnOk result (kept self.new ≡ kept_with (kept self.old) (events_of (pattern_seen written.now))) }
     {
         let near = written.times.saturating_sub(1);
         if !self.has_room(near) {

@@ -7,7 +7,7 @@ ghost use Rattle.tks_event.specs.Kinds.{kind_named};
 ghost use Rattle.tks_event.specs.Reading.{words_at, only, both, then_behind, in_words, pressed, pattern_at, name_closed, virtual_at};
 ghost use Rattle.tks_event.specs.Sequences.{is_name_char};
 ghost use Rattle.tks_event.specs.Spelling.{once, is_bare};
-ghost use Rattle.tks_event.specs.View.{keysym_of_text, name_then, written, written_then, typed_words, led_pattern, led};
+ghost use Rattle.tks_event.specs.View.{keysym_of_text, name_then, pattern_seen, pattern_seen_then, typed_words, led_pattern, led};
 
 use crate::keysym::{is_keysym, keysym_of};
 use crate::kind::{Kind, is_button};
@@ -17,7 +17,7 @@ use crate::words::{Word, read_word};
 
 /// A pattern as it is written, alone.
 #[derive(Clone, Copy)]
-pub(crate) struct Written<'a> {
+pub(crate) struct ParsedPattern<'a> {
     pub kind: Kind,
     pub modifiers: Modifiers,
     /// A keysym or a button's number, or nothing.
@@ -27,10 +27,10 @@ pub(crate) struct Written<'a> {
 }
 
 // A pattern without modifiers and repeat word.
-fn once<'a>(kind: Kind, detail: &'a [u8]) -> Written<'a>
-    ensures { written result ≡ once kind 0 detail.now }
+fn once<'a>(kind: Kind, detail: &'a [u8]) -> ParsedPattern<'a>
+    ensures { pattern_seen result ≡ once kind 0 detail.now }
 {
-    Written {
+    ParsedPattern {
         kind,
         modifiers: Modifiers::none(),
         detail,
@@ -39,10 +39,10 @@ fn once<'a>(kind: Kind, detail: &'a [u8]) -> Written<'a>
 }
 
 // A pattern with these modifiers and this repeat word.
-fn led<'a>(lead: Lead, kind: Kind, detail: &'a [u8]) -> Written<'a>
-    ensures { written result ≡ led_pattern lead kind detail.now }
+fn led<'a>(lead: Lead, kind: Kind, detail: &'a [u8]) -> ParsedPattern<'a>
+    ensures { pattern_seen result ≡ led_pattern lead kind detail.now }
 {
-    Written {
+    ParsedPattern {
         kind,
         modifiers: lead.modifiers,
         detail,
@@ -51,8 +51,8 @@ fn led<'a>(lead: Lead, kind: Kind, detail: &'a [u8]) -> Written<'a>
 }
 
 // The pattern that a word says alone: a type, or a detail of a press.
-fn named_alone(word: &[u8]) -> Option<Written<'_>>
-    ensures { option_map written result ≡ only (kind_named word.now) word.now }
+fn named_alone(word: &[u8]) -> Option<ParsedPattern<'_>>
+    ensures { option_map pattern_seen result ≡ only (kind_named word.now) word.now }
 {
     if let Some(kind) = Kind::named(word) {
         return Some(once(kind, b""));
@@ -67,8 +67,8 @@ fn named_alone(word: &[u8]) -> Option<Written<'_>>
 }
 
 // The pattern that a type and a detail say.
-fn named_by<'a>(word: &[u8], detail: &'a [u8]) -> Option<Written<'a>>
-    ensures { option_map written result ≡ both (kind_named word.now) detail.now }
+fn named_by<'a>(word: &[u8], detail: &'a [u8]) -> Option<ParsedPattern<'a>>
+    ensures { option_map pattern_seen result ≡ both (kind_named word.now) detail.now }
 {
     let kind = Kind::named(word)?;
     if !kind.has_detail(detail) {
@@ -78,8 +78,8 @@ fn named_by<'a>(word: &[u8], detail: &'a [u8]) -> Option<Written<'a>>
 }
 
 // The pattern of a last word behind these.
-fn ended_by<'a>(lead: Lead, word: &'a [u8], rest: &'a [u8]) -> Option<(Written<'a>, &'a [u8])>
-    ensures value { written_then result ≡ led lead (then_behind (only (kind_named word.now) word.now) rest.now) }
+fn ended_by<'a>(lead: Lead, word: &'a [u8], rest: &'a [u8]) -> Option<(ParsedPattern<'a>, &'a [u8])>
+    ensures value { pattern_seen_then result ≡ led lead (then_behind (only (kind_named word.now) word.now) rest.now) }
     ensures same { IfSome result (λ x. x.1.now ≡ rest.now) }
 {
     let Some(written) = named_alone(word) else {
@@ -91,9 +91,9 @@ fn ended_by<'a>(lead: Lead, word: &'a [u8], rest: &'a [u8]) -> Option<(Written<'
 
 // The pattern of a type behind these, with the detail that follows it.
 #[tactic(auto, using(crate::proofs::Leads::more_words))]
-fn typed<'a>(lead: Lead, word: &'a [u8], rest: &'a [u8]) -> Option<(Written<'a>, &'a [u8])>
+fn typed<'a>(lead: Lead, word: &'a [u8], rest: &'a [u8]) -> Option<(ParsedPattern<'a>, &'a [u8])>
     requires { IsText rest.now }
-    ensures value { written_then result ≡ led lead (typed_words word.now (words_at rest.now)) }
+    ensures value { pattern_seen_then result ≡ led lead (typed_words word.now (words_at rest.now)) }
     ensures shorter { IfSome result (λ x. length x.1.now < length rest.now) }
     ensures text { IfSome result (λ x. IsText x.1.now) }
 {
@@ -111,9 +111,9 @@ fn typed<'a>(lead: Lead, word: &'a [u8], rest: &'a [u8]) -> Option<(Written<'a>,
 }
 
 // The pattern that words up to a `>` say, and what stands behind that.
-fn read_words(text: &[u8]) -> Option<(Written<'_>, &[u8])>
+fn read_words(text: &[u8]) -> Option<(ParsedPattern<'_>, &[u8])>
     requires { IsText text.now }
-    ensures value { written_then result ≡ in_words (words_at text.now) }
+    ensures value { pattern_seen_then result ≡ in_words (words_at text.now) }
     ensures shorter { IfSome result (λ x. length x.1.now < length text.now) }
     ensures text { IfSome result (λ x. IsText x.1.now) }
 {
@@ -147,8 +147,8 @@ fn is_bare(c: u8) -> bool
 }
 
 // The press of the key of a character, and what stands behind it.
-fn pressed<'a>(character: &'a [u8], rest: &'a [u8]) -> Option<(Written<'a>, &'a [u8])>
-    ensures value { written_then result ≡ then_behind (pressed (keysym_of_text character.now)) rest.now }
+fn pressed<'a>(character: &'a [u8], rest: &'a [u8]) -> Option<(ParsedPattern<'a>, &'a [u8])>
+    ensures value { pattern_seen_then result ≡ then_behind (pressed (keysym_of_text character.now)) rest.now }
     ensures same { IfSome result (λ x. x.1.now ≡ rest.now) }
 {
     let Some(keysym) = keysym_of(character) else {
@@ -159,9 +159,9 @@ fn pressed<'a>(character: &'a [u8], rest: &'a [u8]) -> Option<(Written<'a>, &'a 
 
 /// The pattern of physical events that the text begins with, and what stands behind it.
 #[tactic(auto, unfolding(crate::specs::Reading::pattern_at))]
-pub(crate) fn read_pattern(text: &[u8]) -> Option<(Written<'_>, &[u8])>
+pub(crate) fn read_pattern(text: &[u8]) -> Option<(ParsedPattern<'_>, &[u8])>
     requires { IsText text.now }
-    ensures value { written_then result ≡ pattern_at text.now }
+    ensures value { pattern_seen_then result ≡ pattern_at text.now }
     ensures shorter { IfSome result (λ x. length x.1.now < length text.now) }
     ensures text { IfSome result (λ x. IsText x.1.now) }
 {

@@ -4,7 +4,7 @@ use Rattle.tks_text.proofs.Texts.{text_drop}
 use Rattle.tks_text.specs.Integer.{is_space}
 use Rattle.tks_text.specs.Text.{IsText, BeginsNot}
 use Rattle.tks_event.specs.Reading.{patterns_in}
-use Rattle.tks_event.specs.View.{written, kept, kept_after}
+use Rattle.tks_event.specs.View.{pattern_seen, kept, kept_after}
 use Rattle.tks_event.proofs.Collecting.{spaces_behind, begins_behind, kept_item, kept_end, kept_bad, detail_is_text}
 use Rattle.tks_event.proofs.parsing.read_patterns.Goals as goal
 
@@ -20,7 +20,7 @@ patterns-init c =
     }
 
 pub add-requires : goal.add-requires
-add-requires c = detail_is_text (written c.in-Some.written) c.patterns.rest.now c.in-Some.behind.now (sym c.in-Some.ensures.value)
+add-requires c = detail_is_text (pattern_seen c.in-Some.written) c.patterns.rest.now c.in-Some.behind.now (sym c.in-Some.ensures.value)
 
 pub patterns-preserved : goal.patterns-preserved
 patterns-preserved c =
@@ -30,7 +30,7 @@ patterns-preserved c =
       so_far = ap (λ t. kept_after (kept c.add.new.self) (patterns_in t)) e
           ∙ ap (kept_after (kept c.add.new.self)) (spaces_behind behind)
           ∙ ap (λ k. kept_after k (patterns_in behind)) c.in_ok-add.ensures
-          ∙ sym (kept_item (kept c.patterns.found) (written c.in-Some.written) c.patterns.rest.now behind (sym c.in-Some.ensures.value))
+          ∙ sym (kept_item (kept c.patterns.found) (pattern_seen c.in-Some.written) c.patterns.rest.now behind (sym c.in-Some.ensures.value))
           ∙ c.patterns.invariant.so_far;
       begins = subst (BeginsNot is_space) (sym e) (begins_behind behind);
       is_text = subst IsText (sym e) (text_drop _ behind c.in-Some.ensures.text);

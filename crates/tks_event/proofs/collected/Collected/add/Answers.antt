@@ -1,7 +1,7 @@
 use Rattle.std.proofs.Common.{◌≡◌, ◌++◌, ◌∷◌, [], ◌-◌, append_assoc, sym, ap, ◌∙◌, false, true, not, List}
 use Rattle.std.proofs.lemmas.Bool.{and_parts, not-true}
 use Rattle.tks_event.specs.Sequences.{near_ones, events_of}
-use Rattle.tks_event.specs.View.{written as as_written}
+use Rattle.tks_event.specs.View.{pattern_seen}
 use Rattle.tks_event.specs.View.{kept, room}
 use Rattle.tks_event.specs.declared.pattern.Pattern.{Pattern}
 use Rattle.tks_event.proofs.Collecting.{kept_full, kept_more}
@@ -11,11 +11,11 @@ pub returns-then-not-has_room : goal.returns-then-not-has_room
 returns-then-not-has_room c =
     let full : room (kept c.args.self.now) (c.args.written.now.times - 1) ≡ false =
     ap (room (kept c.args.self.now)) (sym c.saturating_sub-near.ensures) ∙ sym c.has_room.ensures ∙ c.if-not-has_room.true in
-    sym (kept_full (kept c.args.self.now) (as_written c.args.written.now) full)
+    sym (kept_full (kept c.args.self.now) (pattern_seen c.args.written.now) full)
 
 pub returns : goal.returns
 returns c =
-    let r = as_written c.args.written.now in
+    let r = pattern_seen c.args.written.now in
     let old = kept c.args.self.now in
     let free : room old (c.args.written.now.times - 1) ≡ true = ap (room old) (sym c.saturating_sub-near.ensures) ∙ sym c.has_room.ensures ∙ c.if-not-has_room.false in
     let short = not-true c.args.self.now.is_too_long (and_parts (not c.args.self.now.is_too_long) _ free).0 in
