@@ -2,7 +2,7 @@
 ghost use Rattle.std.specs.Prelude.{◌≡◌, ◌≤◌, ◌<◌, ◌+◌, IfOk, OnOk};
 ghost use Rattle.tks_text.specs.Text.{IsText};
 ghost use Rattle.tks_bind.specs.Binding.{nothing};
-ghost use Rattle.tks_state.specs.ClassBindings.{all_bound, bound_written, entry_keys, first_bindings, invoking, presses, text_keys, traversal, typing, written};
+ghost use Rattle.tks_state.specs.ClassBindings.{all_bound, one_bound, entry_keys, first_bindings, invoking, presses, text_keys, traversal, typing, first_binding};
 
 use std::alloc::{AllocError, Global};
 use tks_bind::{BindFault, Bindings};
@@ -19,7 +19,7 @@ fn bind(
 ) -> Result<(), AllocError>
     requires texts { IsText tag.now × IsText sequence.now × IsText script.now }
     requires room { bindings.old.present.next < 100 }
-    ensures value { OnOk result (bindings.new.present ≡ bound_written (written tag.now sequence.now script.now) bindings.old.present) }
+    ensures value { OnOk result (bindings.new.present ≡ one_bound (first_binding tag.now sequence.now script.now) bindings.old.present) }
     ensures next { OnOk result (bindings.new.present.next ≤ bindings.old.present.next + 1) }
 {
     let tag = Txt::from_text(alloc, tag)?;
