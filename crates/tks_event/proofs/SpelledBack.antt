@@ -110,13 +110,13 @@ detail_words (c ∷ d) = (c ∷ d) ∷ []
 
 record Core (k : Kind) (d v : List ℕ) : Type 0 where
   said : Says (kind_name k ∷ detail_words d) (once k 0 d)
-  written : WordsThen (62 ∷ v) (kind_name k ∷ detail_words d) (kind_name k ++ (detail_text d ++ 62 ∷ v))
+  spelled : WordsThen (62 ∷ v) (kind_name k ∷ detail_words d) (kind_name k ++ (detail_text d ++ 62 ∷ v))
 
 core_of : (k : Kind) (d v : List ℕ) → kind_named (kind_name k) ≡ Some k → is_word (kind_name k) ≡ true → not (is_some_text d) || is_detail k d ≡ true → Core k d v
-core_of k [] v e w h = record { said = names (kind_name k ∷ []) k [] (type (kind_name k) k e); written = last (kind_name k) (word_is (kind_name k) w) }
+core_of k [] v e w h = record { said = names (kind_name k ∷ []) k [] (type (kind_name k) k e); spelled = last (kind_name k) (word_is (kind_name k) w) }
 core_of k (c ∷ d) v e w h = record {
   said = names (kind_name k ∷ (c ∷ d) ∷ []) k (c ∷ d) (type_and_detail (kind_name k) (c ∷ d) k e h);
-  written = word (kind_name k) (45 ∷ []) ((c ∷ d) ++ 62 ∷ v) ((c ∷ d) ∷ []) (word_is (kind_name k) w) (omega arith, (refl, tt)) (last (c ∷ d) (detail_word k (c ∷ d) h));
+  spelled = word (kind_name k) (45 ∷ []) ((c ∷ d) ++ 62 ∷ v) ((c ∷ d) ∷ []) (word_is (kind_name k) w) (omega arith, (refl, tt)) (last (c ∷ d) (detail_word k (c ∷ d) h));
 }
 
 core : (k : Kind) (d v : List ℕ) → not (same_kind k kind.Virtual) ≡ true → not (is_some_text d) || is_detail k d ≡ true → Core k d v
@@ -133,13 +133,13 @@ core kind.Virtual d v n h = absurd cc
 record Led (k : Kind) (d : List ℕ) (set : ℕ) (v t : List ℕ) : Type 0 where
   words : List (List ℕ)
   said : Says words (once k set d)
-  written : WordsThen v words t
+  spelled : WordsThen v words t
 
 one_led : (k : Kind) (d : List ℕ) (u : ℕ) (v t : List ℕ) (m : Modifier) (b : Bool) → Led k d u v t → Led k d (if b then bit_or u (bit_of m) else u) v ((if b then dashed (modifier_name m) else []) ++ t)
 one_led k d u v t m true l = record {
   words = modifier_name m ∷ l.words;
   said = modifier (modifier_name m) l.words m (once k u d) (modifier_reads m) l.said;
-  written = dash_then v (modifier_name m) t l.words (word_is (modifier_name m) (modifier_word m)) l.written;
+  spelled = dash_then v (modifier_name m) t l.words (word_is (modifier_name m) (modifier_word m)) l.spelled;
 }
 one_led k d u v t m false l = l
 
@@ -154,17 +154,17 @@ led_by k d set v t (m ∷ ms) l =
 record Repeats (k : Kind) (d : List ℕ) (set n : ℕ) (v t : List ℕ) : Type 0 where
   words : List (List ℕ)
   said : Says words (repeated n (once k set d))
-  written : WordsThen v words t
+  spelled : WordsThen v words t
 
 more_often : (k : Kind) (d : List ℕ) (set n : ℕ) (w v t : List ℕ) → times_named w ≡ Some n → is_word w ≡ true → Led k d set v t → Repeats k d set n v (dashed w ++ t)
 more_often k d set n w v t e b l = record {
   words = w ∷ l.words;
   said = repeat w l.words n (once k set d) e refl l.said;
-  written = dash_then v w t l.words (word_is w b) l.written;
+  spelled = dash_then v w t l.words (word_is w b) l.spelled;
 }
 
 repeat_by : (k : Kind) (d : List ℕ) (set n : ℕ) (v t : List ℕ) → n ≤ 3 → Led k d set v t → Repeats k d set (suc n) v (repeat_text (suc n) ++ t)
-repeat_by k d set zero v t h l = record { words = l.words; said = l.said; written = l.written }
+repeat_by k d set zero v t h l = record { words = l.words; said = l.said; spelled = l.spelled }
 repeat_by k d set (suc zero) v t h l = more_often k d set 2 (codes "Double") v t refl refl l
 repeat_by k d set (suc (suc zero)) v t h l = more_often k d set 3 (codes "Triple") v t refl refl l
 repeat_by k d set (suc (suc (suc zero))) v t h l = more_often k d set 4 (codes "Quadruple") v t refl refl l
@@ -180,7 +180,7 @@ physical_spelled p n v h far few =
     let a = and_parts (not (same_kind p.kind kind.Virtual)) _ h in
     let b = and_parts (nat_lt p.modifiers all_bits) _ a.1 in
     let c = core p.kind p.detail v a.0 b.1 in
-    let start : Led p.kind p.detail 0 (62 ∷ v) (kind_name p.kind ++ (detail_text p.detail ++ 62 ∷ v)) = record { words = kind_name p.kind ∷ detail_words p.detail; said = c.said; written = c.written } in
+    let start : Led p.kind p.detail 0 (62 ∷ v) (kind_name p.kind ++ (detail_text p.detail ++ 62 ∷ v)) = record { words = kind_name p.kind ∷ detail_words p.detail; said = c.said; spelled = c.spelled } in
     let l = led_by p.kind p.detail p.modifiers (62 ∷ v) (kind_name p.kind ++ (detail_text p.detail ++ 62 ∷ v)) all_modifiers start in
     let r = repeat_by p.kind p.detail (union_of p.modifiers all_modifiers) n (62 ∷ v) (modifiers_text p.modifiers all_modifiers ++ (kind_name p.kind ++ (detail_text p.detail ++ 62 ∷ v))) few l in
     let set : union_of p.modifiers all_modifiers ≡ p.modifiers = union_all p.modifiers (ltb-true p.modifiers all_bits b.0) in
@@ -188,7 +188,7 @@ physical_spelled p n v h far few =
     ap (λ m. repeated (suc n) (once p.kind m p.detail)) set
     ∙ ap (λ b. record { pattern = record { near = b; kind = p.kind; modifiers = p.modifiers; detail = p.detail }; times = suc n }) (sym far) in
     subst (λ t. PatternThen v (record { pattern = p; times = suc n }) (60 ∷ t)) (sym (regrouped (repeat_text (suc n)) (modifiers_text p.modifiers all_modifiers) (kind_name p.kind) (detail_text p.detail) v))
-    (in_brackets r.words (record { pattern = p; times = suc n }) _ r.written (subst (Says r.words) same r.said))
+    (in_brackets r.words (record { pattern = p; times = suc n }) _ r.spelled (subst (Says r.words) same r.said))
 
 pattern_spelled_so : (p : Pattern) (n : ℕ) (v : List ℕ) → is_physical p ≡ true → p.near ≡ false → n ≤ 3 → PatternThen v (record { pattern = p; times = suc n }) (pattern_text p (suc n) ++ v)
 pattern_spelled_so p n v h far few =
