@@ -7,7 +7,7 @@ use Rattle.tks_list.specs.declared.ends.Ends.{Ends}
 use Rattle.tks_list.specs.declared.fault.ListFault.{ListFault}
 use Rattle.tks_list.specs.declared.fault.ListFault.TheVariants.{NoMemory, NotAList}
 use Rattle.tks_list.specs.Gives.{FailsStep, FailsRun, ListRead}
-use Rattle.tks_list.specs.Reading.{char_step, chars_at, element_step, elements_at, whole, list_of}
+use Rattle.tks_list.specs.Reading.{char_step, chars_at, element_step, elements_at, without_fault, list_of}
 
 pub chars_go : (ends : Ends) (front item : List ℕ) (n k : ℕ) (t : List ℕ) (all : Run ListFault (List ℕ)) → behind (λ e. front ++ e) n (chars_at ends t) ≡ all → char_step ends t ≡ takes (λ e. item ++ e) k → k < length t → behind (λ e. (front ++ item) ++ e) (n + (1 + k)) (chars_at ends (drop (1 + k) t)) ≡ all
 unfolding chars_at char_step
@@ -27,28 +27,28 @@ chars_err ends front n t all NotAList h e = ap (λ (r : Run ListFault (List ℕ)
 abbrev pub behind_list : List (List ℕ) → Option (List (List ℕ)) → Option (List (List ℕ))
 behind_list front o = option_map (λ l. front ++ l) o
 
-whole_front : (front item l : List (List ℕ)) (f : Option ListFault) → behind_list (front ++ item) (whole l f) ≡ behind_list front (whole (item ++ l) f)
-whole_front front item l None = ap Some (append_assoc front item l)
-whole_front front item l (Some f) = refl
+without_fault_front : (front item l : List (List ℕ)) (f : Option ListFault) → behind_list (front ++ item) (without_fault l f) ≡ behind_list front (without_fault (item ++ l) f)
+without_fault_front front item l None = ap Some (append_assoc front item l)
+without_fault_front front item l (Some f) = refl
 
 pub list_go : (front item : List (List ℕ)) (k : ℕ) (t : List ℕ) (all : Option (List (List ℕ))) → behind_list front (list_of t) ≡ all → element_step t ≡ takes (λ l. item ++ l) k → k < length t → behind_list (front ++ item) (list_of (drop (1 + k) t)) ≡ all
 unfolding list_of elements_at element_step
 list_go front item k t all h e lt =
     let rest = run [] element_step 0 (drop (1 + k) t) in
-    whole_front front item rest.items rest.fault
-    ∙ ap (λ (r : Run ListFault (List (List ℕ))). behind_list front (whole r.items r.fault)) (sym (run_takes [] element_step t (λ l. item ++ l) k refl e lt))
+    without_fault_front front item rest.items rest.fault
+    ∙ ap (λ (r : Run ListFault (List (List ℕ))). behind_list front (without_fault r.items r.fault)) (sym (run_takes [] element_step t (λ l. item ++ l) k refl e lt))
     ∙ h
 
 pub list_stop : (front : List (List ℕ)) (t : List ℕ) (all : Option (List (List ℕ))) → behind_list front (list_of t) ≡ all → element_step t ≡ stop → all ≡ Some front
 unfolding list_of elements_at element_step
 list_stop front t all h e =
-    sym h ∙ ap (λ (r : Run ListFault (List (List ℕ))). behind_list front (whole r.items r.fault)) (run_stops [] element_step t e) ∙ ap Some (append-nil front)
+    sym h ∙ ap (λ (r : Run ListFault (List (List ℕ))). behind_list front (without_fault r.items r.fault)) (run_stops [] element_step t e) ∙ ap Some (append-nil front)
 
 pub list_err : (front : List (List ℕ)) (t : List ℕ) (all : Option (List (List ℕ))) (f : ListFault) → behind_list front (list_of t) ≡ all → FailsStep f (element_step t) → ListRead (Err f) all
 unfolding list_of elements_at element_step
 list_err front t all NoMemory h e = tt
 list_err front t all NotAList h e =
-    sym h ∙ ap (λ (r : Run ListFault (List (List ℕ))). behind_list front (whole r.items r.fault)) (run_fails [] element_step t NotAList refl e)
+    sym h ∙ ap (λ (r : Run ListFault (List (List ℕ))). behind_list front (without_fault r.items r.fault)) (run_fails [] element_step t NotAList refl e)
 
 pub list_start : (o : Option (List (List ℕ))) → behind_list [] o ≡ o
 list_start None = refl

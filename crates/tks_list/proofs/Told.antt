@@ -7,7 +7,7 @@ use Rattle.tks_text.specs.Backslash.{escape}
 use Rattle.tks_text.specs.Integer.{is_space}
 use Rattle.tks_text.specs.Run.{Step, stop, fails, takes, Run, run, after_step, on_run}
 use Rattle.tks_list.specs.ListText.{ends_at, CharsThen, no_char, char, escaped, AtEndOrSpace, ElementThen, braced, in_quotes, bare, Splits}
-use Rattle.tks_list.specs.Reading.{no_braces, closing_brace, char_step, chars_at, escape_step, behind_close, braced_element, quoted_element, quoted_step, bare_step, element_step, elements_at, whole, list_of}
+use Rattle.tks_list.specs.Reading.{no_braces, closing_brace, char_step, chars_at, escape_step, behind_close, braced_element, quoted_element, quoted_step, bare_step, element_step, elements_at, without_fault, list_of}
 use Rattle.tks_list.specs.declared.ends.Ends.{Ends}
 use Rattle.tks_list.specs.declared.ends.Ends.TheVariants.{Space, Quote}
 use Rattle.tks_list.specs.declared.fault.ListFault.{ListFault}
@@ -157,13 +157,13 @@ run_elements (suc k) [] = tt
 run_elements (suc k) (c ∷ u) = run_elements k u
 run_elements zero (c ∷ u) = after_element c u (element_step (c ∷ u)) (λ k. run [] element_step k u) (element_case c u) (λ k. run_elements k u)
 
-whole_told : (t : List ℕ) (o : Option ListFault) (k l : List (List ℕ)) → ListOutcome t o k → whole k o ≡ Some l → Splits t l
-whole_told t None k l h e = let same : k ≡ l = cc in subst (Splits t) same h
-whole_told t (Some f) k l h e = absurd cc
+without_fault_told : (t : List ℕ) (o : Option ListFault) (k l : List (List ℕ)) → ListOutcome t o k → without_fault k o ≡ Some l → Splits t l
+without_fault_told t None k l h e = let same : k ≡ l = cc in subst (Splits t) same h
+without_fault_told t (Some f) k l h e = absurd cc
 
 list_told : (t : List ℕ) (l : List (List ℕ)) → list_of t ≡ Some l → Splits t l
 unfolding list_of elements_at
-list_told t l e = whole_told t (run [] element_step 0 t).fault (run [] element_step 0 t).items l (run_elements 0 t) e
+list_told t l e = without_fault_told t (run [] element_step 0 t).fault (run [] element_step 0 t).items l (run_elements 0 t) e
 
 pub splits_one : (t : List ℕ) (l : List (List ℕ)) → Splits t l ↔ (list_of t ≡ Some l)
 splits_one t l = (splits_read t l, list_told t l)

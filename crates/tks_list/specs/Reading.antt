@@ -85,10 +85,10 @@ element_step (c ∷ u) =
 unfoldable pub elements_at : List ℕ → Run ListFault (List (List ℕ))
 elements_at t = run [] element_step 0 t
 
-abbrev pub whole : List (List ℕ) → Option ListFault → Option (List (List ℕ))
-whole l None = Some l
-whole l (Some f) = None
+abbrev pub without_fault : List (List ℕ) → Option ListFault → Option (List (List ℕ))
+without_fault l None = Some l
+without_fault l (Some f) = None
 
 -- the list that a text splits into, if it splits into one
 unfoldable pub list_of : List ℕ → Option (List (List ℕ))
-list_of t = let r = elements_at t in whole r.items r.fault
+list_of t = let r = elements_at t in without_fault r.items r.fault
