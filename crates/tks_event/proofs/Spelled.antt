@@ -11,7 +11,7 @@ use Rattle.tks_text.specs.Text.{BeginsNot}
 use Rattle.tks_text.specs.Run.{Step, fails, takes, Run, run, after_step}
 use Rattle.tks_event.specs.Keysyms.{keysym_of}
 use Rattle.tks_event.specs.Spelling.{is_bare, WordsThen, last, word, PatternThen, bare, in_brackets, Patterns, no_more, pattern}
-use Rattle.tks_event.specs.Reading.{Words, words_at, said, then_behind, in_words, pressed, pattern_at, taken_pattern, pattern_step, whole, patterns_in}
+use Rattle.tks_event.specs.Reading.{Words, words_at, said, then_behind, in_words, pressed, pattern_at, taken_pattern, pattern_step, without_fault, patterns_in}
 use Rattle.tks_event.specs.declared.pattern.Repeated.{Repeated}
 use Rattle.tks_event.proofs.WordsTold.{words_spelled, words_told}
 use Rattle.tks_event.proofs.Saying.{said_spelled, says_told, says_filled}
@@ -91,19 +91,19 @@ no_patterns = refl
 abbrev NoFault : Type 0
 NoFault = Unit {0}
 
-whole_by : (r : Repeated) (rs : List Repeated) (f : Option NoFault) → whole (r ∷ rs) f ≡ option_map (λ rs. r ∷ rs) (whole rs f)
-whole_by r rs None = refl
-whole_by r rs (Some f) = refl
+without_fault_by : (r : Repeated) (rs : List Repeated) (f : Option NoFault) → without_fault (r ∷ rs) f ≡ option_map (λ rs. r ∷ rs) (without_fault rs f)
+without_fault_by r rs None = refl
+without_fault_by r rs (Some f) = refl
 
-whole_more : (r : Repeated) (x : Run NoFault (List Repeated)) → whole (r ∷ x.items) x.fault ≡ option_map (λ rs. r ∷ rs) (whole x.items x.fault)
-whole_more r x = whole_by r x.items x.fault
+without_fault_more : (r : Repeated) (x : Run NoFault (List Repeated)) → without_fault (r ∷ x.items) x.fault ≡ option_map (λ rs. r ∷ rs) (without_fault x.items x.fault)
+without_fault_more r x = without_fault_by r x.items x.fault
 
-abbrev whole_run : Run NoFault (List Repeated) → Option (List Repeated)
-whole_run x = whole x.items x.fault
+abbrev without_fault_run : Run NoFault (List Repeated) → Option (List Repeated)
+without_fault_run x = without_fault x.items x.fault
 
 pub patterns_space : (c : ℕ) (t : List ℕ) → is_space c ≡ true → patterns_in (c ∷ t) ≡ patterns_in t
 unfolding patterns_in pattern_step
-patterns_space c t s = ap whole_run (run_takes [] pattern_step (c ∷ t) (λ rs. rs) 0 refl (rw s refl) (omega arith))
+patterns_space c t s = ap without_fault_run (run_takes [] pattern_step (c ∷ t) (λ rs. rs) 0 refl (rw s refl) (omega arith))
 
 tail_of : {c d : ℕ} {t u : List ℕ} → c ∷ t ≡ d ∷ u → t ≡ u
 tail_of e = cc
@@ -117,13 +117,13 @@ patterns_item c t v r s e =
     let one : 1 + length f.more ≡ suc (length f.more) = omega arith in
     let rest : drop (1 + length f.more) (c ∷ t) ≡ v = ap (λ n. drop n (c ∷ t)) one ∙ ap (drop (length f.more)) tail ∙ drop_at f.more v (length f.more) refl in
     let step : pattern_step (c ∷ t) ≡ takes (λ rs. r ∷ rs) (length f.more) = rw s (ap (taken_pattern (length t)) e ∙ ap (λ n. takes (λ rs. r ∷ rs) n) count) in
-    ap whole_run (run_takes [] pattern_step (c ∷ t) (λ rs. r ∷ rs) (length f.more) refl step (omega (arith, ap length tail, length-append f.more v)))
-    ∙ whole_more r (run [] pattern_step 0 (drop (1 + length f.more) (c ∷ t)))
-    ∙ ap (λ u. option_map (λ rs. r ∷ rs) (whole_run (run [] pattern_step 0 u))) rest
+    ap without_fault_run (run_takes [] pattern_step (c ∷ t) (λ rs. r ∷ rs) (length f.more) refl step (omega (arith, ap length tail, length-append f.more v)))
+    ∙ without_fault_more r (run [] pattern_step 0 (drop (1 + length f.more) (c ∷ t)))
+    ∙ ap (λ u. option_map (λ rs. r ∷ rs) (without_fault_run (run [] pattern_step 0 u))) rest
 
 pub patterns_bad : (c : ℕ) (t : List ℕ) → is_space c ≡ false → pattern_at (c ∷ t) ≡ None → patterns_in (c ∷ t) ≡ None
 unfolding patterns_in pattern_step
-patterns_bad c t s e = ap whole_run (run_fails [] pattern_step (c ∷ t) tt refl (rw s (ap (taken_pattern (length t)) e)))
+patterns_bad c t s e = ap without_fault_run (run_fails [] pattern_step (c ∷ t) tt refl (rw s (ap (taken_pattern (length t)) e)))
 
 pub spaces_passed : (s t : List ℕ) → AreSpaces s → patterns_in (s ++ t) ≡ patterns_in t
 spaces_passed [] t h = refl
@@ -190,10 +190,10 @@ run_patterns (suc k) [] = no_more [] tt
 run_patterns (suc k) (c ∷ u) = run_patterns k u
 run_patterns zero (c ∷ u) = after_case c u (pattern_step (c ∷ u)) (λ k. run [] pattern_step k u) (step_case c u) (λ k. run_patterns k u)
 
-whole_told : (t : List ℕ) (o : Option NoFault) (ps rs : List Repeated) → Outcome t o ps → whole ps o ≡ Some rs → Patterns rs t
-whole_told t None ps rs h e = let same : ps ≡ rs = cc in subst (λ x. Patterns x t) same h
-whole_told t (Some f) ps rs h e = absurd cc
+without_fault_told : (t : List ℕ) (o : Option NoFault) (ps rs : List Repeated) → Outcome t o ps → without_fault ps o ≡ Some rs → Patterns rs t
+without_fault_told t None ps rs h e = let same : ps ≡ rs = cc in subst (λ x. Patterns x t) same h
+without_fault_told t (Some f) ps rs h e = absurd cc
 
 pub patterns_told : (t : List ℕ) (rs : List Repeated) → patterns_in t ≡ Some rs → Patterns rs t
 unfolding patterns_in
-patterns_told t rs e = whole_told t (run [] pattern_step 0 t).fault (run [] pattern_step 0 t).items rs (run_patterns 0 t) e
+patterns_told t rs e = without_fault_told t (run [] pattern_step 0 t).fault (run [] pattern_step 0 t).items rs (run_patterns 0 t) e

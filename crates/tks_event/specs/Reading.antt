@@ -153,13 +153,13 @@ unfoldable pub pattern_step : List ℕ → Step (Unit {0}) (List Repeated)
 pattern_step [] = stop
 pattern_step (c ∷ t) = if is_space c then takes (λ rs. rs) 0 else taken_pattern (length t) (pattern_at (c ∷ t))
 
-abbrev pub whole : List Repeated → Option (Unit {0}) → Option (List Repeated)
-whole rs None = Some rs
-whole rs (Some f) = None
+abbrev pub without_fault : List Repeated → Option (Unit {0}) → Option (List Repeated)
+without_fault rs None = Some rs
+without_fault rs (Some f) = None
 
 -- the patterns of physical events that a text is, with white space around them
 unfoldable pub patterns_in : List ℕ → Option (List Repeated)
-patterns_in t = let r = run [] pattern_step 0 t in whole r.items r.fault
+patterns_in t = let r = run [] pattern_step 0 t in without_fault r.items r.fault
 
 abbrev pub some_events : Option (List Repeated) → Option (List Pattern)
 some_events None = None
