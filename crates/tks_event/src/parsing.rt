@@ -122,7 +122,7 @@ pub fn parse_sequence(alloc: Global, text: &Txt) -> Result<Sequence, Failure>
 }
 
 // The name of the virtual event that a text spells, with nothing behind it.
-fn whole_name(text: &[u8]) -> Option<&[u8]>
+fn name_alone(text: &[u8]) -> Option<&[u8]>
     ensures { bytes_seen result ≡ named_before is_end (virtual_at text.now) }
 {
     let (name, rest) = read_virtual(text)?;
@@ -133,7 +133,7 @@ fn whole_name(text: &[u8]) -> Option<&[u8]>
 }
 
 // The pattern of physical events that a text is, with nothing behind it.
-fn whole_pattern(alloc: Global, text: &[u8]) -> Result<Option<Repeated>, AllocError>
+fn pattern_alone(alloc: Global, text: &[u8]) -> Result<Option<Repeated>, AllocError>
     requires { IsText text.now }
     ensures { IfOk result (λ o. o ≡ alone (pattern_at text.now)) }
 {
@@ -154,11 +154,11 @@ fn read_one(alloc: Global, text: &[u8]) -> Result<Option<Repeated>, AllocError>
     requires { IsText text.now }
     ensures { IfOk result (λ o. o ≡ pattern_of text.now) }
 {
-    if let Some(name) = whole_name(text) {
+    if let Some(name) = name_alone(text) {
         let pattern = virtual_one(alloc, name)?;
         return Ok(Some(Repeated { pattern, times: 1 }));
     }
-    let found = whole_pattern(alloc, text)?;
+    let found = pattern_alone(alloc, text)?;
     Ok(found)
 }
 
