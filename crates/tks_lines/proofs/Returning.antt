@@ -6,7 +6,7 @@ use Rattle.std.proofs.lemmas.Bool.Decides.{nat_tests}
 use Rattle.std.proofs.lemmas.List.{reverse-append, length-reverse, length-take-le, length-append}
 use Rattle.std.proofs.lemmas.List.Folds.{prefix_len-append}
 use Rattle.std.proofs.lemmas.List.Sums.{suffix_len-le-length, sum_by-cons}
-use Rattle.tks_lines.specs.Places.{is_newline, is_inner, whole, end_place, lines_before, column_of, within_line, place_at}
+use Rattle.tks_lines.specs.Places.{is_newline, is_inner, with_newline, end_place, lines_before, column_of, within_line, place_at}
 use Rattle.tks_lines.proofs.Far.{this_line}
 
 -- how many stand behind the last newline, with one more before them all
@@ -92,5 +92,5 @@ leads_back text zero h = this_line text (Some 0) ∙ omega arith
 leads_back [] (suc zero) h = refl
 leads_back [] (suc (suc place)) h = absurd (omega arith)
 leads_back (c ∷ text) (suc place) h =
-    let long : length (take place (whole text)) ≡ place = length-take-le place (whole text) (omega (arith, length-append text (10 ∷ []))) in
-    one_more c text (take place (whole text)) place (is_newline c) refl long (behind (take place (whole text))) (leads_back text place (omega arith))
+    let long : length (take place (with_newline text)) ≡ place = length-take-le place (with_newline text) (omega (arith, length-append text (10 ∷ []))) in
+    one_more c text (take place (with_newline text)) place (is_newline c) refl long (behind (take place (with_newline text))) (leads_back text place (omega arith))

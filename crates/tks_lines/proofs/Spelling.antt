@@ -16,8 +16,8 @@ use Rattle.std.specs.Str.Parse.{AllDigits, IsNumeral, digits_value}
 use Rattle.tks_text.specs.Integer.{is_space}
 use Rattle.tks_text.specs.Text.{same_text, BeginsNot}
 use Rattle.tks_text.proofs.Prefixes.{Pass, prefix_of}
-use Rattle.tks_lines.specs.Places.{is_newline, is_inner, whole, end_place, lines_before, column_of, place_at, place_of_line}
-use Rattle.tks_lines.specs.Indices.{is_minus, digits_len, number_at, column_at, behind_dot, line_column, numbered, if_whole, or_else, named, based, index_place}
+use Rattle.tks_lines.specs.Places.{is_newline, is_inner, with_newline, end_place, lines_before, column_of, place_at, place_of_line}
+use Rattle.tks_lines.specs.Indices.{is_minus, digits_len, number_at, column_at, behind_dot, line_column, numbered, if_at_end, or_else, named, based, index_place}
 use Rattle.tks_lines.specs.Lines.{Lines}
 use Rattle.tks_lines.specs.Commands.{spelled}
 use Rattle.tks_lines.proofs.Returning.{leads_back}
@@ -87,25 +87,25 @@ unsigned text (c ∷ ds) rest some d =
     ap (λ b. if b then option_map (λ (x : ℕ × Option ℕ × ℕ). (0, x.2 + 1)) (line_column (ds ++ rest)) else option_map (λ (x : ℕ × Option ℕ × ℕ). (place_of_line text x.0 x.1, x.2)) (line_column (c ∷ ds ++ rest))) (no_minus c d.0)
 
 -- the whole
-read_whole : (text : List ℕ) (line column : ℕ) → line < 2 ^ 64 → column < 2 ^ 64 → let word = decimal line ++ 46 ∷ decimal column in if_whole (length word) (numbered text word) ≡ Some (place_of_line text line (Some column))
-read_whole text line column h k =
+read_all : (text : List ℕ) (line column : ℕ) → line < 2 ^ 64 → column < 2 ^ 64 → let word = decimal line ++ 46 ∷ decimal column in if_at_end (length word) (numbered text word) ≡ Some (place_of_line text line (Some column))
+read_all text line column h k =
     let num = decimal_is_IsNumeral line h in
     let word = decimal line ++ 46 ∷ decimal column in
     let taken = length (decimal line) + (length (decimal column) + 1) in
     let all : (taken == length word) ≡ true = let e : taken ≡ length word = omega (arith, length-append (decimal line) (46 ∷ decimal column)) in grind (arith, nat_tests) in
-    ap (if_whole (length word)) (unsigned text (decimal line) (46 ∷ decimal column) num.0.0 num.0.1 ∙ ap (option_map (λ (x : ℕ × Option ℕ × ℕ). (place_of_line text x.0 x.1, x.2))) (both_told line column h k))
+    ap (if_at_end (length word)) (unsigned text (decimal line) (46 ∷ decimal column) num.0.0 num.0.1 ∙ ap (option_map (λ (x : ℕ × Option ℕ × ℕ). (place_of_line text x.0 x.1, x.2))) (both_told line column h k))
     ∙ ap (λ b. if b then Some (place_of_line text line (Some column)) else None) all
 
 pub spelled_names : (t : Lines) (place : ℕ) → length t.text < 2 ^ 63 → place ≤ end_place t.text → index_place t (spelled t.text place) ≡ Some place
 unfolding index_place
 spelled_names t place short h =
-    let lines : lines_before t.text place ≤ length t.text + 1 = omega (arith, count_by-le-length is_newline (take place (whole t.text)), length-take place (whole t.text), length-append t.text (10 ∷ [])) in
-    let column : column_of t.text place ≤ length t.text + 1 = omega (arith, suffix_len-le-length is_inner (take place (whole t.text)), length-take place (whole t.text), length-append t.text (10 ∷ [])) in
+    let lines : lines_before t.text place ≤ length t.text + 1 = omega (arith, count_by-le-length is_newline (take place (with_newline t.text)), length-take place (with_newline t.text), length-append t.text (10 ∷ [])) in
+    let column : column_of t.text place ≤ length t.text + 1 = omega (arith, suffix_len-le-length is_inner (take place (with_newline t.text)), length-take place (with_newline t.text), length-append t.text (10 ∷ [])) in
     let line = lines_before t.text place + 1 in
     let some : (line == 0) ≡ false = grind (arith, nat_tests) in
     let one : line - 1 ≡ lines_before t.text place = omega arith in
     let word = spelled t.text place in
-    ap (λ o. or_else o (or_else (named t word) (based t (drop (prefix_len is_space word) word)))) (read_whole t.text line (column_of t.text place) (omega arith) (omega arith))
+    ap (λ o. or_else o (or_else (named t word) (based t (drop (prefix_len is_space word) word)))) (read_all t.text line (column_of t.text place) (omega arith) (omega arith))
     ∙ ap (λ b. Some (if b then 0 else place_at t.text (line - 1) (Some (column_of t.text place)))) some
     ∙ ap (λ n. Some (place_at t.text n (Some (column_of t.text place)))) one
     ∙ ap Some (leads_back t.text place h)

@@ -15,7 +15,7 @@ use Rattle.tks_opt.specs.declared.said.Said.{Said}
 use Rattle.tks_opt.specs.declared.said.Said.TheVariants.{Text}
 use Rattle.tks_lines.specs.declared.parts.Tag.{Tag}
 use Rattle.tks_lines.specs.declared.parts.Mark.{Mark}
-use Rattle.tks_lines.specs.Places.{whole, lines_before, column_of}
+use Rattle.tks_lines.specs.Places.{with_newline, lines_before, column_of}
 use Rattle.tks_lines.specs.Indices.{place_in}
 use Rattle.tks_lines.specs.Lines.{Lines, mark_named, is_tag, is_on, tagged, with_tag, without_tags, with_mark, without_marks, turned_marks, inserted, inserted_with, deleted, at_most_last}
 
@@ -38,7 +38,7 @@ spelled text place = decimal (lines_before text place + 1) ++ 46 ∷ decimal (co
 
 -- the characters between two places, the last newline too
 abbrev pub between : ℕ → ℕ → List ℕ → List ℕ
-between first last text = drop first (take last (whole text))
+between first last text = drop first (take last (with_newline text))
 
 abbrev pub get_does : List ℕ → List (List ℕ) → Lines → Called
 get_does path [] t = wrong_words path

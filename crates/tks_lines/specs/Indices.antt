@@ -153,9 +153,9 @@ moved text place zero (c ∷ t) = go_on (step_at text place (c ∷ t)) (λ next 
 -- ---- indices
 
 -- a place, where that was all
-abbrev pub if_whole : ℕ → Option (ℕ × ℕ) → Option ℕ
-if_whole len None = None
-if_whole len (Some x) = if x.1 == len then Some x.0 else None
+abbrev pub if_at_end : ℕ → Option (ℕ × ℕ) → Option ℕ
+if_at_end len None = None
+if_at_end len (Some x) = if x.1 == len then Some x.0 else None
 
 -- a base, and modifiers behind it
 abbrev pub based : Lines → List ℕ → Option ℕ
@@ -164,7 +164,7 @@ based t word = option_and_then (λ b. moved t.text b.0 0 (drop b.1 word)) (base_
 -- the place that an index names. A name that is the whole index may have blanks and signs in it
 unfoldable pub index_place : Lines → List ℕ → Option ℕ
 index_place t word =
-    or_else (if_whole (length word) (numbered t.text word)) (or_else (named t word) (based t (drop (space_len word) word)))
+    or_else (if_at_end (length word) (numbered t.text word)) (or_else (named t word) (based t (drop (space_len word) word)))
 
 abbrev pub or_bad : List ℕ → Option ℕ → Result ℕ ScriptFault
 or_bad word None = Err (fault_about BadIndex word)

@@ -14,8 +14,8 @@ abbrev pub is_inner : ℕ → Bool
 is_inner c = not (is_newline c)
 
 -- the characters and the last newline
-abbrev pub whole : List ℕ → List ℕ
-whole text = text ++ 10 ∷ []
+abbrev pub with_newline : List ℕ → List ℕ
+with_newline text = text ++ 10 ∷ []
 
 -- the place behind the last newline
 abbrev pub end_place : List ℕ → ℕ
@@ -25,11 +25,11 @@ end_place text = length text + 1
 
 -- how many lines end before a place
 abbrev pub lines_before : List ℕ → ℕ → ℕ
-lines_before text place = count_by is_newline (take place (whole text))
+lines_before text place = count_by is_newline (take place (with_newline text))
 
 -- how many characters stand before a place on its line
 abbrev pub column_of : List ℕ → ℕ → ℕ
-column_of text place = suffix_len is_inner (take place (whole text))
+column_of text place = suffix_len is_inner (take place (with_newline text))
 
 -- the place at which its line begins
 abbrev pub line_start : List ℕ → ℕ → ℕ

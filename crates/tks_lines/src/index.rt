@@ -2,7 +2,7 @@
 ghost use Rattle.std.specs.Prelude.{◌≡◌, ◌+◌, ◌-◌, ◌<◌, ◌≤◌, ◌^◌, length, IfSome, IfOk, option_and_then};
 ghost use Rattle.tks_text.specs.Fault.{Gives};
 ghost use Rattle.tks_lines.specs.Places.{end_place};
-ghost use Rattle.tks_lines.specs.Indices.{numbered, named, base_at, is_one_of_three, unit_named, edge_named, unit_at, counted, modifier_at, step_at, moved, based, index_place, place_in, if_whole};
+ghost use Rattle.tks_lines.specs.Indices.{numbered, named, base_at, is_one_of_three, unit_named, edge_named, unit_at, counted, modifier_at, step_at, moved, based, index_place, place_in, if_at_end};
 
 use crate::lines::TextWidget;
 use crate::marks::mark_named;
