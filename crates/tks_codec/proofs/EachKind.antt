@@ -9,7 +9,7 @@ use Rattle.std.proofs.lemmas.Nat.{be_bytes_2, be_bytes_4, be_bytes_8, from_be_by
 use Rattle.std.specs.Prelude.{◌||◌, ◌&&◌, ◌==◌}
 use Rattle.tks_text.proofs.Texts.{both}
 use Rattle.tks_text.specs.Text.{is_text_byte, IsText}
-use Rattle.tks_codec.specs.Spelling.{◌>>=◌, Spelling, Spells, IsBytes, Lawful, number_at, number, byte_at, byte, passed, such_that, field, through, signed, which, whole, none, pair, is_flag, flag_of, flag, just, count_of, option, is_behind, rising, AreLegal, members, members_at, list_at, list_by, list, text_byte, text}
+use Rattle.tks_codec.specs.Spelling.{◌>>=◌, Spelling, Spells, IsBytes, Lawful, number_at, number, byte_at, byte, passed, such_that, field, through, signed, which, no_bytes, none, pair, is_flag, flag_of, flag, just, count_of, option, is_behind, rising, AreLegal, members, members_at, list_at, list_by, list, text_byte, text}
 use Rattle.tks_codec.proofs.Joining.{not_nil, Stands, in_first, in_second, stands, bind_ok, bind_err, bind_same, bind_done, ok_is, no_fault, Parts, Joins, joins_lawful}
 
 abbrev failed : {A : Type 0} → ℕ → Result A ℕ
@@ -54,8 +54,8 @@ one_list s l filled (x ∷ xs) (y ∷ ys) p q e =
 
 -- ---- nothing left to be spelled
 
-pub whole_lawful : {T : Type 0} (value : T) → Lawful (whole value)
-whole_lawful {T} value = record {
+pub no_bytes_lawful : {T : Type 0} (value : T) → Lawful (no_bytes value)
+no_bytes_lawful {T} value = record {
   reads_back = λ v rest h. ap (λ (w : T). Ok (w, rest)) (sym h);
   nothing_else = λ bytes v rest fits e. let p = ok_is (value, bytes) (v, rest) e in record { legal = sym (ap (λ (x : T × List ℕ). x.0) p); parts = ap (λ (x : T × List ℕ). x.1) p };
   within = λ bytes left fits e. absurd (no_fault (value, bytes) left e);
@@ -300,7 +300,7 @@ module _ {A T : Type 0} (get : T → A) (s : Spelling A) (others : A → Spellin
 
 module _ {A T : Type 0} (get : T → A) (make : A → T) (s : Spelling A) (told : (a : A) → s.Legal a → get (make a) ≡ a) where
   pub through_lawful : Lawful s → Lawful (through get make s)
-  through_lawful l = same {s = field get s (λ a. whole (make a))} {t = through get make s} (field_lawful get s (λ a. whole (make a)) (λ a v k h. ap get h ∙ told a k) l (λ a. whole_lawful (make a)))
+  through_lawful l = same {s = field get s (λ a. no_bytes (make a))} {t = through get make s} (field_lawful get s (λ a. no_bytes (make a)) (λ a v k h. ap get h ∙ told a k) l (λ a. no_bytes_lawful (make a)))
       (λ v h. sym (append-nil (s.write (get v))))
       (λ bytes. refl)
       (λ v h. h)
@@ -324,28 +324,28 @@ flag_lawful =
     field_lawful flag_of (such_that is_flag byte) _
     (λ n v k. which_told _ _ (n == 1) v (λ e h. ap flag_of h ∙ sym (eqb-true n 1 e)) (which_told _ _ (n == 0) v (λ e h. ap flag_of h ∙ sym (eqb-true n 0 e)) (λ h. absurd h)))
     flag_byte_lawful
-    (λ n. which_lawful (n == 1) (whole_lawful true) (which_lawful (n == 0) (whole_lawful false) none_lawful))
+    (λ n. which_lawful (n == 1) (no_bytes_lawful true) (which_lawful (n == 0) (no_bytes_lawful false) none_lawful))
 
 module _ {T : Type 0} (s : Spelling T) where
-  just_parts : (o : Option T) → (just s).Legal o → Parts s (λ v. whole v) (λ a b. Some b) (just s) o
+  just_parts : (o : Option T) → (just s).Legal o → Parts s (λ v. no_bytes v) (λ a b. Some b) (just s) o
   just_parts None h = absurd h
   just_parts (Some v) h = record { first = v; others = v; is = refl; legal = h; fits = refl; parts = sym (append-nil (s.write v)) }
 
-  just_joins : Joins s (λ v. whole v) (λ a b. Some b) (just s)
+  just_joins : Joins s (λ v. no_bytes v) (λ a b. Some b) (just s)
   just_joins = record {
     reads = λ bytes. refl;
     apart = just_parts;
     together = λ a b h e. (subst s.Legal (sym e) h, ap s.write e ∙ sym (append-nil (s.write a)));
   }
 
-  count_told : (n : ℕ) (o : Option T) → (which (n == 1) (just s) (which (n == 0) (whole None) none)).Legal o → count_of o ≡ n
-  count_told n None = which_told (just s) (which (n == 0) (whole None) none) (n == 1) None (λ e h. absurd h) (which_told (whole None) none (n == 0) None (λ e h. sym (eqb-true n 0 e)) (λ h. absurd h))
-  count_told n (Some v) = which_told (just s) (which (n == 0) (whole None) none) (n == 1) (Some v) (λ e h. sym (eqb-true n 1 e)) (which_told (whole None) none (n == 0) (Some v) (λ e h. ap count_of h ∙ sym (eqb-true n 0 e)) (λ h. absurd h))
+  count_told : (n : ℕ) (o : Option T) → (which (n == 1) (just s) (which (n == 0) (no_bytes None) none)).Legal o → count_of o ≡ n
+  count_told n None = which_told (just s) (which (n == 0) (no_bytes None) none) (n == 1) None (λ e h. absurd h) (which_told (no_bytes None) none (n == 0) None (λ e h. sym (eqb-true n 0 e)) (λ h. absurd h))
+  count_told n (Some v) = which_told (just s) (which (n == 0) (no_bytes None) none) (n == 1) (Some v) (λ e h. sym (eqb-true n 1 e)) (which_told (no_bytes None) none (n == 0) (Some v) (λ e h. ap count_of h ∙ sym (eqb-true n 0 e)) (λ h. absurd h))
 
   pub option_lawful : Lawful s → Lawful (option s)
   option_lawful l =
       field_lawful count_of (such_that is_flag byte) _ (λ n v k. count_told n v) flag_byte_lawful
-      (λ n. which_lawful (n == 1) (joins_lawful just_joins l (λ v. whole_lawful v)) (which_lawful (n == 0) (whole_lawful None) none_lawful))
+      (λ n. which_lawful (n == 1) (joins_lawful just_joins l (λ v. no_bytes_lawful v)) (which_lawful (n == 0) (no_bytes_lawful None) none_lawful))
 
 -- ---- lists
 
@@ -371,7 +371,7 @@ module _ {T : Type 0} (member : Option T → Spelling T) (each : (before : Optio
 
   no_member : (before : Option T) → Lawful (exactly before 0)
   unfolding members_at
-  no_member before = same (whole_lawful []) writes (λ bytes. refl) empty (λ vs h. subst (λ ws. (length ws ≡ 0) × AreLegal member before ws) (sym h) (refl, tt))
+  no_member before = same (no_bytes_lawful []) writes (λ bytes. refl) empty (λ vs h. subst (λ ws. (length ws ≡ 0) × AreLegal member before ws) (sym h) (refl, tt))
     where
       empty : (vs : List T) → (length vs ≡ 0) × AreLegal member before vs → vs ≡ []
       empty [] h = refl

@@ -6,7 +6,7 @@ use Rattle.tks_input.specs.declared.input.Input.{Input}
 use Rattle.tks_input.specs.declared.input.Input.TheVariants.{Script, KeyPress, KeyRelease, Press, Release, Clock, Turn}
 use Rattle.tks_codec.specs.Spelling.{Lawful, such_that, byte, number, text}
 use Rattle.tks_codec.specs.Input.{text_of, button_of, x_of, y_of, time_of, tag_of, of_text, of_button, of_time, behind_tag, is_tag, input, IsInput}
-use Rattle.tks_codec.proofs.EachKind.{whole_lawful, none_lawful, byte_lawful, wide16, wide64, number_lawful, test_lawful, which_lawful, which_told, field_lawful, through_lawful, text_lawful}
+use Rattle.tks_codec.proofs.EachKind.{no_bytes_lawful, none_lawful, byte_lawful, wide16, wide64, number_lawful, test_lawful, which_lawful, which_told, field_lawful, through_lawful, text_lawful}
 
 of_text_lawful : (make : List ℕ → Input) → ((t : List ℕ) → text_of (make t) ≡ t) → Lawful (of_text make)
 of_text_lawful make told = through_lawful text_of make text (λ t k. told t) text_lawful
@@ -28,7 +28,7 @@ behind_tag_lawful tag =
     (which_lawful (tag == 4) (of_button_lawful (λ b x y. Press b x y) (λ b x y. (refl, refl, refl)))
     (which_lawful (tag == 5) (of_button_lawful (λ b x y. Release b x y) (λ b x y. (refl, refl, refl)))
     (which_lawful (tag == 6) (of_time_lawful (λ t. Clock t) (λ t. refl))
-    (which_lawful (tag == 7) (whole_lawful Turn) none_lawful))))))
+    (which_lawful (tag == 7) (no_bytes_lawful Turn) none_lawful))))))
 
 -- an input behind a tag has that tag
 tag_told : (tag : ℕ) (v : Input) → ((such_that is_tag byte).Legal tag) → (behind_tag tag).Legal v → tag_of v ≡ tag

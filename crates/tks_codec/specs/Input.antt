@@ -4,7 +4,7 @@ use Rattle.std.specs.Int.{w16, w64}
 use Rattle.tks_text.specs.Text.{IsText}
 use Rattle.tks_input.specs.declared.input.Input.{Input}
 use Rattle.tks_input.specs.declared.input.Input.TheVariants.{Script, KeyPress, KeyRelease, Press, Release, Clock, Turn}
-use Rattle.tks_codec.specs.Spelling.{Read, Spelling, byte, number, text, such_that, field, through, which, whole, none}
+use Rattle.tks_codec.specs.Spelling.{Read, Spelling, byte, number, text, such_that, field, through, which, no_bytes, none}
 
 -- the text that an input holds; where it holds none, the empty one
 abbrev pub text_of : Input → List ℕ
@@ -70,7 +70,7 @@ behind_tag tag =
     (which (tag == 4) (of_button (λ button x y. Press button x y))
     (which (tag == 5) (of_button (λ button x y. Release button x y))
     (which (tag == 6) (of_time (λ time. Clock time))
-    (which (tag == 7) (whole Turn) none))))))
+    (which (tag == 7) (no_bytes Turn) none))))))
 
 -- the tags that there are
 abbrev pub is_tag : ℕ → Bool

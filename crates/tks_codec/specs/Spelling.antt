@@ -103,8 +103,8 @@ abbrev pub signed : Width → Spelling ℤ
 signed w = through (cast_unsigned w) (cast_signed w) (number w)
 
 -- this value, of which nothing is left to be spelled
-abbrev pub whole : {T : Type 0} → T → Spelling T
-whole value = record { Legal = λ other. other ≡ value; write = λ other. []; read = λ bytes. Ok (value, bytes) }
+abbrev pub no_bytes : {T : Type 0} → T → Spelling T
+no_bytes value = record { Legal = λ other. other ≡ value; write = λ other. []; read = λ bytes. Ok (value, bytes) }
 
 -- no value
 abbrev pub none : {T : Type 0} → Spelling T
@@ -130,7 +130,7 @@ flag_of true = 1
 
 -- a truth value: 0 or 1
 abbrev pub flag : Spelling Bool
-flag = field flag_of (such_that is_flag byte) (λ n. which (n == 1) (whole true) (which (n == 0) (whole false) none))
+flag = field flag_of (such_that is_flag byte) (λ n. which (n == 1) (no_bytes true) (which (n == 0) (no_bytes false) none))
 
 -- a value that is there: which have a spelling, and what it is
 module _ {T : Type 0} (s : Spelling T) where
@@ -152,7 +152,7 @@ count_of (Some value) = 1
 
 -- 0, or 1 and a value
 abbrev pub option : {T : Type 0} → Spelling T → Spelling (Option T)
-option s = field count_of (such_that is_flag byte) (λ n. which (n == 1) (just s) (which (n == 0) (whole None) none))
+option s = field count_of (such_that is_flag byte) (λ n. which (n == 1) (just s) (which (n == 0) (no_bytes None) none))
 
 -- ---- lists
 

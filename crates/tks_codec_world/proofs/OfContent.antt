@@ -8,7 +8,7 @@ use Rattle.tks_entry.specs.Entry.{Entry}
 use Rattle.tks_listbox.specs.Listbox.{Listbox}
 use Rattle.tks_lines.specs.Lines.{Lines}
 use Rattle.tks_codec.specs.Spelling.{Lawful, byte, such_that}
-use Rattle.tks_codec.proofs.EachKind.{byte_lawful, test_lawful, through_lawful, whole_lawful}
+use Rattle.tks_codec.proofs.EachKind.{byte_lawful, test_lawful, through_lawful, no_bytes_lawful}
 use Rattle.tks_codec_windows.specs.Entry.{entry}
 use Rattle.tks_codec_windows.specs.Listbox.{listbox}
 use Rattle.tks_codec_windows.specs.Lines.{lines}
@@ -52,11 +52,11 @@ class_legal class.Text = ((omega arith, refl), refl)
 -- ---- what widgets hold
 
 content_by_lawful : (c : Class) (o : Options) → Lawful (content_by c o)
-content_by_lawful class.Root o = whole_lawful (widget.Frame o)
-content_by_lawful class.Frame o = whole_lawful (widget.Frame o)
-content_by_lawful class.Label o = whole_lawful (widget.Caption o)
-content_by_lawful class.Button o = whole_lawful (widget.Caption o)
-content_by_lawful class.Checkbutton o = whole_lawful (widget.Caption o)
+content_by_lawful class.Root o = no_bytes_lawful (widget.Frame o)
+content_by_lawful class.Frame o = no_bytes_lawful (widget.Frame o)
+content_by_lawful class.Label o = no_bytes_lawful (widget.Caption o)
+content_by_lawful class.Button o = no_bytes_lawful (widget.Caption o)
+content_by_lawful class.Checkbutton o = no_bytes_lawful (widget.Caption o)
 content_by_lawful class.Entry o = through_lawful entry_in (λ e. widget.Entry e) (entry o) (λ e k. refl) (entry_lawful o)
 content_by_lawful class.Listbox o = through_lawful listbox_in (λ l. widget.Listbox l) (listbox o) (λ l k. refl) (listbox_lawful o)
 content_by_lawful class.Text o = through_lawful lines_in (λ t. widget.Text t) (lines o) (λ t k. refl) (lines_lawful o)

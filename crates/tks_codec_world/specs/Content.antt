@@ -7,7 +7,7 @@ use Rattle.tks_opt.specs.Options.{Options}
 use Rattle.tks_entry.specs.Entry.{Entry}
 use Rattle.tks_listbox.specs.Listbox.{Listbox}
 use Rattle.tks_lines.specs.Lines.{Lines}
-use Rattle.tks_codec.specs.Spelling.{Read, Spelling, through, whole}
+use Rattle.tks_codec.specs.Spelling.{Read, Spelling, through, no_bytes}
 use Rattle.tks_codec_windows.specs.Entry.{entry}
 use Rattle.tks_codec_windows.specs.Listbox.{listbox}
 use Rattle.tks_codec_windows.specs.Lines.{lines}
@@ -41,11 +41,11 @@ lines_in (widget.Text t) = t
 
 -- a widget of a class, with these options
 abbrev pub content_by : Class → Options → Spelling Widget
-content_by class.Root o = whole (widget.Frame o)
-content_by class.Frame o = whole (widget.Frame o)
-content_by class.Label o = whole (widget.Caption o)
-content_by class.Button o = whole (widget.Caption o)
-content_by class.Checkbutton o = whole (widget.Caption o)
+content_by class.Root o = no_bytes (widget.Frame o)
+content_by class.Frame o = no_bytes (widget.Frame o)
+content_by class.Label o = no_bytes (widget.Caption o)
+content_by class.Button o = no_bytes (widget.Caption o)
+content_by class.Checkbutton o = no_bytes (widget.Caption o)
 content_by class.Entry o = through entry_in (λ e. widget.Entry e) (entry o)
 content_by class.Listbox o = through listbox_in (λ l. widget.Listbox l) (listbox o)
 content_by class.Text o = through lines_in (λ t. widget.Text t) (lines o)
