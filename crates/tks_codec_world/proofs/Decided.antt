@@ -42,7 +42,7 @@ use Rattle.tks_codec_windows.specs.Listbox as listboxes
 use Rattle.tks_codec_windows.specs.Packing.{HasPaddings}
 use Rattle.tks_codec_windows.specs.Texts.{IsShort, AreShort, AreShortTags}
 use Rattle.tks_codec_windows.specs.Places.{has_own_class}
-use Rattle.tks_state.specs.Restoring.{is_whole}
+use Rattle.tks_state.specs.Restoring.{is_possible}
 use Rattle.tks_state.specs.Widget.{options_of}
 use Rattle.tks_state.specs.Windows.{Windows}
 use Rattle.tks_state.specs.World.{World, windows_of}
@@ -244,7 +244,7 @@ pub storable : (w : World) → Decides (is_storable w) (HasSpelling w)
 unfolding is_storable
 storable w =
     by (λ h. record {
-      whole = h.0;
+      possible = h.0;
       counts = h.1.0;
       windows = h.1.1.0;
       variables = h.1.1.1.0;
@@ -253,6 +253,6 @@ storable w =
       waiting = h.1.1.1.1.1.1.0;
       ends = h.1.1.1.1.1.1.1;
     })
-    (λ r. (r.whole, (r.counts, (r.windows, (r.variables, (r.happenings, (r.queue, (r.waiting, r.ends))))))))
-    (both (itself (is_whole w)) (both (itself (are_counts (counts_of w))) (both (windows_short (windows_of w)) (both (variables_short w.variables) (both (happenings_short (happenings_of w))
+    (λ r. (r.possible, (r.counts, (r.windows, (r.variables, (r.happenings, (r.queue, (r.waiting, r.ends))))))))
+    (both (itself (is_possible w)) (both (itself (are_counts (counts_of w))) (both (windows_short (windows_of w)) (both (variables_short w.variables) (both (happenings_short (happenings_of w))
     (both (queue_short w.queue) (both (waiting_short w.timers) (ends_short (ends_of w)))))))))

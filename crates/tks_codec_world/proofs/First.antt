@@ -12,7 +12,7 @@ use Rattle.tks_codec_events.specs.Memories.{IsShortMemory, are_memories, rise_be
 use Rattle.tks_event.specs.Keysyms.{is_keysym, keysym_of}
 use Rattle.tks_event.specs.Reading.{words_at, said, pattern_at, virtual_at, pattern_of, pattern_step, patterns_in, spelled_list, sequence_of}
 use Rattle.tks_state.specs.ClassBindings.{first_bindings}
-use Rattle.tks_state.specs.Restoring.{is_whole}
+use Rattle.tks_state.specs.Restoring.{is_possible}
 use Rattle.tks_state.specs.World.{first_world, windows_of}
 use Rattle.tks_timer.specs.After.{nothing}
 use Rattle.tks_vars.specs.Table.{Map}
@@ -62,9 +62,9 @@ memories_fit names are few = let many = as_many names in record { count = omega 
 -- ---- the other parts
 
 module _ (grid : Extent) (names : List (List ℕ)) where
-  whole : is_whole (first_world grid names) ≡ true
-  unfolding is_whole
-  whole = refl
+  possible : is_possible (first_world grid names) ≡ true
+  unfolding is_possible
+  possible = refl
 
   counted : are_counts (counts_of (first_world grid names)) ≡ true
   unfolding first_bindings words_at said pattern_at virtual_at pattern_of pattern_step patterns_in spelled_list sequence_of is_keysym keysym_of
@@ -97,7 +97,7 @@ variables i = none_fit Content global_fits i && none_fit Procedure procedure_fit
 
 pub first_has_spelling : (grid : Extent) (names : List (List ℕ)) → AreNames names → length names < 2 ^ 32 → HasSpelling (first_world grid names)
 first_has_spelling grid names are few = record {
-  whole = whole grid names;
+  possible = possible grid names;
   counts = counted grid names;
   windows = (windows_short (windows_of (first_world grid names))).says (windows grid names);
   variables = (variables_short no_variables).says variables;

@@ -9,7 +9,7 @@ use Rattle.tks_codec.specs.declared.unread.Unread.TheVariants as unread
 use Rattle.tks_codec.proofs.EachKind.{test_lawful, field_lawful, through_lawful}
 use Rattle.tks_codec_events.proofs.Waiting.{queue_lawful, waiting_lawful}
 use Rattle.tks_codec_variables.proofs.OfVariables.{variables_lawful}
-use Rattle.tks_state.specs.Restoring.{is_whole, world_of, restored}
+use Rattle.tks_state.specs.Restoring.{is_possible, world_of, restored}
 use Rattle.tks_state.specs.World.{World, windows_of}
 use Rattle.tks_state.specs.declared.restoring.WorldParts.{WorldParts}
 use Rattle.tks_codec_world.specs.World.{counts_of, happenings_of, ends_of, fields, fields_at, world, world_at}
@@ -35,7 +35,7 @@ fields_lawful grid =
     through_lawful ends_of _ _ (λ e k. refl) ends_lawful))))))
 
 pub world_lawful : (grid : Extent) → Lawful (world grid)
-world_lawful grid = test_lawful is_whole (fields grid) (λ v h. omega arith) (fields_lawful grid)
+world_lawful grid = test_lawful is_possible (fields grid) (λ v h. omega arith) (fields_lawful grid)
 
 -- ---- reading
 
@@ -47,10 +47,10 @@ some_same : {X : Type 0} (x y : X) → Some x ≡ Some y → x ≡ y
 unfolding or_this
 some_same x y e = ap (or_this x) e
 
--- a world that was read is whole
-pub whole_read : (grid : Extent) (bytes rest : List ℕ) (p : WorldParts) (w : World) → fields_at grid bytes ≡ Ok (world_of p, rest) → Some w ≡ restored p → world_at grid bytes ≡ Ok (w, rest)
+-- a world that was read is a possible one
+pub possible_read : (grid : Extent) (bytes rest : List ℕ) (p : WorldParts) (w : World) → fields_at grid bytes ≡ Ok (world_of p, rest) → Some w ≡ restored p → world_at grid bytes ≡ Ok (w, rest)
 unfolding fields_at world_at
-whole_read grid bytes rest p w e h = ap (λ (r : Read World). r >>= passed is_whole) e ∙ by (is_whole (world_of p)) h
+possible_read grid bytes rest p w e h = ap (λ (r : Read World). r >>= passed is_possible) e ∙ by (is_possible (world_of p)) h
   where
     found : Bool → Read World
     found b = if b then Ok (world_of p, rest) else Err (suc (length rest))
@@ -62,9 +62,9 @@ whole_read grid bytes rest p w e h = ap (λ (r : Read World). r >>= passed is_wh
     by true h = ap (λ (x : World). Ok (x, rest)) (sym (some_same w (world_of p) h))
     by false h = absurd cc
 
-pub not_whole_read : (grid : Extent) (bytes rest : List ℕ) (p : WorldParts) → fields_at grid bytes ≡ Ok (world_of p, rest) → None ≡ restored p → world_at grid bytes ≡ Err (length rest + 1)
+pub impossible_read : (grid : Extent) (bytes rest : List ℕ) (p : WorldParts) → fields_at grid bytes ≡ Ok (world_of p, rest) → None ≡ restored p → world_at grid bytes ≡ Err (length rest + 1)
 unfolding fields_at world_at
-not_whole_read grid bytes rest p e h = ap (λ (r : Read World). r >>= passed is_whole) e ∙ by (is_whole (world_of p)) h
+impossible_read grid bytes rest p e h = ap (λ (r : Read World). r >>= passed is_possible) e ∙ by (is_possible (world_of p)) h
   where
     found : Bool → Read World
     found b = if b then Ok (world_of p, rest) else Err (suc (length rest))

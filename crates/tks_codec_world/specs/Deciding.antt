@@ -31,7 +31,7 @@ use Rattle.tks_codec_events.specs.Memories.{are_memories}
 use Rattle.tks_timer.specs.WellFormed.{are_waiting}
 use Rattle.tks_codec_events.specs.Virtuals.{is_virtual_event}
 use Rattle.tks_codec_windows.specs.Places.{has_own_class}
-use Rattle.tks_state.specs.Restoring.{is_whole}
+use Rattle.tks_state.specs.Restoring.{is_possible}
 use Rattle.tks_state.specs.Widget.{options_of}
 use Rattle.tks_state.specs.Windows.{Windows}
 use Rattle.tks_state.specs.World.{World, windows_of}
@@ -171,7 +171,7 @@ ends_fit x = memories_fit x.memories && texts_fit x.faults
 -- whether a world has a spelling
 unfoldable pub is_storable : World → Bool
 is_storable w =
-    is_whole w
+    is_possible w
     && (are_counts (counts_of w)
     && (windows_fit (windows_of w)
     && (variables_fit w.variables && (happenings_fit (happenings_of w) && (queue_fits w.queue && (waiting_fits w.timers && ends_fit (ends_of w)))))))

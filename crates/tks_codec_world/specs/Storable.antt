@@ -27,7 +27,7 @@ use Rattle.tks_codec_windows.specs.Listbox as listboxes
 use Rattle.tks_codec_windows.specs.Packing.{HasPaddings}
 use Rattle.tks_codec_windows.specs.Places.{HaveOwnClasses}
 use Rattle.tks_codec_windows.specs.Texts.{IsShort, AreShort, AreShortTags}
-use Rattle.tks_state.specs.Restoring.{is_whole}
+use Rattle.tks_state.specs.Restoring.{is_possible}
 use Rattle.tks_state.specs.Widget.{options_of}
 use Rattle.tks_state.specs.Windows.{Windows}
 use Rattle.tks_state.specs.World.{World, windows_of}
@@ -131,7 +131,7 @@ pub record VariablesFit (v : Variables) : Type 0 where
   pub sound : variables.AreSound v
 
 pub record HasSpelling (w : World) : Type 0 where
-  pub whole : is_whole w ≡ true
+  pub possible : is_possible w ≡ true
   pub counts : are_counts (counts_of w) ≡ true
   pub windows : WindowsFit (windows_of w)
   pub variables : VariablesFit w.variables

@@ -6,7 +6,7 @@ use Rattle.tks_codec.specs.Writing.{flattened}
 use Rattle.tks_codec_events.specs.Queue.{queue}
 use Rattle.tks_codec_events.specs.Timers.{waiting}
 use Rattle.tks_codec_variables.specs.Variables.{variables}
-use Rattle.tks_state.specs.Restoring.{is_whole}
+use Rattle.tks_state.specs.Restoring.{is_possible}
 use Rattle.tks_state.specs.World.{World, windows_of}
 use Rattle.tks_codec_world.specs.Counts.{counts}
 use Rattle.tks_codec_world.specs.Ends.{Ends, ends}
@@ -76,7 +76,7 @@ pub record WaitsAreLegal (w : World) : Type 0 where
 
 -- a world
 abbrev pub world : Extent → Spelling World
-world grid = such_that is_whole (fields grid)
+world grid = such_that is_possible (fields grid)
 
 -- the world at the front of bytes, and what stands behind it
 unfoldable pub world_at : Extent → List ℕ → Read World

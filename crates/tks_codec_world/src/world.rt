@@ -107,7 +107,7 @@ fn numbers_of(world: &World) -> Counts
 
 /// Whether a world has a spelling: no list has 2^32 members, no text 2^32 bytes, no number is above 2^62, no frame was begun,
 /// and what stands in it is such as is read.
-#[tactic(auto, using(tks_state::proofs::Whole::whole))]
+#[tactic(auto, using(tks_state::proofs::Possible::possible))]
 pub fn has_spelling(world: &World) -> bool
     ensures { (result ≡ true) ↔ HasSpelling world.now }
 {

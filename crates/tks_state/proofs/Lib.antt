@@ -6,5 +6,5 @@ pub mod Children
 mod Linked
 mod Holding
 pub mod Restored
-pub mod Whole
+pub mod Possible
 mod Looping

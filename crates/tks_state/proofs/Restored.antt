@@ -14,7 +14,7 @@ use Rattle.tks_state.specs.World.{World, windows_of, events_of, loop_of}
 use Rattle.tks_state.specs.declared.restoring.WorldParts.{WorldParts}
 use Rattle.tks_tree.specs.WellFormed as trees
 use Rattle.tks_tree.specs.Windows as tree
-use Rattle.tks_state.specs.Restoring.{kept_with, kept_of_parts, is_kept_of, are_in_step, is_among, are_distinct, is_number, packs_children, are_windows, is_whole, world_of, restored}
+use Rattle.tks_state.specs.Restoring.{kept_with, kept_of_parts, is_kept_of, are_in_step, is_among, are_distinct, is_number, packs_children, are_windows, is_possible, world_of, restored}
 use Rattle.tks_state.specs.WellFormed.{WellFormedWindows, PacksChildren, AllPackChildren, InStep, packed_windows, mark_of, window_mark}
 use Rattle.tks_state.specs.Widget.{class_of}
 use Rattle.tks_state.specs.Windows.{Windows}
@@ -158,18 +158,18 @@ told false y x h = absurd (some_is_none (sym h))
 abbrev made : WorldParts → Windows → Events → World
 made p x e = record (world_of p) { tree = x.tree; kept = x.kept; bindings = e.bindings; virtuals = e.virtuals; history = e.history; faults = e.faults }
 
-pub whole : (p : WorldParts) (x : Windows) (e : Events) → p.accepted ≤ 2 ^ 62 → all_in p.tree.windows (loop_of (world_of p)) ≡ true → length p.history.present ≤ max_history
+pub possible : (p : WorldParts) (x : Windows) (e : Events) → p.accepted ≤ 2 ^ 62 → all_in p.tree.windows (loop_of (world_of p)) ≡ true → length p.history.present ≤ max_history
     → (if are_windows (windows_of (world_of p)) then Some (windows_of (world_of p)) else None) ≡ Some x
     → (if nat_le (length p.faults) max_faults then Some (events_of (world_of p)) else None) ≡ Some e
     → Some (made p x e) ≡ restored p
-unfolding is_whole
-whole p x e few there short windows events =
+unfolding is_possible
+possible p x e few there short windows events =
     let w = world_of p in
     let a = told (are_windows (windows_of w)) (windows_of w) x windows in
     let b = told (nat_le (length p.faults) max_faults) (events_of w) e events in
     let counted : nat_le w.accepted (2 ^ 62) ≡ true = le-leb w.accepted (2 ^ 62) few in
     let remembered : nat_le (length w.history) max_history ≡ true = le-leb (length w.history) max_history short in
-    let all : is_whole w ≡ true = rw (counted, a.0, remembered, b.0, there) refl in
+    let all : is_possible w ≡ true = rw (counted, a.0, remembered, b.0, there) refl in
     ap (λ (v : Windows). Some (made p v e)) (sym a.1) ∙ ap (λ (v : Events). Some (made p (windows_of w) v)) (sym b.1) ∙ ap (λ (t : Bool). if t then Some w else None) (sym all)
 
 -- what is of windows that are there is of those that are made again

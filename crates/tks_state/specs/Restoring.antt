@@ -1,4 +1,4 @@
--- Worlds made again of their parts: which of them are whole (this project's own rules; that what is packed stands in its
+-- Worlds made again of their parts: which of them are possible (this project's own rules; that what is packed stands in its
 -- container, pack(n)).
 use Rattle.std.specs.Prelude.{ℕ, ◌^◌, Bool, true, false, ◌&&◌, ◌||◌, ◌==◌, not, nat_le, if◌then◌else◌, List, [], ◌∷◌, length, Option, Some, None}
 use Rattle.std.specs.List.{list_all}
@@ -60,8 +60,8 @@ are_windows x = are_in_step x.tree.windows x.kept && list_all (packs_children x.
 -- ---- the world
 
 -- whether a world with such a tree is one that there may be
-unfoldable pub is_whole : World → Bool
-is_whole w =
+unfoldable pub is_possible : World → Bool
+is_possible w =
     nat_le w.accepted (2 ^ 62)
     && (are_windows (windows_of w) && (nat_le (length w.history) max_history && (nat_le (length w.faults) max_faults && all_in w.tree.windows (loop_of w))))
 
@@ -88,4 +88,4 @@ world_of p = record {
 
 -- the same, where there may be such a world
 abbrev pub restored : WorldParts → Option World
-restored p = if is_whole (world_of p) then Some (world_of p) else None
+restored p = if is_possible (world_of p) then Some (world_of p) else None

@@ -6,7 +6,7 @@ ghost use Rattle.tks_tree.specs.WellFormed as trees;
 ghost use Rattle.tks_state.specs.Widget.{class_of};
 ghost use Rattle.tks_state.specs.Windows.{kept_of};
 ghost use Rattle.tks_state.specs.WellFormed.{WellFormed};
-ghost use Rattle.tks_state.specs.Restoring.{is_whole, restored};
+ghost use Rattle.tks_state.specs.Restoring.{is_possible, restored};
 ghost use Rattle.tks_queue.specs.EventQueue.{first};
 ghost use Rattle.tks_timer.specs.After.{script_in, kept_under};
 ghost use Rattle.tks_state.specs.World.{with_virtual, without_virtual, without_virtual_sequence, with_clock, queued, without_event, with_timer, with_idle, without_id, without_script, focused, holding, pressed_in};
@@ -84,7 +84,7 @@ impl World {
     /// The world of these parts, where there may be such a world: one of these is kept of each window, of its class; what is
     /// packed in a window are distinct windows that stand right in it; no more inputs were accepted than may be, and no more
     /// faults are kept; and the focus, the events that wait and the last press are of windows that are there.
-    #[tactic(auto, unfolding(crate::specs::Restoring::is_whole))]
+    #[tactic(auto, unfolding(crate::specs::Restoring::is_possible))]
     pub fn restore(alloc: Global, parts: WorldParts) -> Result<Option<World>, AllocError>
         ensures { IfOk result (λ world. world ≡ restored parts) }
     {

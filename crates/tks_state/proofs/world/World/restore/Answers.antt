@@ -5,7 +5,7 @@ use Rattle.tks_state.specs.Events.{max_faults}
 use Rattle.tks_state.specs.EventLoop.{all_in}
 use Rattle.tks_state.specs.Restoring.{are_windows, world_of}
 use Rattle.tks_state.specs.World.{windows_of, events_of, loop_of}
-use Rattle.tks_state.proofs.Restored.{whole, there_again}
+use Rattle.tks_state.proofs.Restored.{possible, there_again}
 use Rattle.tks_state.proofs.world.World.restore.Goals as goal
 
 pub returns : goal.returns
@@ -16,7 +16,7 @@ returns c =
     let short : length p.history.present ≤ max_history = search rules in
     let windows : (if are_windows (windows_of (world_of p)) then Some (windows_of (world_of p)) else None) ≡ Some c.in-Some.windows = search rules in
     let events : (if nat_le (length p.faults) max_faults then Some (events_of (world_of p)) else None) ≡ Some c.in-Some-restore.events = search rules in
-    rw c.restore-event_loop.ensures (whole p c.in-Some.windows c.in-Some-restore.events few there short windows events)
+    rw c.restore-event_loop.ensures (possible p c.in-Some.windows c.in-Some-restore.events few there short windows events)
 
 pub invariant_of-result : goal.invariant_of-result
 invariant_of-result c =

@@ -1,4 +1,4 @@
--- Worlds that stand are whole.
+-- Worlds that stand are possible ones.
 use Rattle.std.proofs.Common.{◌≡◌, ℕ, true, false, map, List, [], ◌∷◌, length, Some, refl, ap}
 use Rattle.std.specs.Prelude.{◌==◌, ◌^◌, nat_le}
 use Rattle.std.specs.List.{AllByRecursion, IsDistinct, list_all}
@@ -8,7 +8,7 @@ use Rattle.tks_bind.specs.History.{max_history}
 use Rattle.tks_opt.specs.Numbers.{class_number}
 use Rattle.tks_tree.specs.Windows as tree
 use Rattle.tks_state.specs.Events.{max_faults}
-use Rattle.tks_state.specs.Restoring.{is_kept_of, are_in_step, is_among, are_distinct, is_number, packs_children, is_whole}
+use Rattle.tks_state.specs.Restoring.{is_kept_of, are_in_step, is_among, are_distinct, is_number, packs_children, is_possible}
 use Rattle.tks_state.specs.WellFormed.{WellFormed, AllPackChildren, InStep, packed_windows, mark_of, window_mark}
 use Rattle.tks_state.specs.Widget.{class_of}
 use Rattle.tks_state.specs.World.{World}
@@ -62,9 +62,9 @@ packs : (t : tree.Windows) (ks : List Kept) → AllPackChildren t ks → list_al
 packs t [] h = refl
 packs t (k ∷ ks) h = rw (distinct (packed_windows k) h.0.distinct, children t k.window (packed_windows k) h.0.children, packs t ks h.1) refl
 
-pub whole : (w : World) → WellFormed w → is_whole w ≡ true
-unfolding is_whole
-whole w h =
+pub possible : (w : World) → WellFormed w → is_possible w ≡ true
+unfolding is_possible
+possible w h =
     let counted : nat_le w.accepted (2 ^ 62) ≡ true = le-leb w.accepted (2 ^ 62) h.counted in
     let step = in_step w.tree.windows w.kept h.windows.in_step in
     let each = packs w.tree w.kept h.windows.packs in
