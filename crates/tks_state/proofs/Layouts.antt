@@ -16,7 +16,7 @@ use Rattle.tks_state.specs.declared.layout.Placed.{Placed}
 use Rattle.tks_state.specs.declared.kept.Kept.{Kept}
 use Rattle.tks_vars.specs.Variables.{Variables}
 use Rattle.tks_state.specs.ByWindow.{ByWindow}
-use Rattle.tks_state.specs.Layout.{size_in, with_size, sizes_before, placed_after, on_grid, extent_of, whole, with_content, with_contents, with_contents_of, with_area, shown_of, LiesOn, AllInside, AllLieOn, covers, or_this, last_over}
+use Rattle.tks_state.specs.Layout.{size_in, with_size, sizes_before, placed_after, on_grid, extent_of, grid_area, with_content, with_contents, with_contents_of, with_area, shown_of, LiesOn, AllInside, AllLieOn, covers, or_this, last_over}
 
 -- the last one goes first
 pub sizes_last : (variables : Variables) (kept rest : List Kept) (k : Kept) (known : ByWindow Extent) → rest ≡ kept ++ k ∷ []
@@ -43,8 +43,8 @@ module _ (g : grid.Extent) where
       by true = lies
       by false = h other
 
-  pub whole_lies : (placed : ByWindow Area) → placed ≡ map.insert map.empty 0 (whole g) → AllInside g placed
-  whole_lies placed e = subst (AllInside g) (sym e) (one_more_lies map.empty 0 (whole g) none_lie (omega arith, omega arith))
+  pub grid_area_lies : (placed : ByWindow Area) → placed ≡ map.insert map.empty 0 (grid_area g) → AllInside g placed
+  grid_area_lies placed e = subst (AllInside g) (sym e) (one_more_lies map.empty 0 (grid_area g) none_lie (omega arith, omega arith))
 
   content_lies : (container : Area) (c : Content) (place : Option Area) (placed : ByWindow Area) → LiesOn g container → LiesInside (extent_of container) place → AllInside g placed
       → AllInside g (with_content container c place placed)

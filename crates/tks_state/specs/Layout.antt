@@ -77,12 +77,12 @@ placed_after known before [] = before
 placed_after known before (k ∷ kept) = placed_after known (with_contents_of known k (map.get before k.window) before) kept
 
 -- `.` has the whole grid
-abbrev pub whole : grid.Extent → Area
-whole g = record { x = 0; y = 0; width = g.width; height = g.height }
+abbrev pub grid_area : grid.Extent → Area
+grid_area g = record { x = 0; y = 0; width = g.width; height = g.height }
 
 -- the cells on the grid of each window that is shown
 abbrev pub placed_in : Variables → List Kept → grid.Extent → ByWindow Area
-placed_in variables kept g = placed_after (sizes variables kept) (map.insert map.empty 0 (whole g)) kept
+placed_in variables kept g = placed_after (sizes variables kept) (map.insert map.empty 0 (grid_area g)) kept
 
 abbrev pub placed : World → ByWindow Area
 placed w = placed_in w.variables w.kept w.grid

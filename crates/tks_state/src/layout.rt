@@ -2,7 +2,7 @@
 ghost use Rattle.std.specs.Prelude.{◌≡◌, ◌+◌, ◌≤◌, ◌<◌, ◌^◌, ◌++◌, [], IfOk, IfSome, OnOk};
 ghost use Rattle.std.specs.List.{AllByRecursion};
 ghost use Rattle.tks_pack.specs.Laws.{LiesInside};
-ghost use Rattle.tks_state.specs.Layout.{size_of, sizes, on_grid, with_content, with_contents, with_contents_of, placed_in, with_area, extent_of, whole, shown_of, shown_windows, covers, last_over, topmost, AllInside, AllLieOn};
+ghost use Rattle.tks_state.specs.Layout.{size_of, sizes, on_grid, with_content, with_contents, with_contents_of, placed_in, with_area, extent_of, grid_area, shown_of, shown_windows, covers, last_over, topmost, AllInside, AllLieOn};
 
 use crate::by_window::ByWindow;
 use crate::kept::Kept;
@@ -155,8 +155,8 @@ fn show(shown: &mut Vec<Placed>, window: WindowId, area: Option<Area>) -> Result
 }
 
 // The whole grid.
-fn whole(grid: Size) -> Area
-    ensures value { result ≡ whole grid }
+fn grid_area(grid: Size) -> Area
+    ensures value { result ≡ grid_area grid }
     ensures small { (grid.width < 2 ^ 16) × (grid.height < 2 ^ 16) }
 {
     Area {
@@ -179,7 +179,7 @@ fn place_all(
 {
     let sizes = sizes_of(alloc, variables, kept)?;
     let mut placed = ByWindow::new(alloc);
-    placed.insert(WindowId::root(), whole(grid))?;
+    placed.insert(WindowId::root(), grid_area(grid))?;
     for one in kept {
         let area = placed.get(one.window);
         place_in(&mut placed, area, one, &sizes)?;

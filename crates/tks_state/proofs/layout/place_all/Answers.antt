@@ -2,18 +2,18 @@ use Rattle.std.proofs.Common.{sym, subst, ap, ◌∙◌}
 use Rattle.std.specs.Prelude.{IfSome}
 use Rattle.std.specs.FinMap as map
 use Rattle.tks_state.specs.Layout.{LiesOn, sizes, placed_after, with_contents_of}
-use Rattle.tks_state.proofs.Layouts.{area_fits, placed_more, more_lie, whole_lies}
+use Rattle.tks_state.proofs.Layouts.{area_fits, placed_more, more_lie, grid_area_lies}
 use Rattle.tks_state.proofs.layout.place_all.Goals as goal
 
 pub place_in-requires : goal.place_in-requires
 place_in-requires c =
-    area_fits c.args.grid c.get-area.result c.whole.ensures.small.0 c.whole.ensures.small.1
+    area_fits c.args.grid c.get-area.result c.grid_area.ensures.small.0 c.grid_area.ensures.small.1
     (subst (λ o. IfSome o (LiesOn c.args.grid)) (sym c.get-area.ensures) (c.loop-one.invariant.inside c.one-item.result.window))
 
 pub loop-one-init : goal.loop-one-init
 loop-one-init c =
-    let is = c.in_ok-insert.ensures.ok ∙ (λ i. map.insert (c.new-placed.ensures i) (c.root.ensures i) (c.whole.ensures.value i)) in
-    record { rest = ap (λ placed. placed_after (sizes c.args.variables.now c.args.kept.now) placed c.args.kept.now) is; inside = whole_lies c.args.grid c.insert.new.self is }
+    let is = c.in_ok-insert.ensures.ok ∙ (λ i. map.insert (c.new-placed.ensures i) (c.root.ensures i) (c.grid_area.ensures.value i)) in
+    record { rest = ap (λ placed. placed_after (sizes c.args.variables.now c.args.kept.now) placed c.args.kept.now) is; inside = grid_area_lies c.args.grid c.insert.new.self is }
 
 pub loop-one-preserved : goal.loop-one-preserved
 loop-one-preserved c =
