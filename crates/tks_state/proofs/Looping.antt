@@ -22,8 +22,8 @@ parts ws x h =
     let a = and_parts (is_there ws x.focus) (list_all (is_for ws) x.queue && is_press ws x.pressed) h in
     (a.0, and_parts (list_all (is_for ws) x.queue) (is_press ws x.pressed) a.1)
 
-whole : (ws : List Window) (x : EventLoop) → is_there ws x.focus ≡ true → list_all (is_for ws) x.queue ≡ true → is_press ws x.pressed ≡ true → all_in ws x ≡ true
-whole ws x focus queue pressed =
+all_there : (ws : List Window) (x : EventLoop) → is_there ws x.focus ≡ true → list_all (is_for ws) x.queue ≡ true → is_press ws x.pressed ≡ true → all_in ws x ≡ true
+all_there ws x focus queue pressed =
     and_from (is_there ws x.focus) (list_all (is_for ws) x.queue && is_press ws x.pressed) focus (and_from (list_all (is_for ws) x.queue) (is_press ws x.pressed) queue pressed)
 
 -- ---- the windows change
@@ -42,7 +42,7 @@ press_stays ws vs (Some number) stay h = stay number h
 pub more_there : (ws vs : List Window) (x : EventLoop) → Stay ws vs → all_in ws x ≡ true → all_in vs x ≡ true
 more_there ws vs x stay h =
     let a = parts ws x h in
-    whole vs x (stay x.focus a.0) (all_for ws vs x.queue stay a.1.0) (press_stays ws vs x.pressed stay a.1.1)
+    all_there vs x (stay x.focus a.0) (all_for ws vs x.queue stay a.1.0) (press_stays ws vs x.pressed stay a.1.1)
 
 one_more : (ws : List Window) (w : Window) → Stay ws (ws ++ w ∷ [])
 one_more [] w number h = absurd cc
@@ -87,7 +87,7 @@ root_there ws later e = rw e refl
 
 -- what is of windows that are gone goes
 pub left_there : (ws later : List Window) (x : EventLoop) → ws ≡ root ∷ later → all_in ws (left ws x) ≡ true
-left_there ws later x e = whole ws (left ws x) (focus_left ws x.focus (root_there ws later e)) (all_kept ws x.queue) (press_left ws x.pressed)
+left_there ws later x e = all_there ws (left ws x) (focus_left ws x.focus (root_there ws later e)) (all_kept ws x.queue) (press_left ws x.pressed)
 
 -- ---- the loop changes
 
@@ -110,7 +110,7 @@ all_put ws place.Mark e queue k h = marked_put (is_for ws) e queue k h
 pub put_there : (ws : List Window) (p : Place) (e : Event) (x : EventLoop) → is_there ws e.window ≡ true → all_in ws x ≡ true → all_in ws (record x { queue = put p e x.queue }) ≡ true
 put_there ws p e x k h =
     let a = parts ws x h in
-    whole ws (record x { queue = put p e x.queue }) a.0 (all_put ws p e x.queue k a.1.0) a.1.1
+    all_there ws (record x { queue = put p e x.queue }) a.0 (all_put ws p e x.queue k a.1.0) a.1.1
 
 all_behind : (test : Queued → Bool) (queue : List Queued) → list_all test queue ≡ true → list_all test (without_first queue) ≡ true
 all_behind test [] h = refl
@@ -120,14 +120,14 @@ all_behind test (q ∷ queue) h = (and_parts (test q) (list_all test queue) h).1
 pub taken_there : (ws : List Window) (x : EventLoop) → all_in ws x ≡ true → all_in ws (record x { queue = without_first x.queue }) ≡ true
 taken_there ws x h =
     let a = parts ws x h in
-    whole ws (record x { queue = without_first x.queue }) a.0 (all_behind (is_for ws) x.queue a.1.0) a.1.1
+    all_there ws (record x { queue = without_first x.queue }) a.0 (all_behind (is_for ws) x.queue a.1.0) a.1.1
 
 pub focused_there : (ws : List Window) (number : ℕ) (x : EventLoop) → is_there ws number ≡ true → all_in ws x ≡ true → all_in ws (record x { focus = number }) ≡ true
 focused_there ws number x k h =
     let a = parts ws x h in
-    whole ws (record x { focus = number }) k a.1.0 a.1.1
+    all_there ws (record x { focus = number }) k a.1.0 a.1.1
 
 pub pressed_there : (ws : List Window) (pressed : Option ℕ) (x : EventLoop) → all_in ws x ≡ true → all_in ws (record x { pressed = left_pressed ws pressed }) ≡ true
 pressed_there ws pressed x h =
     let a = parts ws x h in
-    whole ws (record x { pressed = left_pressed ws pressed }) a.0 a.1.0 (press_left ws pressed)
+    all_there ws (record x { pressed = left_pressed ws pressed }) a.0 a.1.0 (press_left ws pressed)
