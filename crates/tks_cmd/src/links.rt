@@ -259,7 +259,7 @@ fn run_action(
 
 // A widget with options and values in turn: more than one pair on a copy of the variables.
 #[tactic(auto, using(crate::proofs::Pairs::pair_alone))]
-fn configure_whole(
+fn configure_all(
     alloc: Global,
     pairs: &[Txt],
     widget: &Widget,
@@ -296,7 +296,7 @@ fn run_configure(
     if !are_pairs(pairs) {
         return Err(wrong_words(path));
     }
-    let widget = configure_whole(alloc, pairs, widget, variables, limits)?;
+    let widget = configure_all(alloc, pairs, widget, variables, limits)?;
     Ok(Told {
         said: Said::Text(Txt::new(alloc)),
         widget,
