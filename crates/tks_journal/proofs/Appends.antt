@@ -83,7 +83,7 @@ module _ (v : View) (live : Side) (gate : ℕ) (rest : AtRest v live gate) (body
     junk = drop (gate + 1 + length written) x1
 
     all_of : x1 ≡ take (gate + 1) x0 ++ (written ++ junk)
-    all_of = sym (take-append-drop (gate + 1 + length written) x1) ∙ ap (λ (l : List ℕ). l ++ junk) staged.whole ∙ append_assoc (take (gate + 1) x0) written junk
+    all_of = sym (take-append-drop (gate + 1 + length written) x1) ∙ ap (λ (l : List ℕ). l ++ junk) staged.stands ∙ append_assoc (take (gate + 1) x0) written junk
 
     pub staged_long : gate < length x1
     staged_long = omega (arith, ap length all_of, length-append (take (gate + 1) x0) (written ++ junk), stem_is)

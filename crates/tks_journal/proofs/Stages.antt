@@ -48,5 +48,5 @@ pub staged_so : (side : Side) (front n : ℕ) (bytes parts : List ℕ) (old mid 
 staged_so side front n bytes parts old mid new settled other same is size whole = record {
   settled = settled;
   other_side = other;
-  whole = ap (λ k. take k (on side new.reads)) size ∙ ap (λ j. take n (on side j)) same ∙ whole ∙ ap (λ (l : List ℕ). take front (on side old.reads) ++ l) (sym is);
+  stands = ap (λ k. take k (on side new.reads)) size ∙ ap (λ j. take n (on side j)) same ∙ whole ∙ ap (λ (l : List ℕ). take front (on side old.reads) ++ l) (sym is);
 }

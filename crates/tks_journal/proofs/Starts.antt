@@ -58,7 +58,7 @@ module _ (v : View) (side : Side) (header : Header) (head world : List ℕ) (spe
       stem_long = front_long 1 (on side m.reads) (omega (arith, shut.some))
 
       all_of : x ≡ take 1 (on side m.reads) ++ (body ++ junk)
-      all_of = sym (take-append-drop (1 + length body) x) ∙ ap (λ (l : List ℕ). l ++ junk) staged.whole ∙ append_assoc (take 1 (on side m.reads)) body junk
+      all_of = sym (take-append-drop (1 + length body) x) ∙ ap (λ (l : List ℕ). l ++ junk) staged.stands ∙ append_assoc (take 1 (on side m.reads)) body junk
 
       pub staged_long : 0 < length x
       staged_long = omega (arith, ap length all_of, length-append (take 1 (on side m.reads)) (body ++ junk), stem_long)

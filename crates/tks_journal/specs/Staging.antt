@@ -24,7 +24,7 @@ pub record KeepsFront (side : Side) (stem other : List ℕ) (old new : View) : T
 pub record Staged (side : Side) (front : ℕ) (bytes : List ℕ) (old new : View) : Type 0 where
   pub settled : IsSettled new
   pub other_side : beside side new.reads ≡ beside side old.reads
-  pub whole : take (front + length bytes) (on side new.reads) ≡ take front (on side old.reads) ++ bytes
+  pub stands : take (front + length bytes) (on side new.reads) ≡ take front (on side old.reads) ++ bytes
 
 -- these images are those, but for the byte at this place of this side
 pub record AtGate (side : Side) (place : ℕ) (reads i : Images) : Type 0 where
