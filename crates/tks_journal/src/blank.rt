@@ -60,7 +60,7 @@ impl<D: Disk> Blank<D> {
     pub fn start(self, header: &Header, head: &[u8], world: &[u8]) -> Result<Journal<D>, D>
         requires first { header.now.generation ≡ 1 }
         requires spelled { SpelledAs head.now header.now }
-        requires whole { header.now.world_length ≡ length world.now }
+        requires measured { header.now.world_length ≡ length world.now }
         requires room { length head.now + length world.now < 2 ^ 61 }
 
         // At Ok, what is read, and all that a crash may leave, holds the world.

@@ -121,7 +121,7 @@ impl<D: Disk> Journal<D> {
         requires next { header.now.generation ≡ self.old.generation + 1 }
         requires last { header.now.generation ≤ 2 ^ 62 }
         requires spelled { SpelledAs head.now header.now }
-        requires whole { header.now.world_length ≡ length world.now }
+        requires measured { header.now.world_length ≡ length world.now }
         requires room { length head.now + length world.now < 2 ^ 61 }
 
         // At Ok, what is read, and all that a crash may leave, holds the world alone, on the other side.

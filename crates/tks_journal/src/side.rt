@@ -78,7 +78,7 @@ pub fn start_side<D: Disk>(
 ) -> Result<(), DeviceFault>
     requires spelled { SpelledAs head.now header.now }
     requires given { is_given header.now.generation ≡ true }
-    requires whole { header.now.world_length ≡ length world.now }
+    requires measured { header.now.world_length ≡ length world.now }
     requires room { length head.now + length world.now < 2 ^ 61 }
     requires settled { D.honest disk.old → IsSettled (D.view disk.old) }
     requires vacant { D.honest disk.old → Vacant side header.now.generation (D.view disk.old).reads }

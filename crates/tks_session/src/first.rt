@@ -30,7 +30,7 @@ pub fn first_side<M: Machine>(
 ) -> Result<FirstSide<M::World>, SessionFault>
     ensures first { IfOk result (λ f. f.header.generation ≡ 1) }
     ensures spelled { IfOk result (λ f. SpelledAs f.head.items f.header) }
-    ensures whole { IfOk result (λ f. f.header.world_length ≡ length f.bytes.items) }
+    ensures measured { IfOk result (λ f. f.header.world_length ≡ length f.bytes.items) }
     ensures room { IfOk result (λ f. length f.head.items + length f.bytes.items < 2 ^ 61) }
     ensures opens { IfOk result (λ f. opened (M.meaning machine.now) (begun_as A f.header f.bytes.items) ≡ Ok f.world) }
     ensures world { IfOk result (λ f. begun (M.meaning machine.now) ≡ Ok f.world) }

@@ -19,7 +19,7 @@ open_gate-requires-clause-within g c h2 =
     let h = c.close_gate.ensures.honesty.1 h1 in
     let v = g.D.Disk.view c.args.disk.now in
     let vacant = c.requires.vacant h in
-    staged_long v c.args.side c.args.header.now c.args.head.now c.args.world.now c.requires.spelled.reads c.requires.given c.requires.whole vacant (g.D.Disk.view c.close_gate.new.disk) (c.in_ok-close_gate.ensures.closed h) (g.D.Disk.view c.stage_side.new.disk) (c.in_ok-stage_side.ensures.staged h1)
+    staged_long v c.args.side c.args.header.now c.args.head.now c.args.world.now c.requires.spelled.reads c.requires.given c.requires.measured vacant (g.D.Disk.view c.close_gate.new.disk) (c.in_ok-close_gate.ensures.closed h) (g.D.Disk.view c.stage_side.new.disk) (c.in_ok-stage_side.ensures.staged h1)
 
 pub open_gate-requires-clause-settled : goal.open_gate-requires-clause-settled
 open_gate-requires-clause-settled g c h2 = (c.in_ok-stage_side.ensures.staged (c.stage_side.ensures.honesty.1 h2)).settled
@@ -31,7 +31,7 @@ returns-in_err-close_gate-clause-any_moment g c h =
     let side = c.args.side in
     let Aim : Images → Type 0 = OneOf (holds v.reads) (begun_as side c.args.header.now c.args.world.now) in
     let m = g.D.Disk.view c.close_gate.new.disk in
-    let p1 = weaker v m (Closing side v.reads) Aim (closing_holds v c.args.side c.args.header.now c.args.head.now c.args.world.now c.requires.spelled.reads c.requires.given c.requires.whole vacant) (c.close_gate.ensures.any_moment h) in
+    let p1 = weaker v m (Closing side v.reads) Aim (closing_holds v c.args.side c.args.header.now c.args.head.now c.args.world.now c.requires.spelled.reads c.requires.given c.requires.measured vacant) (c.close_gate.ensures.any_moment h) in
     p1
 
 pub returns-in_err-stage_side-clause-any_moment : goal.returns-in_err-stage_side-clause-any_moment
@@ -41,11 +41,11 @@ returns-in_err-stage_side-clause-any_moment g c h =
     let side = c.args.side in
     let Aim : Images → Type 0 = OneOf (holds v.reads) (begun_as side c.args.header.now c.args.world.now) in
     let m = g.D.Disk.view c.close_gate.new.disk in
-    let p1 = weaker v m (Closing side v.reads) Aim (closing_holds v c.args.side c.args.header.now c.args.head.now c.args.world.now c.requires.spelled.reads c.requires.given c.requires.whole vacant) (c.close_gate.ensures.any_moment h) in
+    let p1 = weaker v m (Closing side v.reads) Aim (closing_holds v c.args.side c.args.header.now c.args.head.now c.args.world.now c.requires.spelled.reads c.requires.given c.requires.measured vacant) (c.close_gate.ensures.any_moment h) in
     let h1 = c.close_gate.ensures.honesty.0 h in
     let shut = c.in_ok-close_gate.ensures.closed h in
     let n = g.D.Disk.view c.stage_side.new.disk in
-    let p2 = then v m n Aim p1 (weaker m n (Begins side (take 1 (on side m.reads)) (beside side m.reads)) Aim (behind_holds v c.args.side c.args.header.now c.args.head.now c.args.world.now c.requires.spelled.reads c.requires.given c.requires.whole vacant m shut) (c.stage_side.ensures.any_moment h1)) in
+    let p2 = then v m n Aim p1 (weaker m n (Begins side (take 1 (on side m.reads)) (beside side m.reads)) Aim (behind_holds v c.args.side c.args.header.now c.args.head.now c.args.world.now c.requires.spelled.reads c.requires.given c.requires.measured vacant m shut) (c.stage_side.ensures.any_moment h1)) in
     p2
 
 pub returns-in_err-open_gate-clause-any_moment : goal.returns-in_err-open_gate-clause-any_moment
@@ -55,15 +55,15 @@ returns-in_err-open_gate-clause-any_moment g c h =
     let side = c.args.side in
     let Aim : Images → Type 0 = OneOf (holds v.reads) (begun_as side c.args.header.now c.args.world.now) in
     let m = g.D.Disk.view c.close_gate.new.disk in
-    let p1 = weaker v m (Closing side v.reads) Aim (closing_holds v c.args.side c.args.header.now c.args.head.now c.args.world.now c.requires.spelled.reads c.requires.given c.requires.whole vacant) (c.close_gate.ensures.any_moment h) in
+    let p1 = weaker v m (Closing side v.reads) Aim (closing_holds v c.args.side c.args.header.now c.args.head.now c.args.world.now c.requires.spelled.reads c.requires.given c.requires.measured vacant) (c.close_gate.ensures.any_moment h) in
     let h1 = c.close_gate.ensures.honesty.0 h in
     let shut = c.in_ok-close_gate.ensures.closed h in
     let n = g.D.Disk.view c.stage_side.new.disk in
-    let p2 = then v m n Aim p1 (weaker m n (Begins side (take 1 (on side m.reads)) (beside side m.reads)) Aim (behind_holds v c.args.side c.args.header.now c.args.head.now c.args.world.now c.requires.spelled.reads c.requires.given c.requires.whole vacant m shut) (c.stage_side.ensures.any_moment h1)) in
+    let p2 = then v m n Aim p1 (weaker m n (Begins side (take 1 (on side m.reads)) (beside side m.reads)) Aim (behind_holds v c.args.side c.args.header.now c.args.head.now c.args.world.now c.requires.spelled.reads c.requires.given c.requires.measured vacant m shut) (c.stage_side.ensures.any_moment h1)) in
     let h2 = c.stage_side.ensures.honesty.0 h1 in
     let staged = c.in_ok-stage_side.ensures.staged h1 in
     let f = g.D.Disk.view c.open_gate.new.disk in
-    let p3 = then v n f Aim p2 (weaker n f (AtGate side 0 n.reads) Aim (gate_holds v c.args.side c.args.header.now c.args.head.now c.args.world.now c.requires.spelled.reads c.requires.given c.requires.whole vacant m shut n staged) (c.open_gate.ensures.any_moment h2)) in
+    let p3 = then v n f Aim p2 (weaker n f (AtGate side 0 n.reads) Aim (gate_holds v c.args.side c.args.header.now c.args.head.now c.args.world.now c.requires.spelled.reads c.requires.given c.requires.measured vacant m shut n staged) (c.open_gate.ensures.any_moment h2)) in
     p3
 
 pub returns-clause-any_moment : goal.returns-clause-any_moment
@@ -73,15 +73,15 @@ returns-clause-any_moment g c h =
     let side = c.args.side in
     let Aim : Images → Type 0 = OneOf (holds v.reads) (begun_as side c.args.header.now c.args.world.now) in
     let m = g.D.Disk.view c.close_gate.new.disk in
-    let p1 = weaker v m (Closing side v.reads) Aim (closing_holds v c.args.side c.args.header.now c.args.head.now c.args.world.now c.requires.spelled.reads c.requires.given c.requires.whole vacant) (c.close_gate.ensures.any_moment h) in
+    let p1 = weaker v m (Closing side v.reads) Aim (closing_holds v c.args.side c.args.header.now c.args.head.now c.args.world.now c.requires.spelled.reads c.requires.given c.requires.measured vacant) (c.close_gate.ensures.any_moment h) in
     let h1 = c.close_gate.ensures.honesty.0 h in
     let shut = c.in_ok-close_gate.ensures.closed h in
     let n = g.D.Disk.view c.stage_side.new.disk in
-    let p2 = then v m n Aim p1 (weaker m n (Begins side (take 1 (on side m.reads)) (beside side m.reads)) Aim (behind_holds v c.args.side c.args.header.now c.args.head.now c.args.world.now c.requires.spelled.reads c.requires.given c.requires.whole vacant m shut) (c.stage_side.ensures.any_moment h1)) in
+    let p2 = then v m n Aim p1 (weaker m n (Begins side (take 1 (on side m.reads)) (beside side m.reads)) Aim (behind_holds v c.args.side c.args.header.now c.args.head.now c.args.world.now c.requires.spelled.reads c.requires.given c.requires.measured vacant m shut) (c.stage_side.ensures.any_moment h1)) in
     let h2 = c.stage_side.ensures.honesty.0 h1 in
     let staged = c.in_ok-stage_side.ensures.staged h1 in
     let f = g.D.Disk.view c.open_gate.new.disk in
-    let p3 = then v n f Aim p2 (weaker n f (AtGate side 0 n.reads) Aim (gate_holds v c.args.side c.args.header.now c.args.head.now c.args.world.now c.requires.spelled.reads c.requires.given c.requires.whole vacant m shut n staged) (c.open_gate.ensures.any_moment h2)) in
+    let p3 = then v n f Aim p2 (weaker n f (AtGate side 0 n.reads) Aim (gate_holds v c.args.side c.args.header.now c.args.head.now c.args.world.now c.requires.spelled.reads c.requires.given c.requires.measured vacant m shut n staged) (c.open_gate.ensures.any_moment h2)) in
     p3
 
 pub returns-clause-at_rest : goal.returns-clause-at_rest
@@ -89,7 +89,7 @@ returns-clause-at_rest g c h =
     let v = g.D.Disk.view c.args.disk.now in
     let vacant = c.requires.vacant h in
     let h1 = c.close_gate.ensures.honesty.0 h in
-    opened_rests v c.args.side c.args.header.now c.args.head.now c.args.world.now c.requires.spelled.reads c.requires.given c.requires.whole vacant (g.D.Disk.view c.close_gate.new.disk) (c.in_ok-close_gate.ensures.closed h) (g.D.Disk.view c.stage_side.new.disk) (c.in_ok-stage_side.ensures.staged h1)
+    opened_rests v c.args.side c.args.header.now c.args.head.now c.args.world.now c.requires.spelled.reads c.requires.given c.requires.measured vacant (g.D.Disk.view c.close_gate.new.disk) (c.in_ok-close_gate.ensures.closed h) (g.D.Disk.view c.stage_side.new.disk) (c.in_ok-stage_side.ensures.staged h1)
     (g.D.Disk.view c.open_gate.new.disk) (c.in_ok-open_gate.ensures.opened (c.stage_side.ensures.honesty.0 h1))
 
 pub returns-clause-holds : goal.returns-clause-holds
@@ -97,5 +97,5 @@ returns-clause-holds g c h =
     let v = g.D.Disk.view c.args.disk.now in
     let vacant = c.requires.vacant h in
     let h1 = c.close_gate.ensures.honesty.0 h in
-    opened_holds v c.args.side c.args.header.now c.args.head.now c.args.world.now c.requires.spelled.reads c.requires.given c.requires.whole vacant (g.D.Disk.view c.close_gate.new.disk) (c.in_ok-close_gate.ensures.closed h) (g.D.Disk.view c.stage_side.new.disk) (c.in_ok-stage_side.ensures.staged h1)
+    opened_holds v c.args.side c.args.header.now c.args.head.now c.args.world.now c.requires.spelled.reads c.requires.given c.requires.measured vacant (g.D.Disk.view c.close_gate.new.disk) (c.in_ok-close_gate.ensures.closed h) (g.D.Disk.view c.stage_side.new.disk) (c.in_ok-stage_side.ensures.staged h1)
     (g.D.Disk.view c.open_gate.new.disk) (c.in_ok-open_gate.ensures.opened (c.stage_side.ensures.honesty.0 h1))
