@@ -9,17 +9,17 @@ use Rattle.tks_journal.specs.Fronts.{HeadOf, FrontIs, live_front}
 use Rattle.tks_journal.specs.Loading.{StoredAt}
 use Rattle.tks_journal.specs.Moments.{IsSettled}
 use Rattle.tks_journal.specs.Resting.{HoldsNothing, gives_way}
-use Rattle.tks_journal.specs.Sides.{Face, closed, unknown, broken, whole, face, Kept, content, decided, held, holds}
+use Rattle.tks_journal.specs.Sides.{Face, closed, unknown, broken, intact, face, Kept, content, decided, held, holds}
 use Rattle.tks_journal.specs.declared.fault.SideFault.{SideFault}
 use Rattle.tks_journal.specs.declared.fault.SideFault.TheVariants.{Damaged}
 use Rattle.tks_journal.specs.declared.front.Front.{Front}
-use Rattle.tks_journal.specs.declared.front.Front.TheVariants.{Closed, Unknown, Broken, Whole}
+use Rattle.tks_journal.specs.declared.front.Front.TheVariants.{Closed, Unknown, Broken, Intact}
 use Rattle.tks_journal.specs.declared.front.Head.{Head}
 use Rattle.tks_journal.proofs.Faces.{live_holds}
 use Rattle.tks_journal.proofs.Openings.{headed_face}
 use Rattle.tks_journal.proofs.Vacancies.{nothing_held}
 
-head_face : (header : Header) (at : ℕ) (x bytes : List ℕ) → HeadOf header at x → face (take at x ++ bytes) ≡ whole header bytes
+head_face : (header : Header) (at : ℕ) (x bytes : List ℕ) → HeadOf header at x → face (take at x ++ bytes) ≡ intact header bytes
 head_face header at x bytes is = ap (λ (l : List ℕ). face (l ++ bytes)) is.front ∙ headed_face header (drop 2 (take at x)) bytes is.spelled is.given
 
 -- a side's face, by its front
@@ -27,13 +27,13 @@ abbrev face_like : Front → List ℕ → Face
 face_like Closed x = closed
 face_like Unknown x = unknown
 face_like Broken x = broken
-face_like (Whole head) x = whole head.header (drop head.at x)
+face_like (Intact head) x = intact head.header (drop head.at x)
 
 front_face : (f : Front) (x : List ℕ) → FrontIs f x → face x ≡ face_like f x
 front_face Closed x is = is
 front_face Unknown x is = is
 front_face Broken x is = is
-front_face (Whole head) x is = ap face (sym (take-append-drop head.at x)) ∙ head_face head.header head.at x (drop head.at x) is.0
+front_face (Intact head) x is = ap face (sym (take-append-drop head.at x)) ∙ head_face head.header head.at x (drop head.at x) is.0
 
 -- ---- a fault
 
@@ -42,15 +42,15 @@ like_fault Unknown b x y f e = cc e
 like_fault Closed Unknown x y f e = cc e
 like_fault Closed Broken x y f e = cc e
 like_fault Closed Closed x y f e = absurd (cc e)
-like_fault Closed (Whole k) x y f e = absurd (cc e)
+like_fault Closed (Intact k) x y f e = absurd (cc e)
 like_fault Broken Unknown x y f e = cc e
 like_fault Broken Broken x y f e = cc e
 like_fault Broken Closed x y f e = cc e
-like_fault Broken (Whole k) x y f e = cc e
-like_fault (Whole h) Unknown x y f e = cc e
-like_fault (Whole h) Broken x y f e = cc e
-like_fault (Whole h) Closed x y f e = absurd (cc e)
-like_fault (Whole h) (Whole k) x y f e = by_tests (h.header.generation == k.header.generation) (nat_lt k.header.generation h.header.generation) e
+like_fault Broken (Intact k) x y f e = cc e
+like_fault (Intact h) Unknown x y f e = cc e
+like_fault (Intact h) Broken x y f e = cc e
+like_fault (Intact h) Closed x y f e = absurd (cc e)
+like_fault (Intact h) (Intact k) x y f e = by_tests (h.header.generation == k.header.generation) (nat_lt k.header.generation h.header.generation) e
   where
     by_tests : (same less : Bool) → cond {A = Result (Option (Side × Head)) SideFault} same (Err Damaged) (cond less (Ok (Some (A, h))) (Ok (Some (B, k)))) ≡ Err f
         → cond {A = Result (Option Kept) SideFault} same (Err Damaged) (cond less (content A h.header (drop h.at x)) (content B k.header (drop k.at y))) ≡ Err f
@@ -69,15 +69,15 @@ both_closed Unknown b x y is_a is_b e = absurd (cc e)
 both_closed Closed Unknown x y is_a is_b e = absurd (cc e)
 both_closed Closed Broken x y is_a is_b e = absurd (cc e)
 both_closed Closed Closed x y is_a is_b e = (is_a, is_b)
-both_closed Closed (Whole k) x y is_a is_b e = absurd (cc e)
+both_closed Closed (Intact k) x y is_a is_b e = absurd (cc e)
 both_closed Broken Unknown x y is_a is_b e = absurd (cc e)
 both_closed Broken Broken x y is_a is_b e = absurd (cc e)
 both_closed Broken Closed x y is_a is_b e = absurd (cc e)
-both_closed Broken (Whole k) x y is_a is_b e = absurd (cc e)
-both_closed (Whole h) Unknown x y is_a is_b e = absurd (cc e)
-both_closed (Whole h) Broken x y is_a is_b e = absurd (cc e)
-both_closed (Whole h) Closed x y is_a is_b e = absurd (cc e)
-both_closed (Whole h) (Whole k) x y is_a is_b e = by_tests (h.header.generation == k.header.generation) (nat_lt k.header.generation h.header.generation) e
+both_closed Broken (Intact k) x y is_a is_b e = absurd (cc e)
+both_closed (Intact h) Unknown x y is_a is_b e = absurd (cc e)
+both_closed (Intact h) Broken x y is_a is_b e = absurd (cc e)
+both_closed (Intact h) Closed x y is_a is_b e = absurd (cc e)
+both_closed (Intact h) (Intact k) x y is_a is_b e = by_tests (h.header.generation == k.header.generation) (nat_lt k.header.generation h.header.generation) e
   where
     by_tests : (same less : Bool) → cond {A = Result (Option (Side × Head)) SideFault} same (Err Damaged) (cond less (Ok (Some (A, h))) (Ok (Some (B, k)))) ≡ Ok None → (face x ≡ closed) × (face y ≡ closed)
     by_tests true less e = absurd (cc e)
@@ -107,21 +107,21 @@ selected Unknown b i side head is_a is_b e = absurd (cc e)
 selected Closed Unknown i side head is_a is_b e = absurd (cc e)
 selected Closed Broken i side head is_a is_b e = absurd (cc e)
 selected Closed Closed i side head is_a is_b e = absurd (cc e)
-selected Closed (Whole k) i side head is_a is_b e = of_pair i B side k head (record { head_of = is_b.0; size = is_b.1; yields = ap (gives_way k.header.generation) is_a }) (cc e)
+selected Closed (Intact k) i side head is_a is_b e = of_pair i B side k head (record { head_of = is_b.0; size = is_b.1; yields = ap (gives_way k.header.generation) is_a }) (cc e)
 selected Broken Unknown i side head is_a is_b e = absurd (cc e)
 selected Broken Broken i side head is_a is_b e = absurd (cc e)
 selected Broken Closed i side head is_a is_b e = absurd (cc e)
-selected Broken (Whole k) i side head is_a is_b e = absurd (cc e)
-selected (Whole h) Unknown i side head is_a is_b e = absurd (cc e)
-selected (Whole h) Broken i side head is_a is_b e = absurd (cc e)
-selected (Whole h) Closed i side head is_a is_b e = of_pair i A side h head (record { head_of = is_a.0; size = is_a.1; yields = ap (gives_way h.header.generation) is_b }) (cc e)
-selected (Whole h) (Whole k) i side head is_a is_b e = by_tests (h.header.generation == k.header.generation) refl (nat_lt k.header.generation h.header.generation) refl e
+selected Broken (Intact k) i side head is_a is_b e = absurd (cc e)
+selected (Intact h) Unknown i side head is_a is_b e = absurd (cc e)
+selected (Intact h) Broken i side head is_a is_b e = absurd (cc e)
+selected (Intact h) Closed i side head is_a is_b e = of_pair i A side h head (record { head_of = is_a.0; size = is_a.1; yields = ap (gives_way h.header.generation) is_b }) (cc e)
+selected (Intact h) (Intact k) i side head is_a is_b e = by_tests (h.header.generation == k.header.generation) refl (nat_lt k.header.generation h.header.generation) refl e
   where
     by_tests : (same : Bool) → (h.header.generation == k.header.generation) ≡ same → (less : Bool) → nat_lt k.header.generation h.header.generation ≡ less
         → cond {A = Result (Option (Side × Head)) SideFault} same (Err Damaged) (cond less (Ok (Some (A, h))) (Ok (Some (B, k)))) ≡ Ok (Some (side, head)) → Selected side head i
     by_tests true d less l e = absurd (cc e)
-    by_tests false d true l e = of_pair i A side h head (record { head_of = is_a.0; size = is_a.1; yields = ap (gives_way h.header.generation) (front_face (Whole k) i.b is_b) ∙ l }) (cc e)
-    by_tests false d false l e = of_pair i B side k head (record { head_of = is_b.0; size = is_b.1; yields = ap (gives_way k.header.generation) (front_face (Whole h) i.a is_a) ∙ not_less h.header.generation k.header.generation d l }) (cc e)
+    by_tests false d true l e = of_pair i A side h head (record { head_of = is_a.0; size = is_a.1; yields = ap (gives_way h.header.generation) (front_face (Intact k) i.b is_b) ∙ l }) (cc e)
+    by_tests false d false l e = of_pair i B side k head (record { head_of = is_b.0; size = is_b.1; yields = ap (gives_way k.header.generation) (front_face (Intact h) i.a is_a) ∙ not_less h.header.generation k.header.generation d l }) (cc e)
 
 pub live_front_stored : (a b : Front) (v : View) (side : Side) (head : Head) → IsSettled v → FrontIs a v.reads.a → FrontIs b v.reads.b → live_front a b ≡ Ok (Some (side, head)) → StoredAt v side head.header head.at head.len
 live_front_stored a b v side head settled is_a is_b e =

@@ -8,7 +8,7 @@ use Rattle.tks_codec.specs.Header.{header_at}
 use Rattle.tks_codec.specs.declared.header.Header.{Header}
 use Rattle.tks_disk.specs.declared.disk.Side.{Side}
 use Rattle.tks_disk.specs.declared.disk.Side.TheVariants.{A, B}
-use Rattle.tks_journal.specs.Sides.{is_closed, format_of, Face, closed, unknown, broken, whole, is_given, headed, face, with_front, size_at, frames_from, frames, kept, content, decided, held, holds, with_frames, pair, framed, AllShort}
+use Rattle.tks_journal.specs.Sides.{is_closed, format_of, Face, closed, unknown, broken, intact, is_given, headed, face, with_front, size_at, frames_from, frames, kept, content, decided, held, holds, with_frames, pair, framed, AllShort}
 use Rattle.tks_journal.specs.declared.fault.SideFault.TheVariants.{Damaged}
 use Rattle.tks_journal.specs.Resting.{gives_way, begun_as}
 use Rattle.tks_journal.proofs.Closes.{shut_test}
@@ -81,24 +81,24 @@ closed_gate gate [] shut = refl
 closed_gate gate (b ∷ rest) shut = shut_test gate b rest shut
 
 -- a side that was just begun
-pub begun_face : (header : Header) (head behind : List ℕ) → ((rest : List ℕ) → header_at (head ++ rest) ≡ Ok (header, rest)) → is_given header.generation ≡ true → face (1 ∷ 1 ∷ head ++ behind) ≡ whole header behind
+pub begun_face : (header : Header) (head behind : List ℕ) → ((rest : List ℕ) → header_at (head ++ rest) ≡ Ok (header, rest)) → is_given header.generation ≡ true → face (1 ∷ 1 ∷ head ++ behind) ≡ intact header behind
 unfolding face format_of
 begun_face header head behind spelled given = ap headed (spelled behind) ∙ rw given refl
 
-decides_a : (header : Header) (rest : List ℕ) (other : Face) → gives_way header.generation other ≡ true → decided (whole header rest) other ≡ content A header rest
+decides_a : (header : Header) (rest : List ℕ) (other : Face) → gives_way header.generation other ≡ true → decided (intact header rest) other ≡ content A header rest
 decides_a header rest closed gives = refl
 decides_a header rest unknown gives = absurd (cc gives)
 decides_a header rest broken gives = absurd (cc gives)
-decides_a header rest (whole k y) gives = rw (above_differs header.generation k.generation gives, gives) refl
+decides_a header rest (intact k y) gives = rw (above_differs header.generation k.generation gives, gives) refl
 
-decides_b : (header : Header) (rest : List ℕ) (other : Face) → gives_way header.generation other ≡ true → decided other (whole header rest) ≡ content B header rest
+decides_b : (header : Header) (rest : List ℕ) (other : Face) → gives_way header.generation other ≡ true → decided other (intact header rest) ≡ content B header rest
 decides_b header rest closed gives = refl
 decides_b header rest unknown gives = absurd (cc gives)
 decides_b header rest broken gives = absurd (cc gives)
-decides_b header rest (whole k y) gives = rw (below_differs header.generation k.generation gives, not_below header.generation k.generation gives) refl
+decides_b header rest (intact k y) gives = rw (below_differs header.generation k.generation gives, not_below header.generation k.generation gives) refl
 
 -- a side to which the other gives way is live
-pub live_holds : (side : Side) (x other : List ℕ) (header : Header) (rest : List ℕ) → face x ≡ whole header rest → gives_way header.generation (face other) ≡ true → holds (pair side x other) ≡ content side header rest
+pub live_holds : (side : Side) (x other : List ℕ) (header : Header) (rest : List ℕ) → face x ≡ intact header rest → gives_way header.generation (face other) ≡ true → holds (pair side x other) ≡ content side header rest
 unfolding held
 live_holds A x other header rest is gives = ap (λ f. decided f (face other)) is ∙ decides_a header rest (face other) gives
 live_holds B x other header rest is gives = ap (λ f. decided (face other) f) is ∙ decides_b header rest (face other) gives

@@ -7,8 +7,8 @@ use Rattle.tks_codec.specs.Header.{header_at}
 use Rattle.tks_codec.specs.declared.header.Header.{Header}
 use Rattle.tks_journal.specs.Fronts.{HeadOf, FrontIs, IsOpenSide, front_with, AttemptIs}
 use Rattle.tks_journal.specs.Journal.{SpelledAs}
-use Rattle.tks_journal.specs.Sides.{closed, unknown, broken, whole, face, format_of, headed, is_given}
-use Rattle.tks_journal.specs.declared.front.Front.TheVariants.{Whole, Broken}
+use Rattle.tks_journal.specs.Sides.{closed, unknown, broken, intact, face, format_of, headed, is_given}
+use Rattle.tks_journal.specs.declared.front.Front.TheVariants.{Intact, Broken}
 use Rattle.tks_journal.specs.declared.front.Attempt.TheVariants.{Read, Wrong, Short}
 
 -- an open side of the known format begins so
@@ -32,9 +32,9 @@ short_front len count x bytes side is all short =
     open_face x (drop 2 x) (begins len x side) ∙ ap (λ (l : List ℕ). headed (header_at l)) same ∙ short
 
 -- a side that begins as one with this header does
-pub headed_face : (header : Header) (head behind : List ℕ) → SpelledAs head header → is_given header.generation ≡ true → face (1 ∷ 1 ∷ head ++ behind) ≡ whole header behind
+pub headed_face : (header : Header) (head behind : List ℕ) → SpelledAs head header → is_given header.generation ≡ true → face (1 ∷ 1 ∷ head ++ behind) ≡ intact header behind
 headed_face header head behind spelled given =
-    open_face (1 ∷ 1 ∷ head ++ behind) (head ++ behind) refl ∙ ap headed (spelled.reads behind) ∙ ap (λ b. cond b (whole header behind) broken) given
+    open_face (1 ∷ 1 ∷ head ++ behind) (head ++ behind) refl ∙ ap headed (spelled.reads behind) ∙ ap (λ b. cond b (intact header behind) broken) given
 
 module _ (len count end : ℕ) (x bytes : List ℕ) (header : Header) (some : 2 ≤ len) (side : IsOpenSide len x) (is : bytes ≡ take count (drop 2 x)) (read : AttemptIs (Read header end) bytes) where
   abbrev behind : List ℕ
@@ -64,9 +64,9 @@ module _ (len count end : ℕ) (x bytes : List ℕ) (header : Header) (some : 2 
   }
 
   not_given : is_given header.generation ≡ false → face x ≡ broken
-  not_given e = open_face x (take end bytes ++ behind) all_of ∙ ap headed (read.1.reads behind) ∙ ap (λ b. cond b (whole header behind) broken) e
+  not_given e = open_face x (take end bytes ++ behind) all_of ∙ ap headed (read.1.reads behind) ∙ ap (λ b. cond b (intact header behind) broken) e
 
-  with_test : (b : Bool) → is_given header.generation ≡ b → FrontIs (cond b (Whole (record { header = header; at = 2 + end; len = len })) Broken) x
+  with_test : (b : Bool) → is_given header.generation ≡ b → FrontIs (cond b (Intact (record { header = header; at = 2 + end; len = len })) Broken) x
   with_test true e = (head_of e, side.size)
   with_test false e = not_given e
 

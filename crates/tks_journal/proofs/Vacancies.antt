@@ -5,7 +5,7 @@ use Rattle.tks_codec.specs.declared.header.Header.{Header}
 use Rattle.tks_disk.specs.DiskModel.{Images, on, beside}
 use Rattle.tks_disk.specs.declared.disk.Side.{Side}
 use Rattle.tks_disk.specs.declared.disk.Side.TheVariants.{A, B}
-use Rattle.tks_journal.specs.Sides.{Face, closed, unknown, broken, whole, is_given, face, frames, Kept, kept, content, decided, held, holds, live_of, pair, other_of}
+use Rattle.tks_journal.specs.Sides.{Face, closed, unknown, broken, intact, is_given, face, frames, Kept, kept, content, decided, held, holds, live_of, pair, other_of}
 use Rattle.tks_journal.specs.declared.fault.SideFault.{SideFault}
 use Rattle.tks_journal.specs.declared.fault.SideFault.TheVariants.{Damaged}
 use Rattle.tks_journal.specs.Resting.{Vacant, gives_way}
@@ -37,7 +37,7 @@ content_something s header rest e = by_test (nat_le header.world_length (length 
 record Found (side : Side) (f : Face) (kept : Result (Option Kept) SideFault) (g : ℕ) : Type 0 where
   header : Header
   rest : List ℕ
-  is : f ≡ whole header rest
+  is : f ≡ intact header rest
   content_is : kept ≡ content side header rest
   generation : header.generation ≡ g
 
@@ -46,17 +46,17 @@ found_a unknown other g e = absurd (cc e)
 found_a closed unknown g e = absurd (cc e)
 found_a closed broken g e = absurd (cc e)
 found_a closed closed g e = absurd (cc e)
-found_a closed (whole k y) g e = absurd (cc ((content_live B A k y g e).0))
+found_a closed (intact k y) g e = absurd (cc ((content_live B A k y g e).0))
 found_a broken unknown g e = absurd (cc e)
 found_a broken broken g e = absurd (cc e)
 found_a broken closed g e = absurd (cc e)
-found_a broken (whole k y) g e = absurd (cc e)
-found_a (whole h x) unknown g e = absurd (cc e)
-found_a (whole h x) broken g e = absurd (cc e)
-found_a (whole h x) closed g e = record { header = h; rest = x; is = refl; content_is = refl; generation = (content_live A A h x g e).1 }
-found_a (whole h x) (whole k y) g e = by_tests (h.generation == k.generation) (nat_lt k.generation h.generation) e
+found_a broken (intact k y) g e = absurd (cc e)
+found_a (intact h x) unknown g e = absurd (cc e)
+found_a (intact h x) broken g e = absurd (cc e)
+found_a (intact h x) closed g e = record { header = h; rest = x; is = refl; content_is = refl; generation = (content_live A A h x g e).1 }
+found_a (intact h x) (intact k y) g e = by_tests (h.generation == k.generation) (nat_lt k.generation h.generation) e
   where
-    by_tests : (same less : Bool) → live_of (cond same (Err Damaged) (cond less (content A h x) (content B k y))) ≡ Some (A, g) → Found A (whole h x) (cond same (Err Damaged) (cond less (content A h x) (content B k y))) g
+    by_tests : (same less : Bool) → live_of (cond same (Err Damaged) (cond less (content A h x) (content B k y))) ≡ Some (A, g) → Found A (intact h x) (cond same (Err Damaged) (cond less (content A h x) (content B k y))) g
     by_tests true less e = absurd (cc e)
     by_tests false true e = record { header = h; rest = x; is = refl; content_is = refl; generation = (content_live A A h x g e).1 }
     by_tests false false e = absurd (cc ((content_live B A k y g e).0))
@@ -66,17 +66,17 @@ found_b unknown f g e = absurd (cc e)
 found_b closed unknown g e = absurd (cc e)
 found_b closed broken g e = absurd (cc e)
 found_b closed closed g e = absurd (cc e)
-found_b closed (whole k y) g e = record { header = k; rest = y; is = refl; content_is = refl; generation = (content_live B B k y g e).1 }
+found_b closed (intact k y) g e = record { header = k; rest = y; is = refl; content_is = refl; generation = (content_live B B k y g e).1 }
 found_b broken unknown g e = absurd (cc e)
 found_b broken broken g e = absurd (cc e)
 found_b broken closed g e = absurd (cc e)
-found_b broken (whole k y) g e = absurd (cc e)
-found_b (whole h x) unknown g e = absurd (cc e)
-found_b (whole h x) broken g e = absurd (cc e)
-found_b (whole h x) closed g e = absurd (cc ((content_live A B h x g e).0))
-found_b (whole h x) (whole k y) g e = by_tests (h.generation == k.generation) (nat_lt k.generation h.generation) e
+found_b broken (intact k y) g e = absurd (cc e)
+found_b (intact h x) unknown g e = absurd (cc e)
+found_b (intact h x) broken g e = absurd (cc e)
+found_b (intact h x) closed g e = absurd (cc ((content_live A B h x g e).0))
+found_b (intact h x) (intact k y) g e = by_tests (h.generation == k.generation) (nat_lt k.generation h.generation) e
   where
-    by_tests : (same less : Bool) → live_of (cond same (Err Damaged) (cond less (content A h x) (content B k y))) ≡ Some (B, g) → Found B (whole k y) (cond same (Err Damaged) (cond less (content A h x) (content B k y))) g
+    by_tests : (same less : Bool) → live_of (cond same (Err Damaged) (cond less (content A h x) (content B k y))) ≡ Some (B, g) → Found B (intact k y) (cond same (Err Damaged) (cond less (content A h x) (content B k y))) g
     by_tests true less e = absurd (cc e)
     by_tests false true e = absurd (cc ((content_live A B h x g e).0))
     by_tests false false e = record { header = k; rest = y; is = refl; content_is = refl; generation = (content_live B B k y g e).1 }
@@ -112,17 +112,17 @@ both_closed unknown b e = absurd (cc e)
 both_closed closed unknown e = absurd (cc e)
 both_closed closed broken e = absurd (cc e)
 both_closed closed closed e = (refl, refl)
-both_closed closed (whole k y) e = absurd (content_something B k y e)
+both_closed closed (intact k y) e = absurd (content_something B k y e)
 both_closed broken unknown e = absurd (cc e)
 both_closed broken broken e = absurd (cc e)
 both_closed broken closed e = absurd (cc e)
-both_closed broken (whole k y) e = absurd (cc e)
-both_closed (whole h x) unknown e = absurd (cc e)
-both_closed (whole h x) broken e = absurd (cc e)
-both_closed (whole h x) closed e = absurd (content_something A h x e)
-both_closed (whole h x) (whole k y) e = by_tests (h.generation == k.generation) (nat_lt k.generation h.generation) e
+both_closed broken (intact k y) e = absurd (cc e)
+both_closed (intact h x) unknown e = absurd (cc e)
+both_closed (intact h x) broken e = absurd (cc e)
+both_closed (intact h x) closed e = absurd (content_something A h x e)
+both_closed (intact h x) (intact k y) e = by_tests (h.generation == k.generation) (nat_lt k.generation h.generation) e
   where
-    by_tests : (same less : Bool) → cond same (Err Damaged) (cond less (content A h x) (content B k y)) ≡ Ok None → (whole h x ≡ closed) × (whole k y ≡ closed)
+    by_tests : (same less : Bool) → cond same (Err Damaged) (cond less (content A h x) (content B k y)) ≡ Ok None → (intact h x ≡ closed) × (intact k y ≡ closed)
     by_tests true less e = absurd (cc e)
     by_tests false true e = absurd (content_something A h x e)
     by_tests false false e = absurd (content_something B k y e)

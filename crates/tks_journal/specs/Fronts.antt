@@ -11,7 +11,7 @@ use Rattle.tks_journal.specs.declared.fault.SideFault.TheVariants.{UnknownFormat
 use Rattle.tks_journal.specs.declared.front.Attempt.{Attempt}
 use Rattle.tks_journal.specs.declared.front.Attempt.TheVariants.{Read, Wrong, Short}
 use Rattle.tks_journal.specs.declared.front.Front.{Front}
-use Rattle.tks_journal.specs.declared.front.Front.TheVariants.{Closed, Unknown, Broken, Whole}
+use Rattle.tks_journal.specs.declared.front.Front.TheVariants.{Closed, Unknown, Broken, Intact}
 use Rattle.tks_journal.specs.declared.front.Head.{Head}
 
 -- these bytes begin with an open gate, the known format and this header, up to this place
@@ -25,7 +25,7 @@ abbrev pub FrontIs : Front → List ℕ → Type 0
 FrontIs Closed bytes = face bytes ≡ closed
 FrontIs Unknown bytes = face bytes ≡ unknown
 FrontIs Broken bytes = face bytes ≡ broken
-FrontIs (Whole head) bytes = HeadOf head.header head.at bytes × (head.len ≡ length bytes)
+FrontIs (Intact head) bytes = HeadOf head.header head.at bytes × (head.len ≡ length bytes)
 
 -- a side of so many bytes, with an open gate, and of the known format
 pub record IsOpenSide (len : ℕ) (bytes : List ℕ) : Type 0 where
@@ -33,7 +33,7 @@ pub record IsOpenSide (len : ℕ) (bytes : List ℕ) : Type 0 where
   pub opens : take 2 bytes ≡ 1 ∷ 1 ∷ []
 
 abbrev pub front_with : Header → ℕ → ℕ → Front
-front_with header at len = if is_given header.generation then Whole (record { header = header; at = at; len = len }) else Broken
+front_with header at len = if is_given header.generation then Intact (record { header = header; at = at; len = len }) else Broken
 
 -- what was made of these bytes, behind a format byte
 abbrev pub AttemptIs : Attempt → List ℕ → Type 0
@@ -52,13 +52,13 @@ abbrev pub live_front : Front → Front → Result (Option (Side × Head)) SideF
 live_front Unknown b = Err UnknownFormat
 live_front Closed Unknown = Err UnknownFormat
 live_front Broken Unknown = Err UnknownFormat
-live_front (Whole a) Unknown = Err UnknownFormat
+live_front (Intact a) Unknown = Err UnknownFormat
 live_front Broken Closed = Err Damaged
 live_front Broken Broken = Err Damaged
-live_front Broken (Whole b) = Err Damaged
+live_front Broken (Intact b) = Err Damaged
 live_front Closed Broken = Err Damaged
-live_front (Whole a) Broken = Err Damaged
+live_front (Intact a) Broken = Err Damaged
 live_front Closed Closed = Ok None
-live_front (Whole a) Closed = Ok (Some (A, a))
-live_front Closed (Whole b) = Ok (Some (B, b))
-live_front (Whole a) (Whole b) = newest a b
+live_front (Intact a) Closed = Ok (Some (A, a))
+live_front Closed (Intact b) = Ok (Some (B, b))
+live_front (Intact a) (Intact b) = newest a b

@@ -5,7 +5,7 @@ use Rattle.tks_disk.specs.declared.disk.Side.{Side}
 use Rattle.tks_codec.specs.declared.header.Header.{Header}
 use Rattle.tks_journal.specs.Moments.{IsSettled}
 use Rattle.tks_journal.specs.declared.fault.SideFault.{SideFault}
-use Rattle.tks_journal.specs.Sides.{Face, closed, unknown, broken, whole, face, is_closed, Kept, holds, with_frames, live_of, pair, framed, AllShort}
+use Rattle.tks_journal.specs.Sides.{Face, closed, unknown, broken, intact, face, is_closed, Kept, holds, with_frames, live_of, pair, framed, AllShort}
 
 -- Whatever frames are put behind the closed gate at this place, and whatever stands behind the closed gate after them, the
 -- sides hold what they hold now, and these frames.
@@ -44,7 +44,7 @@ abbrev pub gives_way : ℕ → Face → Bool
 gives_way generation closed = true
 gives_way generation unknown = false
 gives_way generation broken = false
-gives_way generation (whole header rest) = nat_lt header.generation generation
+gives_way generation (intact header rest) = nat_lt header.generation generation
 
 -- a side that can be begun anew, in this generation
 pub record Vacant (side : Side) (generation : ℕ) (reads : Images) : Type 0 where

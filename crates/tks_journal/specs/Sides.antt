@@ -28,7 +28,7 @@ pub data Face : Type 0 where
   -- open, with a header that is cut or no spelling, or of a generation that is never given out
   broken : Face
   -- open, with a header and the bytes behind it
-  whole : Header → List ℕ → Face
+  intact : Header → List ℕ → Face
 
 -- generations are 1 to 2^62
 abbrev pub is_given : ℕ → Bool
@@ -36,7 +36,7 @@ is_given generation = nat_lt 0 generation && nat_le generation (2 ^ 62)
 
 abbrev pub headed : Read Header → Face
 headed (Err left) = broken
-headed (Ok x) = if is_given x.0.generation then whole x.0 x.1 else broken
+headed (Ok x) = if is_given x.0.generation then intact x.0 x.1 else broken
 
 unfoldable pub face : List ℕ → Face
 face bytes = if is_closed bytes then closed else (if format_of bytes == 1 then headed (header_at (drop 2 bytes)) else unknown)
@@ -91,16 +91,16 @@ abbrev pub decided : Face → Face → Result (Option Kept) SideFault
 decided unknown b = Err UnknownFormat
 decided closed unknown = Err UnknownFormat
 decided broken unknown = Err UnknownFormat
-decided (whole h x) unknown = Err UnknownFormat
+decided (intact h x) unknown = Err UnknownFormat
 decided broken closed = Err Damaged
 decided broken broken = Err Damaged
-decided broken (whole k y) = Err Damaged
+decided broken (intact k y) = Err Damaged
 decided closed broken = Err Damaged
-decided (whole h x) broken = Err Damaged
+decided (intact h x) broken = Err Damaged
 decided closed closed = Ok None
-decided (whole h x) closed = content A h x
-decided closed (whole k y) = content B k y
-decided (whole h x) (whole k y) = newer h x k y
+decided (intact h x) closed = content A h x
+decided closed (intact k y) = content B k y
+decided (intact h x) (intact k y) = newer h x k y
 
 -- What two sides hold: nothing where both are closed, or what the live side has; or why they can't be read.
 unfoldable pub held : List ℕ → List ℕ → Result (Option Kept) SideFault

@@ -34,7 +34,7 @@ pub enum Front {
     Unknown,
     /// It is open, with a header that is cut or no spelling, or of a generation that is never given out.
     Broken,
-    Whole(Head),
+    Intact(Head),
 }
 
 /// What reading a header from the front of bytes comes to.
@@ -72,7 +72,7 @@ fn headed(header: Header, at: usize, len: usize) -> Front
     if header.generation == 0 || header.generation > 1 << 62 {
         return Front::Broken;
     }
-    Front::Whole(Head { header, at, len })
+    Front::Intact(Head { header, at, len })
 }
 
 /// Reads the header of an open side of the known format. It takes no more memory than twice what the header needs.
@@ -137,9 +137,9 @@ pub fn choose(a: Front, b: Front) -> Result<Option<(Side, Head)>, SideFault>
         (Front::Unknown, _) | (_, Front::Unknown) => Err(SideFault::UnknownFormat),
         (Front::Broken, _) | (_, Front::Broken) => Err(SideFault::Damaged),
         (Front::Closed, Front::Closed) => Ok(None),
-        (Front::Whole(a), Front::Closed) => Ok(Some((Side::A, a))),
-        (Front::Closed, Front::Whole(b)) => Ok(Some((Side::B, b))),
-        (Front::Whole(a), Front::Whole(b)) => newer(a, b),
+        (Front::Intact(a), Front::Closed) => Ok(Some((Side::A, a))),
+        (Front::Closed, Front::Intact(b)) => Ok(Some((Side::B, b))),
+        (Front::Intact(a), Front::Intact(b)) => newer(a, b),
     }
 }
 
