@@ -43,7 +43,7 @@ module _ (meaning : Meaning World) where
   drains_none turns st before =
       let all : turns ≡ turns - 0 = omega arith in
       subst (λ n. Drains meaning turns 0 n 0 (done_as (Unit {0}) tt) (done_as (Unit {0}) tt) [] st st before before) all
-      (record { memory = []; answers = []; whole = λ later next. refl; writes = appends_nothing before })
+      (record { memory = []; answers = []; goes = λ later next. refl; writes = appends_nothing before })
 
   -- one turn is run
   pub drains_one : (left done : ℕ) (w w' : Result (Unit {0}) RunFault) (old : Standing) (new : World) (reply : Reply) (a b : Option (List ℕ)) → tried meaning old Turn ≡ accepts new reply
@@ -51,7 +51,7 @@ module _ (meaning : Meaning World) where
   drains_one left done w w' old new reply a b is writes = record {
     memory = Granted ∷ [];
     answers = reply_line reply;
-    whole = λ later next. ap (λ s. turn_told false s done old (λ st. drained meaning left (suc done) later st next) (next later)) is;
+    goes = λ later next. ap (λ s. turn_told false s done old (λ st. drained meaning left (suc done) later st next) (next later)) is;
     writes = writes;
   }
 
@@ -61,9 +61,9 @@ module _ (meaning : Meaning World) where
   drains_then turns done left more left' more' w w' w'' x y old mid new a b c first second = record {
     memory = first.memory ++ second.memory;
     answers = first.answers ++ second.answers;
-    whole = λ later next.
+    goes = λ later next.
         ap (λ m. drained meaning turns done m old next) (append_assoc first.memory second.memory later)
-        ∙ first.whole (second.memory ++ later) next ∙ ap (said first.answers x) (second.whole later next)
+        ∙ first.goes (second.memory ++ later) next ∙ ap (said first.answers x) (second.goes later next)
         ∙ said-said first.answers second.answers x y (drained meaning left' more' later new next);
     writes = on_then w w' w'' a b c first.answers second.answers first.writes second.writes;
   }
@@ -80,7 +80,7 @@ module _ (meaning : Meaning World) where
       answer = first.answers ++ drain_ended why done;
       goes = λ rest later.
           ap (λ m. drained meaning turns 0 m old (talk meaning rest)) (append_assoc first.memory memory later)
-          ∙ first.whole (memory ++ later) (talk meaning rest) ∙ ap (said first.answers x) (end later (talk meaning rest))
+          ∙ first.goes (memory ++ later) (talk meaning rest) ∙ ap (said first.answers x) (end later (talk meaning rest))
           ∙ said-said first.answers (drain_ended why done) x [] (talk meaning rest later new)
           ∙ ap (λ i. said (first.answers ++ drain_ended why done) i (talk meaning rest later new)) (append-nil x);
       writes = on_then (done_as (Unit {0}) tt) w result a b c first.answers (drain_ended why done) first.writes writes;

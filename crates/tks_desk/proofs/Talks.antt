@@ -198,8 +198,8 @@ module _ {D M : Type 0} (meaning_of : M → Meaning World) (old new : SessionSta
 module _ (meaning : Meaning World) (input : List ℕ) (left : Option (List ℕ)) (old : Standing) (before : Option (List ℕ)) where
   -- reading failed
   pub not_read : (why : RunFault) → InReading why → CutOff meaning input [] old old before before why
-  not_read fault.Read h = record { rest = Some (requests_of input); memory = []; answers = []; whole = λ later. refl; written = appends_nothing before }
-  not_read fault.Memory h = record { rest = Some (requests_of input); memory = []; answers = []; whole = λ later. refl; written = appends_nothing before }
+  not_read fault.Read h = record { rest = Some (requests_of input); memory = []; answers = []; goes = λ later. refl; written = appends_nothing before }
+  not_read fault.Memory h = record { rest = Some (requests_of input); memory = []; answers = []; goes = λ later. refl; written = appends_nothing before }
   not_read fault.Write h = absurd h
   not_read (fault.Session why) h = absurd h
 
@@ -207,7 +207,7 @@ module _ (meaning : Meaning World) (input : List ℕ) (left : Option (List ℕ))
   pub nothing_left : requests_of input ≡ [] → Answers meaning input [] old old before before end.EndOfInput
   nothing_left none = record {
     memory = [];
-    whole = ap (λ rs. talk meaning rs [] old) none ∙ ap (λ w. a_talk w [] old false) (ap (λ rs. (talk meaning rs [] old).written) (sym none));
+    goes = ap (λ rs. talk meaning rs [] old) none ∙ ap (λ w. a_talk w [] old false) (ap (λ rs. (talk meaning rs [] old).written) (sym none));
     written = subst (λ w. Appends before before w) (ap (λ rs. (talk meaning rs [] old).written) (sym none)) (appends_nothing before);
   }
 
@@ -220,7 +220,7 @@ module _ (meaning : Meaning World) (input : List ℕ) (left : Option (List ℕ))
       is = reads.1;
       memory = is.memory;
       answers = is.answer;
-      whole = λ later. ap (λ rs. talk meaning rs (is.memory ++ later) old) reads.2 ∙ is.goes (requests_of reads.0) later ∙ ap (said is.answer accepted) (on (requests_of reads.0) later new);
+      goes = λ later. ap (λ rs. talk meaning rs (is.memory ++ later) old) reads.2 ∙ is.goes (requests_of reads.0) later ∙ ap (said is.answer accepted) (on (requests_of reads.0) later new);
       written = is.writes;
     }
 
@@ -232,7 +232,7 @@ module _ (meaning : Meaning World) (input : List ℕ) (left : Option (List ℕ))
         let text : answers_of meaning input (is.memory ++ []) old ≡ is.answer = ap (λ (t : Talk). t.written) whole ∙ append-nil is.answer in
         record {
           memory = is.memory ++ [];
-          whole = whole ∙ ap (λ w. a_talk w (accepted ++ []) new true) (sym (ap (λ (t : Talk). t.written) whole)) ∙ ap (λ i. a_talk (answers_of meaning input (is.memory ++ []) old) i new true) (append-nil accepted);
+          goes = whole ∙ ap (λ w. a_talk w (accepted ++ []) new true) (sym (ap (λ (t : Talk). t.written) whole)) ∙ ap (λ i. a_talk (answers_of meaning input (is.memory ++ []) old) i new true) (append-nil accepted);
           written = subst (λ w. Appends before after w) (sym text) is.writes;
         }
 
@@ -276,7 +276,7 @@ module _ (meaning : Meaning World) (input : List ℕ) (left : Option (List ℕ))
       rest = rest_behind request reads.0;
       memory = is.memory;
       answers = is.answer;
-      whole = λ later. ap (λ rs. talk meaning rs (is.memory ++ later) old) reads.2 ∙ is.goes (requests_of reads.0) later ∙ ap (said is.answer accepted) (behind_so request reads.0 later new);
+      goes = λ later. ap (λ rs. talk meaning rs (is.memory ++ later) old) reads.2 ∙ is.goes (requests_of reads.0) later ∙ ap (said is.answer accepted) (behind_so request reads.0 later new);
       written = is.writes.1;
     }
     cut_so request fault.Read reads is = absurd is
@@ -285,7 +285,7 @@ module _ (meaning : Meaning World) (input : List ℕ) (left : Option (List ℕ))
       rest = Some (requests_of input);
       memory = [];
       answers = [];
-      whole = λ later. ap (λ st. talk meaning (requests_of input) later st) (sym is.same) ∙ ap (λ i. said [] i (talk meaning (requests_of input) later new)) (sym is.none);
+      goes = λ later. ap (λ st. talk meaning (requests_of input) later st) (sym is.same) ∙ ap (λ i. said [] i (talk meaning (requests_of input) later new)) (sym is.none);
       written = is.nothing;
     }
 
@@ -298,9 +298,9 @@ module _ (meaning : Meaning World) (input : List ℕ) (left left' : Option (List
     is = second.is;
     memory = first.memory ++ second.memory;
     answers = first.answers ++ second.answers;
-    whole = λ later.
+    goes = λ later.
         ap (λ m. talk meaning (requests_of input) m old) (append_assoc first.memory second.memory later)
-        ∙ first.whole (second.memory ++ later) ∙ ap (said first.answers x) (second.whole later)
+        ∙ first.goes (second.memory ++ later) ∙ ap (said first.answers x) (second.goes later)
         ∙ said-said first.answers second.answers x y (talk meaning (requests_of second.rest) later new);
     written = appends_then a b c first.answers second.answers first.written second.written;
   }
@@ -308,11 +308,11 @@ module _ (meaning : Meaning World) (input : List ℕ) (left left' : Option (List
   at_end : (by : RunEnd) → Answers meaning first.rest y mid new b c by → Answers meaning input (x ++ y) old new a c by
   at_end by last =
       let whole : talk meaning (requests_of input) (first.memory ++ last.memory) old ≡ a_talk (first.answers ++ answers_of meaning first.rest last.memory mid) (x ++ y) new (quits by) =
-      first.whole last.memory ∙ ap (said first.answers x) last.whole in
+      first.goes last.memory ∙ ap (said first.answers x) last.goes in
       let text : answers_of meaning input (first.memory ++ last.memory) old ≡ first.answers ++ answers_of meaning first.rest last.memory mid = ap (λ (t : Talk). t.written) whole in
       record {
         memory = first.memory ++ last.memory;
-        whole = whole ∙ ap (λ w. a_talk w (x ++ y) new (quits by)) (sym text);
+        goes = whole ∙ ap (λ w. a_talk w (x ++ y) new (quits by)) (sym text);
         written = subst (λ w. Appends a c w) (sym text) (appends_then a b c first.answers (answers_of meaning first.rest last.memory mid) first.written last.written);
       }
 
@@ -321,9 +321,9 @@ module _ (meaning : Meaning World) (input : List ℕ) (left left' : Option (List
     rest = last.rest;
     memory = first.memory ++ last.memory;
     answers = first.answers ++ last.answers;
-    whole = λ later.
+    goes = λ later.
         ap (λ m. talk meaning (requests_of input) m old) (append_assoc first.memory last.memory later)
-        ∙ first.whole (last.memory ++ later) ∙ ap (said first.answers x) (last.whole later)
+        ∙ first.goes (last.memory ++ later) ∙ ap (said first.answers x) (last.goes later)
         ∙ said-said first.answers last.answers x y (resumed meaning last.rest later new);
     written = up_to_then why a b c first.answers last.answers first.written last.written;
   }
@@ -354,4 +354,4 @@ where_known (Some xs) P Q f h = f xs h
 -- before any line
 pub so_far_known : (meaning : Meaning World) (o : Option (List ℕ)) (st : Standing) (before : Option (List ℕ)) → IfSome o (λ input. SoFar meaning input o [] st st before before)
 so_far_known meaning None st before = tt
-so_far_known meaning (Some input) st before = record { rest = input; is = refl; memory = []; answers = []; whole = λ later. refl; written = appends_nothing before }
+so_far_known meaning (Some input) st before = record { rest = input; is = refl; memory = []; answers = []; goes = λ later. refl; written = appends_nothing before }

@@ -238,14 +238,14 @@ module _ (meaning : Meaning World) where
     pub is : left ≡ Some rest
     pub memory : List Memory
     pub answers : List ℕ
-    pub whole : (later : List Memory) → talk meaning (requests_of input) (memory ++ later) old ≡ said answers accepted (talk meaning (requests_of rest) later new)
+    pub goes : (later : List Memory) → talk meaning (requests_of input) (memory ++ later) old ≡ said answers accepted (talk meaning (requests_of rest) later new)
     pub written : Appends before after answers
 
   -- a run to its end: for some choice of where memory was withheld, what was written is the answers to the
   -- whole input, up to `quit` where the run ended by it, and these inputs were accepted
   pub record Answers (input : List ℕ) (accepted : List Input) (old new : Standing) (before after : Option (List ℕ)) (by : RunEnd) : Type 0 where
     pub memory : List Memory
-    pub whole : talk meaning (requests_of input) memory old ≡ record { written = answers_of meaning input memory old; accepted = accepted; left = new; has_quit = quits by }
+    pub goes : talk meaning (requests_of input) memory old ≡ record { written = answers_of meaning input memory old; accepted = accepted; left = new; has_quit = quits by }
     pub written : Appends before after (answers_of meaning input memory old)
 
   -- what follows the answers of a run that was cut off: those to other requests, or nothing behind `quit`
@@ -258,7 +258,7 @@ module _ (meaning : Meaning World) where
     pub rest : Option (List Request)
     pub memory : List Memory
     pub answers : List ℕ
-    pub whole : (later : List Memory) → talk meaning (requests_of input) (memory ++ later) old ≡ said answers accepted (resumed rest later new)
+    pub goes : (later : List Memory) → talk meaning (requests_of input) (memory ++ later) old ≡ said answers accepted (resumed rest later new)
     pub written : WrittenUpTo why before after answers
 
   -- what a whole run answers

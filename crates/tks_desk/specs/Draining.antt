@@ -17,6 +17,6 @@ pub record Drains (meaning : Meaning World) (turns done left more : ℕ) (writin
     (before after : Option (List ℕ)) : Type 0 where
   pub memory : List Memory
   pub answers : List ℕ
-  pub whole : (later : List Memory) (next : List Memory → Standing → Talk)
+  pub goes : (later : List Memory) (next : List Memory → Standing → Talk)
       → drained meaning turns done (memory ++ later) old next ≡ said answers accepted (drained meaning left more later new next)
   pub writes : WritesOn writing writing' before after answers
