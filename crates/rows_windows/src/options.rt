@@ -34,7 +34,7 @@ fn answer(alloc: Global, options: &mut Options, line: &str) -> Option<Txt> {
     let words = split(alloc, &Txt::from_bytes(alloc, line.as_bytes()).ok()?).ok()?;
     match options.call(words.as_slice()) {
         Ok(Said::Text(text)) => Some(text),
-        Ok(Said::Run(_)) => None,
+        Ok(Said::Eval(_)) => None,
         Err(Failure::Script(fault)) => fault.text(alloc).ok(),
         Err(Failure::NoMemory) => None,
     }

@@ -45,7 +45,7 @@ planned_well variables (Err cause) well = tt
 
 plan_well : (s : Said) → NoError (plan_of s)
 plan_well (said.Text text) = refl
-plan_well (said.Run script) = tt
+plan_well (said.Eval script) = tt
 
 module _ (limits : Limits) where
   make_well : (kind : WindowKind) (name : List ℕ) (words : List (List ℕ)) (w : World) (variables : Variables) → Well (make_does limits kind name words w variables)

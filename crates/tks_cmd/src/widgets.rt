@@ -21,7 +21,7 @@ fn plan_of(said: Said) -> Plan
 {
     match said {
         Said::Text(text) => Plan::Answer(0, text),
-        Said::Run(script) => Plan::Eval(script),
+        Said::Eval(script) => Plan::Eval(script),
     }
 }
 

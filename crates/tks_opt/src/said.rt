@@ -6,5 +6,5 @@ pub enum Said {
     /// This text is its answer.
     Text(Txt),
     /// What this script answers, run at global level.
-    Run(Txt),
+    Eval(Txt),
 }
