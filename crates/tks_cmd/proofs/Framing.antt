@@ -67,14 +67,14 @@ module _ (limits : Limits) where
       follows_on (FramesStay v) (Beside v) (told limits (link_of w) name (text_of (seen v w)) (text_of next) v) _ (told_stays (link_of w) name (text_of (seen v w)) (text_of next) v) (λ u k. k)
 
   settled_stays : (w next : Widget) (v : Variables) → IfOk (settled limits w next v) (Beside v)
-    unfolding settled
+  unfolding settled
   settled_stays w next v = one_of (Beside v) (fits limits (text_of next) && holds_within limits next) _ _ (stored_stays (link_of next) w next v) tt
 
   pair_stays : (pair : List (List ℕ)) (x : Linked) → IfOk (configured_pair limits pair x) (Beside x.1)
   pair_stays pair x = follows (Beside x.1) (value_or_fault (widgets.configured (seen x.1 x.0) pair)) _ (λ next. settled_stays x.0 next x.1)
 
   configured_stays : (pairs : List (List ℕ)) (u : Variables) (x : Linked) → FramesStay u x.1 → IfOk (configured limits pairs x) (Beside u)
-    unfolding configured
+  unfolding configured
   configured_stays [] u x h = h
   configured_stays (name ∷ []) u x h = h
   configured_stays (name ∷ (value ∷ pairs)) u x h =
@@ -89,19 +89,19 @@ module _ (limits : Limits) where
   first_assigned_stays (Some a) v = made_stays a.variable a.value v
 
   first_stays : (u : Variables) (x : Linked) → FramesStay u x.1 → IfOk (first_value limits x) (Beside u)
-    unfolding first_value
+  unfolding first_value
   first_stays u x h = follows_on (FramesStay x.1) (Beside u) (first_assigned_to limits (first_assigned x.0) x.1) _ (first_assigned_stays (first_assigned x.0) x.1) (λ w k. both h k)
 
   -- ---- a window's own command
 
   words_stay : (words : List (List ℕ)) (u : Variables) (x : Linked) → FramesStay u x.1 → IfOk (told_words limits words x) (BesideSaid u)
-    unfolding told_words
+  unfolding told_words
   words_stay words u x h =
       follows (BesideSaid u) (value_or_fault (widgets.called (seen x.1 x.0) words)) _ (λ y.
       follows_on (Beside x.1) (BesideSaid u) (settled limits x.0 y.1 x.1) _ (settled_stays x.0 y.1 x.1) (λ z k. both h k))
 
   action_stays : (words : List (List ℕ)) (x : Linked) → IfOk (action_does limits words x) (BesideSaid x.1)
-    unfolding action_does
+  unfolding action_does
   action_stays words x =
       follows_on (FramesStay x.1) (BesideSaid x.1) (assigned_to limits (assigned x.1 x.0 words) x.1) _ (assigned_stays (assigned x.1 x.0 words) x.1) (λ v k. words_stay words x.1 (x.0, v) k)
 
@@ -129,7 +129,7 @@ module _ (limits : Limits) where
   beside_stays v r = follows (OutcomeLeft v) r _ (λ x. itself v)
 
   new_stays : (kind : WindowKind) (path : List ℕ) (options : List (List ℕ)) (v : Variables) → IfOk (new_widget limits kind path options v) (Beside v)
-    unfolding new_widget
+  unfolding new_widget
   new_stays kind path options v =
       follows_on (Beside v) (Beside v) (configured limits options (first_widget kind path, v)) (first_value limits) (configured_stays options v (first_widget kind path, v) (itself v)) (λ x k. first_stays v x k)
 

@@ -162,7 +162,7 @@ module _ (m : Meaning) where
 -- ---- all inputs
 
 step_rests : (app : Application) (w : World) (input : Input) (limits : Limits) → AtRest w → RestsAfter (step app w input limits)
-  unfolding step
+unfolding step
 step_rests app w (Script text) limits rest =
     one_of (nat_lt limits.text (length text)) _ _ tt (concluded_rests app.meaning w.variables _ rest (script_leaves app.meaning limits (script_of text) (lent app.names limits w) w.variables))
 step_rests app w (KeyPress key) limits rest = key_rests limits kind.KeyPress key (pressed key w.held) w rest
