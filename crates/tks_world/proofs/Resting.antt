@@ -1,5 +1,5 @@
 -- No frame of variables stands between inputs.
-use Rattle.std.proofs.Common.{◌≡◌, ℕ, ◌==◌, Bool, true, false, ◌&&◌, if◌then◌else◌, List, [], ◌∷◌, length, Option, Some, None, refl, sym, subst, ap, ◌∙◌}
+use Rattle.std.proofs.Common.{◌≡◌, ℕ, ◌==◌, Bool, true, false, ◌&&◌, if◌then◌else◌, List, [], ◌∷◌, length, Option, Some, None, refl, subst, ap, ◌∙◌}
 use Rattle.std.specs.Prelude.{nat_lt}
 use Rattle.tks_text.specs.declared.limits.Limits.{Limits}
 use Rattle.tks_parse.specs.Reading.{script_of}
@@ -13,9 +13,10 @@ use Rattle.tks_event.specs.declared.held.Held.{Held}
 use Rattle.tks_event.specs.declared.kind.Kind.{Kind}
 use Rattle.tks_event.specs.declared.kind.Kind.TheVariants as kind
 use Rattle.tks_event.specs.Held.{pressed, released}
+use Rattle.tks_queue.specs.EventQueue as queue
 use Rattle.tks_queue.specs.declared.place.Place.TheVariants as place
 use Rattle.tks_state.specs.EventLoop.{is_there}
-use Rattle.tks_state.specs.World.{World, queued, holding, pressed_in, with_clock}
+use Rattle.tks_state.specs.World.{World, queued, holding, with_clock}
 use Rattle.tks_eval.specs.Outcome.{Outcome, End, Stopped, Answer, Unknown, Comes, PassesLimit}
 use Rattle.tks_eval.specs.Evaluation.{evaluate}
 use Rattle.tks_eval.specs.Laws.{HostLeavesFrames}
@@ -29,26 +30,24 @@ use Rattle.tks_app.specs.Applications.{Application, Meaning, has}
 use Rattle.tks_app.specs.Memories.{memory_of, remembering}
 use Rattle.tks_app.specs.declared.answer.AppAnswer.{AppAnswer}
 use Rattle.tks_app.specs.declared.memories.Memory.{Memory}
-use Rattle.tks_world.specs.Hosting.{Setting, hosting, in_setting, world_does, code_of, answered, application_does, command_does}
+use Rattle.tks_world.specs.Hosting.{Setting, hosting, in_setting, world_does, code_of, application_does, command_does}
 use Rattle.tks_world.specs.Stepped.{Stepped, Accepts, Refuses, max_count, counted, kept}
-use Rattle.tks_world.specs.Scripts.{concluded, script_ends, lent, script_step}
+use Rattle.tks_world.specs.Scripts.{concluded, script_ends, lent}
 use Rattle.tks_world.specs.Gestures as gestures
 use Rattle.tks_world.specs.Gestures.{has_room, left_by, gesture_step}
 use Rattle.tks_world.specs.Keys.{key_gesture, key_step}
 use Rattle.tks_world.specs.Buttons.{is_button_number, on_grid, target_at, release_target, press_gesture, release_gesture}
 use Rattle.tks_world.specs.Things.{Next, next_thing}
 use Rattle.tks_world.specs.Telling.{told}
-use Rattle.tks_world.specs.Turns.{noted, finished, script_runs, scripts_run, event_runs, thing_does, turned}
+use Rattle.tks_world.specs.Turns.{noted, finished, event_runs, thing_does, turned}
 use Rattle.tks_world.specs.Step.{max_clock, step}
-use Rattle.tks_world.specs.Run.{went, run_of}
+use Rattle.tks_world.specs.Run.{Ran, went, run_of}
 use Rattle.tks_world.specs.Laws.{AtRest, StepsRest, RunsRest}
 use Rattle.tks_world.specs.declared.gestures.Gesture.{Gesture}
 use Rattle.tks_world.specs.declared.things.Thing.{Thing}
 use Rattle.tks_world.specs.declared.things.Thing.TheVariants as thing
 use Rattle.tks_input.specs.declared.input.Input.{Input}
 use Rattle.tks_input.specs.declared.input.Input.TheVariants.{Script, KeyPress, KeyRelease, Press, Release, Clock, Turn}
-use Rattle.tks_input.specs.declared.reply.Reply.{Reply}
-use Rattle.tks_input.specs.declared.reply.Refused.TheVariants.{BadInput, ClockBack, TooLarge}
 
 none_of : {X : Type 0} (xs : List X) → length xs ≡ 0 → xs ≡ []
 none_of [] e = refl
@@ -77,12 +76,13 @@ kept_rests w rest = counted_rests w w.memories 0 [] w.variables rest
 
 -- ---- keys, buttons, the clock
 
+-- either of two worlds
+either_rests : (b : Bool) (u w : World) → AtRest u → AtRest w → AtRest (if b then u else w)
+either_rests true u w h k = h
+either_rests false u w h k = k
+
 queued_rests : (e : Event) (w : World) → AtRest w → AtRest (queued place.Tail e w)
-queued_rests e w rest = by (is_there w.tree.windows e.window)
-  where
-    by : (b : Bool) → AtRest (if b then record w { queue = _ } else w)
-    by true = rest
-    by false = rest
+queued_rests e w rest = either_rests (is_there w.tree.windows e.window) (record w { queue = queue.put place.Tail e w.queue }) w rest rest
 
 took_rests : (took : Option ℕ) (w : World) → AtRest w → AtRest (gestures.remembering took w)
 took_rests None w rest = rest
@@ -178,7 +178,7 @@ step_rests app w Turn limits rest = turned_rests app.meaning limits (next_thing 
 pub steps_rest : (app : Application) (limits : Limits) → StepsRest app limits
 steps_rest app limits w input w' reply rest e = subst RestsAfter e (step_rests app w input limits rest)
 
-went_rests : (w : World) (s : Stepped) (next : World → _) → AtRest w → RestsAfter s → ((v : World) → AtRest v → AtRest (next v).0) → AtRest (went w s next).0
+went_rests : (w : World) (s : Stepped) (next : World → Ran) → AtRest w → RestsAfter s → ((v : World) → AtRest v → AtRest (next v).0) → AtRest (went w s next).0
 went_rests w (Accepts v reply) next rest h n = n v h
 went_rests w (Refuses why) next rest h n = n w rest
 

@@ -1,12 +1,11 @@
 -- Buttons that go down and up over cells of the grid (bind(n), "Event types": what events of buttons carry; that a release
 -- goes to the window that took the last press, and that all of it is fixed when the input is accepted, are this project's
 -- own rules).
-use Rattle.std.specs.Prelude.{pos, ◌-ℤ◌, ℕ, Bool, true, false, ◌&&◌, ◌==◌, nat_le, nat_lt, if◌then◌else◌, List, [], ◌∷◌, Option, Some, None, decimal}
+use Rattle.std.specs.Prelude.{pos, ◌-ℤ◌, ℕ, Bool, true, false, ◌&&◌, ◌==◌, nat_le, nat_lt, if◌then◌else◌, [], Option, Some, None, decimal}
 use Rattle.std.specs.List.{find}
 use Rattle.tks_text.specs.declared.limits.Limits.{Limits}
 use Rattle.tks_event.specs.Held.{state_of, with_button}
 use Rattle.tks_event.specs.declared.event.Event.{Event}
-use Rattle.tks_event.specs.declared.held.Held.{Held}
 use Rattle.tks_event.specs.declared.kind.Kind.{Kind}
 use Rattle.tks_event.specs.declared.kind.Kind.TheVariants as kind
 use Rattle.tks_state.specs.World.{World}
