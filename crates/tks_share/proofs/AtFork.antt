@@ -1,0 +1,127 @@
+-- What is found in a fork, and what becomes of it.
+use Rattle.std.proofs.Common.{◌≡◌, ℕ, T, List, [], ◌∷◌, ◌++◌, Option, Some, None, Ordering, Less, Equal, Greater, refl, sym, subst, ap, ◌∙◌}
+use Rattle.std.specs.Prelude.{Result, Ok, Err, IfOk, IfSome, IfNone}
+use Rattle.std.specs.Cmp.Lexicographic.{nat_list_cmp_total}
+use Rattle.std.proofs.Common.{◌⊎◌, ⊎_elim}
+use Rattle.std.specs.FinMap.Entries.{find, put, is_sorted}
+use Rattle.std.specs.declared.rc.Rc.{Rc}
+use Rattle.tks_share.specs.Names.{order, without, behind, front, IsChanged}
+use Rattle.tks_share.specs.Tree.{entries_at, entries_of}
+use Rattle.tks_share.specs.declared.tree.Fork.{Fork}
+use Rattle.tks_share.proofs.Sides.{find_left, find_here, find_right, put_front, put_here, put_right, without_left, without_here, without_right, later_left, later_right, sorted_before, sorted_behind}
+
+-- how a name stands to another, as the code learns it
+pub side : (name key other : List ℕ) (told known : Ordering) → told ≡ known → told ≡ order name other → other ≡ key → order name key ≡ known
+side name key other told known is stands same = sym (ap (order name) same) ∙ sym stands ∙ is
+
+module _ {A E : Type 0} where
+  pub some_through : (P Q : A → Type 0) (r : Result (Option A) E) → ((a : A) → P a → Q a) → IfOk r (λ o. IfSome o P) → IfOk r (λ o. IfSome o Q)
+  some_through P Q (Ok (Some a)) goes h = goes a h
+  some_through P Q (Ok None) goes h = h
+  some_through P Q (Err e) goes h = h
+
+  pub none_through : (P Q : Type 0) (r : Result (Option A) E) → (P → Q) → IfOk r (λ o. IfNone o P) → IfOk r (λ o. IfNone o Q)
+  none_through P Q (Ok (Some a)) goes h = h
+  none_through P Q (Ok None) goes h = goes h
+  none_through P Q (Err e) goes h = h
+
+module _ {V : Type 0} where
+  pub front_none : (es m : List (List ℕ × V)) (e : List ℕ × V) → None ≡ front es → front (es ++ e ∷ m) ≡ Some e
+  front_none [] m e is = refl
+  front_none (x ∷ es) m e is = cc
+
+  pub front_some : (es m : List (List ℕ × V)) (e : List ℕ × V) → Some e ≡ front es → front (es ++ m) ≡ Some e
+  front_some [] m e is = cc
+  front_some (x ∷ es) m e is = sym is
+
+module _ {V Z : Type 0} where
+  -- the entries of a tree with a root
+  pub opened : (root : Option (Rc (Fork V) Z)) (held : Rc (Fork V) Z) (f : Fork V) (es : List (List ℕ × V)) → entries_of root ≡ es → root ≡ Some held → f ≡ held.value → es ≡ entries_at f
+  opened root held f es view is value = sym view ∙ ap entries_of is ∙ ap entries_at (sym value)
+
+  -- the same, where the root may be a copy
+  pub owned : (root : Option (Rc (Fork V) Z)) (held : Rc (Fork V) Z) (f : Fork V) (es : List (List ℕ × V)) → entries_of root ≡ es → root ≡ Some held → (f ≡ held.value) ⊎ (f ≡ held.value) → es ≡ entries_at f
+  owned root held f es view is value = ⊎_elim (opened root held f es view is) (opened root held f es view is) value
+
+module _ {V : Type 0} (f : Fork V) (es : List (List ℕ × V)) (is : es ≡ entries_at f) (name : List ℕ) where
+  pub sorted_left : T (is_sorted order es) → T (is_sorted order f.left)
+  sorted_left s = sorted_before order f.left ((f.entry.name, f.entry.value) ∷ f.right) (subst (λ t. T (is_sorted order t)) is s)
+
+  pub sorted_right : T (is_sorted order es) → T (is_sorted order f.right)
+  sorted_right s = sorted_behind order ((f.entry.name, f.entry.value) ∷ []) f.right (sorted_behind order f.left ((f.entry.name, f.entry.value) ∷ f.right) (subst (λ t. T (is_sorted order t)) is s))
+
+  pub found_left : order name f.entry.name ≡ Less → T (is_sorted order es) → find order name es ≡ find order name f.left
+  found_left p s = ap (find order name) is ∙ find_left order nat_list_cmp_total name f.left (f.entry.name, f.entry.value) f.right p (subst (λ t. T (is_sorted order t)) is s)
+
+  pub found_here : order name f.entry.name ≡ Equal → T (is_sorted order es) → find order name es ≡ Some f.entry.value
+  found_here p s = ap (find order name) is ∙ find_here order nat_list_cmp_total name f.left (f.entry.name, f.entry.value) f.right p (subst (λ t. T (is_sorted order t)) is s)
+
+  pub found_right : order name f.entry.name ≡ Greater → T (is_sorted order es) → find order name es ≡ find order name f.right
+  found_right p s = ap (find order name) is ∙ find_right order nat_list_cmp_total name f.left (f.entry.name, f.entry.value) f.right p (subst (λ t. T (is_sorted order t)) is s)
+
+  pub put_in_left : order name f.entry.name ≡ Less → T (is_sorted order es) → (v : V) (left : List (List ℕ × V)) → left ≡ put order name v f.left
+      → left ++ (f.entry.name, f.entry.value) ∷ f.right ≡ put order name v es
+  put_in_left p s v left e =
+      ap (λ l. l ++ (f.entry.name, f.entry.value) ∷ f.right) e ∙ sym (put_front order name v f.left (f.entry.name, f.entry.value) f.right p) ∙ ap (put order name v) (sym is)
+
+  pub put_in_here : order name f.entry.name ≡ Equal → T (is_sorted order es) → (v : V) → f.left ++ (f.entry.name, v) ∷ f.right ≡ put order name v es
+  put_in_here p s v =
+      sym (put_here order nat_list_cmp_total name v f.left (f.entry.name, f.entry.value) f.right p (subst (λ t. T (is_sorted order t)) is s)) ∙ ap (put order name v) (sym is)
+
+  pub put_in_right : order name f.entry.name ≡ Greater → T (is_sorted order es) → (v : V) (right : List (List ℕ × V)) → right ≡ put order name v f.right
+      → f.left ++ (f.entry.name, f.entry.value) ∷ right ≡ put order name v es
+  put_in_right p s v right e =
+      ap (λ r. f.left ++ (f.entry.name, f.entry.value) ∷ r) e
+      ∙ sym (put_right order nat_list_cmp_total name v f.left (f.entry.name, f.entry.value) f.right p (subst (λ t. T (is_sorted order t)) is s))
+      ∙ ap (put order name v) (sym is)
+
+  pub left_out : order name f.entry.name ≡ Less → T (is_sorted order es) → (left : List (List ℕ × V)) → left ≡ without name f.left
+      → left ++ (f.entry.name, f.entry.value) ∷ f.right ≡ without name es
+  left_out p s left e =
+      ap (λ l. l ++ (f.entry.name, f.entry.value) ∷ f.right) e
+      ∙ sym (without_left order nat_list_cmp_total name f.left (f.entry.name, f.entry.value) f.right p (subst (λ t. T (is_sorted order t)) is s))
+      ∙ ap (without name) (sym is)
+
+  pub here_out : order name f.entry.name ≡ Equal → T (is_sorted order es) → f.left ++ f.right ≡ without name es
+  here_out p s =
+      sym (without_here order nat_list_cmp_total name f.left (f.entry.name, f.entry.value) f.right p (subst (λ t. T (is_sorted order t)) is s)) ∙ ap (without name) (sym is)
+
+  pub right_out : order name f.entry.name ≡ Greater → T (is_sorted order es) → (right : List (List ℕ × V)) → right ≡ without name f.right
+      → f.left ++ (f.entry.name, f.entry.value) ∷ right ≡ without name es
+  right_out p s right e =
+      ap (λ r. f.left ++ (f.entry.name, f.entry.value) ∷ r) e
+      ∙ sym (without_right order nat_list_cmp_total name f.left (f.entry.name, f.entry.value) f.right p (subst (λ t. T (is_sorted order t)) is s))
+      ∙ ap (without name) (sym is)
+
+  pub behind_left : order name f.entry.name ≡ Less → T (is_sorted order es) → behind name es ≡ behind name f.left ++ (f.entry.name, f.entry.value) ∷ f.right
+  behind_left p s = ap (behind name) is ∙ later_left order nat_list_cmp_total name f.left (f.entry.name, f.entry.value) f.right p (subst (λ t. T (is_sorted order t)) is s)
+
+  pub behind_right : (order name f.entry.name ≡ Less → ⊥) → T (is_sorted order es) → behind name es ≡ behind name f.right
+  behind_right p s = ap (behind name) is ∙ later_right order nat_list_cmp_total name f.left (f.entry.name, f.entry.value) f.right p (subst (λ t. T (is_sorted order t)) is s)
+
+  module _ {A : Type 0} (gives : V → V → A → Type 0) (answer : A) where
+    pub changed_left : order name f.entry.name ≡ Less → T (is_sorted order es) → (left now : List (List ℕ × V)) → now ≡ left ++ (f.entry.name, f.entry.value) ∷ f.right
+        → IsChanged gives name f.left left answer → IsChanged gives name es now answer
+    changed_left p s left now e c =
+        record { before = c.before; after = c.after; found = found_left p s ∙ c.found; given = c.given; now = e ∙ put_in_left p s c.after left c.now }
+
+    pub changed_here : order name f.entry.name ≡ Equal → T (is_sorted order es) → (v w : V) → v ≡ f.entry.value → gives v w answer → (now : List (List ℕ × V))
+        → now ≡ f.left ++ (f.entry.name, w) ∷ f.right → IsChanged gives name es now answer
+    changed_here p s v w same g now e =
+        record { before = v; after = w; found = found_here p s ∙ ap (λ x. Some x) (sym same); given = g; now = e ∙ put_in_here p s w }
+
+    pub changed_right : order name f.entry.name ≡ Greater → T (is_sorted order es) → (right now : List (List ℕ × V)) → now ≡ f.left ++ (f.entry.name, f.entry.value) ∷ right
+        → IsChanged gives name f.right right answer → IsChanged gives name es now answer
+    changed_right p s right now e c =
+        record { before = c.before; after = c.after; found = found_right p s ∙ c.found; given = c.given; now = e ∙ put_in_right p s c.after right c.now }
+
+  -- where nothing is found on the side where it would stand, all stays
+  pub kept_left : order name f.entry.name ≡ Less → (left now : List (List ℕ × V)) → now ≡ left ++ (f.entry.name, f.entry.value) ∷ f.right
+      → (left ≡ f.left) × (T (is_sorted order f.left) → find order name f.left ≡ None)
+      → (now ≡ es) × (T (is_sorted order es) → find order name es ≡ None)
+  kept_left p left now e told = (e ∙ ap (λ l. l ++ (f.entry.name, f.entry.value) ∷ f.right) told.0 ∙ sym is, λ s. found_left p s ∙ told.1 (sorted_left s))
+
+  pub kept_right : order name f.entry.name ≡ Greater → (right now : List (List ℕ × V)) → now ≡ f.left ++ (f.entry.name, f.entry.value) ∷ right
+      → (right ≡ f.right) × (T (is_sorted order f.right) → find order name f.right ≡ None)
+      → (now ≡ es) × (T (is_sorted order es) → find order name es ≡ None)
+  kept_right p right now e told = (e ∙ ap (λ r. f.left ++ (f.entry.name, f.entry.value) ∷ r) told.0 ∙ sym is, λ s. found_right p s ∙ told.1 (sorted_right s))

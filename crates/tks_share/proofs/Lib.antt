@@ -1,0 +1,4 @@
+pub mod Sides
+pub mod AtFork
+pub mod Mapped
+pub mod Going

@@ -1,0 +1,5 @@
+pub mod Names
+pub mod Tree
+pub mod Falls
+pub mod Lending
+pub mod Maps

@@ -1,0 +1,32 @@
+-- Names in the order of their bytes, and entries under them.
+use Rattle.std.specs.Prelude.{◌≡◌, ℕ, not, List, [], ◌∷◌, Option, Some, None}
+use Rattle.std.specs.declared.cmp.Ordering.{Ordering}
+use Rattle.std.specs.Ordering.{nat_cmp, eq_by_cmp, is_lt}
+use Rattle.std.specs.Cmp.Lexicographic.{slice_cmp}
+use Rattle.std.specs.FinMap.Entries.{find, put, where_key}
+
+-- how one name stands to another
+abbrev pub order : List ℕ → List ℕ → Ordering
+order = slice_cmp nat_cmp
+
+module _ {V : Type 0} where
+  -- the entries but for a name's
+  abbrev pub without : List ℕ → List (List ℕ × V) → List (List ℕ × V)
+  without name = where_key order (λ other. not (eq_by_cmp order name other))
+
+  -- those whose names come behind this one
+  abbrev pub behind : List ℕ → List (List ℕ × V) → List (List ℕ × V)
+  behind name = where_key order (λ other. is_lt (order name other))
+
+  -- the first of them, if there is one
+  abbrev pub front : List (List ℕ × V) → Option (List ℕ × V)
+  front [] = None
+  front (e ∷ es) = Some e
+
+-- the value that was found under a name was changed, the change gave this answer, and nothing else is new
+pub record IsChanged {V A : Type 0} (gives : V → V → A → Type 0) (name : List ℕ) (old new : List (List ℕ × V)) (answer : A) : Type 0 where
+  pub before : V
+  pub after : V
+  pub found : find order name old ≡ Some before
+  pub given : gives before after answer
+  pub now : new ≡ put order name after old

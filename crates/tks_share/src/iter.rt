@@ -1,0 +1,62 @@
+ghost use Rattle.std.specs.Prelude.{◌≡◌, T};
+ghost use Rattle.std.specs.Iterator.{YieldsFirstBy, item_count};
+ghost use Rattle.std.specs.FinMap.Entries.{is_sorted};
+ghost use Rattle.tks_share.specs.Names.{order};
+ghost use Rattle.tks_share.specs.Maps.{entry_seen};
+
+use crate::tree::{Entry, Tree};
+use std::marker::Model;
+
+/// The entries of a map that are still to come, in the names' order.
+#[derive(Drop)]
+pub struct Iter<'a, V> {
+    tree: &'a Tree<V>,
+    next: Option<&'a Entry<V>>,
+}
+
+impl<'a, V> Model for Iter<'a, V> {
+    ghost use Rattle.std.specs.Prelude.{List, ℕ, T};
+    ghost use Rattle.std.specs.FinMap.Entries.{is_sorted};
+    ghost use Rattle.std.specs.Coded.{coded_list, coded_ℕ, coded×};
+    ghost use Rattle.tks_share.specs.Names.{order};
+    ghost use Rattle.tks_share.specs.Tree.{pair_told};
+    ghost use Rattle.tks_share.specs.Maps.{rest_of};
+
+    ghost Value = { List (List ℕ × V) };
+
+    ghost coded = { coded_list (coded× (coded_list coded_ℕ) V.code) };
+
+    ghost view = { λ i. rest_of i.tree.now (pair_told i.next) };
+
+    ghost invariant = { λ i. T (is_sorted order i.tree.now) };
+}
+
+impl<'a, V: Drop> Iter<'a, V> {
+    // The entries of a tree.
+    pub(crate) fn of(tree: &'a Tree<V>) -> Iter<'a, V>
+        requires { T (is_sorted order tree.now) }
+        ensures { result ≡ tree.now }
+    {
+        Iter {
+            tree,
+            next: tree.first(),
+        }
+    }
+}
+
+impl<'a, V: Drop> Iterator for Iter<'a, V> {
+    type Item = (&'a [u8], &'a V);
+
+    ghost next_gives = { YieldsFirstBy entry_seen (λ i. i) };
+
+    ghost remaining = { item_count (λ i. i) };
+
+    fn next(&mut self) -> Option<(&'a [u8], &'a V)> {
+        let Some(entry) = self.next else {
+            return None;
+        };
+        let name = entry.name.get().as_bytes();
+        self.next = self.tree.after(name);
+        Some((name, entry.value.get()))
+    }
+}
