@@ -1,8 +1,7 @@
 //! Maps from names.
-ghost use Rattle.std.specs.Prelude.{◌≡◌, ◌↔◌, ◌<◌, ◌^◌, ◌++◌, ◌∷◌, [], length, map, true, None, OnOk};
+ghost use Rattle.std.specs.Prelude.{◌≡◌, ◌↔◌, ◌<◌, ◌^◌, ◌++◌, ◌∷◌, [], length, true, None, OnOk};
 ghost use Rattle.std.specs.List.{AllByRecursion};
 ghost use Rattle.tks_text.specs.Text.{IsText};
-ghost use Rattle.tks_vars.specs.Table.{pair_of};
 ghost use Rattle.tks_codec.specs.Spelling.{text, is_behind, last_of, members, members_at};
 ghost use Rattle.tks_codec.specs.Reading.{Gives};
 ghost use Rattle.tks_codec.specs.Writing.{PutsSo};
@@ -10,12 +9,11 @@ ghost use Rattle.tks_codec_variables.specs.Table as kinds;
 ghost use Rattle.tks_codec_variables.specs.Table.{entry, next, table_at, HasShort, HasText, IsShortTable, IsSoundTable};
 
 use std::alloc::{AllocError, Global};
-use std::collections::btree_map::Iter;
 use tks_codec::Unread;
 use tks_codec::reading::{text_of, u32_of};
 use tks_codec::writing::put_u32;
 use tks_text::{Txt, is_text};
-use tks_vars::Table;
+use tks_vars::{Iter, Table};
 
 /// What may stand under a name: it is read and written by itself.
 pub trait Named: Drop {
@@ -142,10 +140,10 @@ fn put_entry<X: Named>(out: &mut Vec<u8>, name: &[u8], value: &X) -> Result<(), 
 }
 
 // Adds each of the entries.
-fn put_each<X: Named>(out: &mut Vec<u8>, entries: Iter<'_, Vec<u8>, X>) -> Result<(), AllocError>
-    requires { AllByRecursion (HasShort X.IsShort) (map pair_of entries) }
-    ensures puts { PutsSo result out.old.items out.new.items (members (λ before. entry X.spelling) None (map pair_of entries.entry)) }
-    ensures legal { OnOk result (AllByRecursion (λ e. HasText X.IsSound e → (entry X.spelling).Legal e) (map pair_of entries.entry)) }
+fn put_each<X: Named>(out: &mut Vec<u8>, entries: Iter<'_, X>) -> Result<(), AllocError>
+    requires { AllByRecursion (HasShort X.IsShort) entries }
+    ensures puts { PutsSo result out.old.items out.new.items (members (λ before. entry X.spelling) None entries.entry) }
+    ensures legal { OnOk result (AllByRecursion (λ e. HasText X.IsSound e → (entry X.spelling).Legal e) entries.entry) }
 {
     for (name, value) in entries {
         put_entry(out, name, value)?;
@@ -178,8 +176,8 @@ fn has_spelling<X: Named>(name: &[u8], value: &X) -> bool
 }
 
 // Whether each of these has a spelling.
-fn have_spellings<X: Named>(entries: Iter<'_, Vec<u8>, X>) -> bool
-    ensures { (result ≡ true) ↔ (AllByRecursion (HasShort X.IsShort) (map pair_of entries.entry) × AllByRecursion (HasText X.IsSound) (map pair_of entries.entry)) }
+fn have_spellings<X: Named>(entries: Iter<'_, X>) -> bool
+    ensures { (result ≡ true) ↔ (AllByRecursion (HasShort X.IsShort) entries.entry × AllByRecursion (HasText X.IsSound) entries.entry) }
 {
     for (name, value) in entries {
         if !has_spelling(name, value) {

@@ -1,17 +1,15 @@
 //! Variables and procedures.
-ghost use Rattle.std.specs.Prelude.{◌≡◌, ◌&&◌, map, option_map};
+ghost use Rattle.std.specs.Prelude.{◌≡◌, ◌&&◌, option_map};
 ghost use Rattle.std.specs.List.{list_all};
 ghost use Rattle.tks_limits.specs.Within as kinds;
-ghost use Rattle.tks_vars.specs.Table.{pair_of};
 
 use crate::texts::{fits, may_hold};
-use std::collections::btree_map::Iter;
 use tks_text::{Limits, Txt};
-use tks_vars::{Content, Parameter, Procedure, Table, Vars};
+use tks_vars::{Content, Iter, Parameter, Procedure, Table, Vars};
 
 // Whether the names and values of elements fit.
-fn each_element_fits(elements: Iter<'_, Vec<u8>, Txt>, limits: &Limits) -> bool
-    ensures { result ≡ list_all (λ e. kinds.fits limits.now e.0 && kinds.fits limits.now e.1) (map pair_of elements.entry) }
+fn each_element_fits(elements: Iter<'_, Txt>, limits: &Limits) -> bool
+    ensures { result ≡ list_all (λ e. kinds.fits limits.now e.0 && kinds.fits limits.now e.1) elements.entry }
 {
     for (name, value) in elements {
         if !fits(name, limits) || !fits(value.as_bytes(), limits) {
@@ -39,8 +37,8 @@ fn global_fits(content: &Content, limits: &Limits) -> bool
 }
 
 // Whether the names of variables, and the variables, fit.
-fn each_global_fits(globals: Iter<'_, Vec<u8>, Content>, limits: &Limits) -> bool
-    ensures { result ≡ list_all (λ e. kinds.fits limits.now e.0 && kinds.global_fits limits.now e.1) (map pair_of globals.entry) }
+fn each_global_fits(globals: Iter<'_, Content>, limits: &Limits) -> bool
+    ensures { result ≡ list_all (λ e. kinds.fits limits.now e.0 && kinds.global_fits limits.now e.1) globals.entry }
 {
     for (name, content) in globals {
         if !fits(name, limits) || !global_fits(content, limits) {
@@ -80,8 +78,8 @@ fn procedure_fits(procedure: &Procedure, limits: &Limits) -> bool
 }
 
 // Whether the names of procedures, and the procedures, fit.
-fn each_procedure_fits(procedures: Iter<'_, Vec<u8>, Procedure>, limits: &Limits) -> bool
-    ensures { result ≡ list_all (λ e. kinds.fits limits.now e.0 && kinds.procedure_fits limits.now e.1) (map pair_of procedures.entry) }
+fn each_procedure_fits(procedures: Iter<'_, Procedure>, limits: &Limits) -> bool
+    ensures { result ≡ list_all (λ e. kinds.fits limits.now e.0 && kinds.procedure_fits limits.now e.1) procedures.entry }
 {
     for (name, procedure) in procedures {
         if !fits(name, limits) || !procedure_fits(procedure, limits) {

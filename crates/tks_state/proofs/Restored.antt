@@ -2,7 +2,7 @@
 use Rattle.std.proofs.Common.{◌≡◌, ℕ, zero, suc, ◌+◌, Bool, true, false, ◌&&◌, ◌||◌, not, true≢false, map, List, [], ◌∷◌, length, ◌<◌, slice_index_or, Option, Some, None, refl, sym, ap, ◌∙◌, drop, arith}
 use Rattle.std.specs.Prelude.{slice_get, ◌≢◌, ◌==◌, ◌≤◌, ◌^◌, nat_le, if◌then◌else◌}
 use Rattle.std.specs.List.{AllByRecursion, IsDistinct, list_all}
-use Rattle.std.proofs.lemmas.Bool.{eqb-true, le-leb}
+use Rattle.std.proofs.lemmas.Bool.{eqb-true, le-leb, lt-leb}
 use Rattle.tks_text.specs.declared.class.Class.{Class}
 use Rattle.tks_text.specs.declared.class.Class.TheVariants as class
 use Rattle.tks_opt.specs.Numbers.{class_number, class_numbered}
@@ -178,3 +178,57 @@ pub there_again : (p : WorldParts) (x : Windows) (loop : EventLoop) → all_in p
 there_again p x loop there windows =
     let a = told (are_windows (windows_of (world_of p))) (windows_of (world_of p)) x windows in
     ap (λ (v : Windows). all_in v.tree.windows loop) (sym a.1) ∙ there
+
+-- ---- parts that no world has
+
+no_first : (a b : Bool) → a ≡ false → (a && b) ≡ false
+no_first true b h = absurd (true≢false h)
+no_first false b h = refl
+
+no_second : (a b : Bool) → b ≡ false → (a && b) ≡ false
+no_second true b h = h
+no_second false b h = refl
+
+untold : {X : Type 0} (b : Bool) (x : X) → (if b then Some x else None) ≡ None → b ≡ false
+untold true x h = absurd (some_is_none h)
+untold false x h = refl
+
+lost : (w : World) → is_possible w ≡ false → None ≡ (if is_possible w then Some w else None)
+lost w h = rw h refl
+
+pub too_many : (p : WorldParts) → 2 ^ 62 < p.accepted → None ≡ restored p
+unfolding is_possible
+too_many p many =
+    let w = world_of p in
+    let others = are_windows (windows_of w) && (nat_le (length w.history) max_history && (nat_le (length w.faults) max_faults && all_in w.tree.windows (loop_of w))) in
+    lost w (no_first (nat_le w.accepted (2 ^ 62)) others (lt-leb w.accepted (2 ^ 62) many))
+
+-- where the windows fit but what stands behind them doesn't
+no_others : (w : World) → (nat_le (length w.history) max_history && (nat_le (length w.faults) max_faults && all_in w.tree.windows (loop_of w))) ≡ false → is_possible w ≡ false
+unfolding is_possible
+no_others w h =
+    let windows = are_windows (windows_of w) in
+    let others = nat_le (length w.history) max_history && (nat_le (length w.faults) max_faults && all_in w.tree.windows (loop_of w)) in
+    no_second (nat_le w.accepted (2 ^ 62)) (windows && others) (no_second windows others h)
+
+pub not_there : (p : WorldParts) → all_in p.tree.windows (loop_of (world_of p)) ≡ false → None ≡ restored p
+not_there p h =
+    let w = world_of p in
+    let faults = nat_le (length w.faults) max_faults in
+    let there = all_in w.tree.windows (loop_of w) in
+    lost w (no_others w (no_second (nat_le (length w.history) max_history) (faults && there) (no_second faults there h)))
+
+pub no_windows : (p : WorldParts) → (if are_windows (windows_of (world_of p)) then Some (windows_of (world_of p)) else None) ≡ None → None ≡ restored p
+unfolding is_possible
+no_windows p h =
+    let w = world_of p in
+    let windows = are_windows (windows_of w) in
+    let others = nat_le (length w.history) max_history && (nat_le (length w.faults) max_faults && all_in w.tree.windows (loop_of w)) in
+    lost w (no_second (nat_le w.accepted (2 ^ 62)) (windows && others) (no_first windows others (untold windows (windows_of w) h)))
+
+pub no_events : (p : WorldParts) → (if nat_le (length p.faults) max_faults then Some (events_of (world_of p)) else None) ≡ None → None ≡ restored p
+no_events p h =
+    let w = world_of p in
+    let faults = nat_le (length w.faults) max_faults in
+    let there = all_in w.tree.windows (loop_of w) in
+    lost w (no_others w (no_second (nat_le (length w.history) max_history) (faults && there) (no_first faults there (untold faults (events_of w) h))))

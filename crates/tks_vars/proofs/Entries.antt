@@ -1,14 +1,10 @@
 -- The entries of a map of names.
-use Rattle.std.proofs.Common.{◌≡◌, ℕ, Bool, true, false, ◌&&◌, T, List, [], ◌∷◌, ◌++◌, Vec, Ordering, Less, refl, sym, subst, ap, ◌∙◌}
-use Rattle.std.specs.Prelude.{map}
+use Rattle.std.proofs.Common.{◌≡◌, ℕ, Bool, true, false, ◌&&◌, T, List, [], ◌∷◌, ◌++◌, Ordering, Less, refl, sym, subst, ap, ◌∙◌}
 use Rattle.std.specs.Ordering.{is_lt, nat_cmp}
 use Rattle.std.specs.Cmp.Lexicographic.{slice_cmp, nat_list_cmp_total}
-use Rattle.std.specs.List.{AllByRecursion}
-use Rattle.std.specs.List.Sorted.{IsStrictlySortedBy}
-use Rattle.std.specs.Map.{keys_of}
 use Rattle.std.specs.FinMap as fin
-use Rattle.std.specs.FinMap.Entries.{below_all, is_sorted}
-use Rattle.tks_vars.specs.Table.{Map, pair_of, table_of}
+use Rattle.std.specs.FinMap.Entries.{is_sorted}
+use Rattle.tks_vars.specs.Table.{Map}
 
 abbrev pub order : List ℕ → List ℕ → Ordering
 order = slice_cmp nat_cmp
@@ -46,17 +42,3 @@ module _ {V : Type 0} where
   pub put_last : (m : Map V) (es : List (List ℕ × V)) (e : List ℕ × V) → put_behind m (es ++ e ∷ []) ≡ put_behind (fin.insert m e.0 e.1) es
   put_last m [] e = refl
   put_last m (f ∷ es) e = ap (λ (n : Map V). fin.insert n f.0 f.1) (put_last m es e)
-
-module _ {V Z : Type 0} where
-  below_each : (k : Vec ℕ Z) (es : List (Vec ℕ Z × V)) → AllByRecursion (λ (y : Vec ℕ Z). order k.items y.items ≡ Less) (keys_of es) → T (below_all order k.items (map pair_of es))
-  below_each k [] h = tt
-  below_each k (e ∷ es) h = both (is_lt (order k.items e.0.items)) (below_all order k.items (map pair_of es)) (less k.items e.0.items h.0) (below_each k es h.1)
-
-  rising : (es : List (Vec ℕ Z × V)) → IsStrictlySortedBy (λ x y. order x.items y.items) (keys_of es) → T (is_sorted order (map pair_of es))
-  unfolding IsStrictlySortedBy
-  rising [] h = tt
-  rising (e ∷ es) h = both (below_all order e.0.items (map pair_of es)) (is_sorted order (map pair_of es)) (below_each e.0 es h.0) (rising es h.1)
-
-  -- the entries that the code keeps
-  pub entries_kept : (es : List (Vec ℕ Z × V)) → IsStrictlySortedBy (λ x y. order x.items y.items) (keys_of es) → fin.entries (table_of es) ≡ map pair_of es
-  entries_kept es h = entries_are (map pair_of es) (rising es h)

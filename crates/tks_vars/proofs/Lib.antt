@@ -1,4 +1,3 @@
-pub mod Tables
 pub mod Changes
 pub mod Frames
 pub mod Entries

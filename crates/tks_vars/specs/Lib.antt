@@ -1,5 +1,4 @@
 pub mod Table
-pub mod Lending
 pub mod Names
 pub mod Variables
 pub mod Laws

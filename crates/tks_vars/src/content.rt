@@ -1,10 +1,8 @@
-ghost use Rattle.std.specs.Prelude.{◌≡◌, IfOk, OnErr, None, Some, Ok, false};
+ghost use Rattle.std.specs.Prelude.{◌≡◌, IfOk, None, Some, Ok};
 ghost use Rattle.tks_text.specs.Fault.{Gives};
 ghost use Rattle.tks_vars.specs.Meets.{AnswersSo, index_seen};
-ghost use Rattle.tks_vars.specs.Variables.{about, after, value_in, updated, taken, without_element, is_there, grown_inside, is_link};
-ghost use Rattle.tks_vars.specs.Parts.{own};
+ghost use Rattle.tks_vars.specs.Variables.{about, value_in, updated, taken, is_there, grown_inside};
 
-use crate::clones::CloneIn;
 use crate::table::Table;
 use std::alloc::{AllocError, Global};
 use tks_text::{ErrorNumber, Failure, Txt};
@@ -64,19 +62,16 @@ impl Content {
         }
     }
 
-    /// Gives the whole variable, or an element, a value. The error tells the name.
-    pub fn write(&mut self, name: &Txt, index: Option<&[u8]>, value: Txt) -> Result<(), Failure>
-        ensures value { Gives (λ _. self.new) result (about name.now (updated (Some self.old) (index_seen index.entry) value)) }
-        ensures err { OnErr result (self.new ≡ self.old) }
+    /// What the whole variable, or its array, becomes by a value. The error tells the name.
+    pub fn updated(&self, name: &Txt, index: Option<&[u8]>, value: Txt) -> Result<Content, Failure>
+        ensures { Gives (λ c. c) result (about name.now (updated (Some self.now) (index_seen index.entry) value)) }
     {
         match (self, index) {
-            (Content::Scalar(old), None) => {
-                *old = value;
-                Ok(())
-            }
+            (Content::Scalar(_), None) => Ok(Content::Scalar(value)),
             (Content::Array(elements), Some(index)) => {
+                let mut elements = elements.share()?;
                 elements.insert(index, value)?;
-                Ok(())
+                Ok(Content::Array(elements))
             }
             _ => Err(Failure::about(ErrorNumber::WrongKindOfVariable, name)),
         }
@@ -94,76 +89,20 @@ impl Content {
         }
     }
 
-    /// Takes an element out.
-    pub fn take(&mut self, index: &[u8]) -> Result<(), ErrorNumber>
-        ensures value { AnswersSo (λ _. Some self.new) result (taken (Some self.old) (Some index.now)) }
-        ensures err { OnErr result (self.new ≡ self.old) }
+    /// What is left of an array without an element. The error tells the name.
+    pub fn left(&self, name: &Txt, index: &[u8]) -> Result<Content, Failure>
+        ensures { Gives (λ c. Some c) result (about name.now (taken (Some self.now) (Some index.now))) }
     {
         match self {
-            Content::Scalar(_) => Err(ErrorNumber::WrongKindOfVariable),
-            Content::Array(elements) => take_element(elements, index),
-        }
-    }
-}
-
-impl Local {
-    /// The same as `Content::write`, of a procedure's own variable.
-    pub fn write(&mut self, name: &Txt, index: Option<&[u8]>, value: Txt) -> Result<(), Failure>
-        requires { is_link (Some self.old) ≡ false }
-        ensures value { Gives (λ _. self.new) result (about name.now (after (updated (own (Some self.old)) (index_seen index.entry) value) (λ c. Local.Own c))) }
-        ensures err { OnErr result (self.new ≡ self.old) }
-    {
-        match self {
-            Local::Own(content) => {
-                content.write(name, index, value)?;
-                Ok(())
+            Content::Scalar(_) => Err(Failure::about(ErrorNumber::WrongKindOfVariable, name)),
+            Content::Array(elements) => {
+                if !elements.contains(index) {
+                    return Err(Failure::about(ErrorNumber::NoSuchVariable, name));
+                }
+                let mut elements = elements.share()?;
+                elements.remove(index)?;
+                Ok(Content::Array(elements))
             }
-            Local::Link => Err(Failure::about(ErrorNumber::NoSuchVariable, name)),
-        }
-    }
-
-    /// The same as `Content::take`, of a procedure's own variable.
-    pub fn take(&mut self, index: &[u8]) -> Result<(), ErrorNumber>
-        requires { is_link (Some self.old) ≡ false }
-        ensures value { AnswersSo (λ _. own (Some self.new)) result (taken (own (Some self.old)) (Some index.now)) }
-        ensures err { OnErr result (self.new ≡ self.old) }
-    {
-        match self {
-            Local::Own(content) => {
-                content.take(index)?;
-                Ok(())
-            }
-            Local::Link => Err(ErrorNumber::NoSuchVariable),
-        }
-    }
-}
-
-// Takes an element out of an array.
-fn take_element(elements: &mut Table<Txt>, index: &[u8]) -> Result<(), ErrorNumber>
-    ensures value { AnswersSo (λ _. Some (Content.Array elements.new)) result (without_element elements.old index.now) }
-    ensures err { OnErr result (elements.new ≡ elements.old) }
-{
-    if !elements.contains(index) {
-        return Err(ErrorNumber::NoSuchVariable);
-    }
-    elements.remove(index);
-    Ok(())
-}
-
-impl CloneIn for Content {
-    fn clone_in(&self, alloc: Global) -> Result<Content, AllocError> {
-        match self {
-            Content::Scalar(value) => Ok(Content::Scalar(value.try_clone()?)),
-            Content::Array(elements) => Ok(Content::Array(elements.clone_in(alloc)?)),
-        }
-    }
-}
-
-impl CloneIn for Local {
-    fn clone_in(&self, alloc: Global) -> Result<Local, AllocError> {
-        match self {
-            Local::Own(content) => Ok(Local::Own(content.clone_in(alloc)?)),
-            Local::Link => Ok(Local::Link),
         }
     }
 }

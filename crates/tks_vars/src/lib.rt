@@ -1,7 +1,6 @@
 //! The variables and procedures of scripts.
 #![tactic(auto)]
 
-mod clones;
 mod content;
 mod laws;
 mod name;
@@ -18,4 +17,5 @@ pub use laws::{
 pub use name::names_whole;
 pub use procedure::{Argument, Parameter, Procedure};
 pub use table::Table;
+pub use tks_share::Iter;
 pub use vars::Vars;

@@ -1,22 +1,15 @@
 ghost use Rattle.std.specs.Prelude.{◌≡◌, IfOk, OnOk, OnErr, option_copied};
-ghost use Rattle.std.specs.Prelude as list;
-ghost use Rattle.std.specs.Option.{option_copied_mut};
 ghost use Rattle.std.specs.FinMap as map;
-ghost use Rattle.std.specs.Borrow.{sem};
-ghost use Rattle.tks_vars.specs.Table.{pair_of};
 
-use crate::clones::CloneIn;
 use std::alloc::{AllocError, Global};
-use std::collections::BTreeMap;
-use std::collections::btree_map::Iter;
 use std::marker::Model;
+use tks_share::{Iter, SharedMap};
 use tks_text::Txt;
 
-/// A finite map from names to values, in the order of the names' bytes.
+/// A finite map from names to values, in the order of the names' bytes. Copies share what they have in common.
 #[derive(Drop)]
 pub struct Table<V> {
-    alloc: Global,
-    entries: BTreeMap<Vec<u8>, V>,
+    entries: SharedMap<V>,
 }
 
 impl<V> Model for Table<V> {
@@ -24,25 +17,21 @@ impl<V> Model for Table<V> {
     ghost use Rattle.std.specs.Ordering.{nat_cmp};
     ghost use Rattle.std.specs.Cmp.Lexicographic.{slice_cmp};
     ghost use Rattle.std.specs.Coded.{coded_list, coded_ℕ};
-    ghost use Rattle.tks_vars.specs.Table.{table_of};
 
     ghost Value = { map.FinMap (slice_cmp nat_cmp) V };
 
     ghost coded = { map.code (coded_list coded_ℕ) V.code };
 
-    ghost view = { λ t. table_of t.entries.entries };
+    ghost view = { λ t. t.entries };
 }
 
 impl<V: Drop> Table<V> {
-    ghost use Rattle.tks_vars.specs.Lending.{LendsValue};
-
     /// The empty map.
     pub fn new(alloc: Global) -> Table<V>
         ensures { result ≡ map.empty }
     {
         Table {
-            alloc,
-            entries: BTreeMap::new(alloc),
+            entries: SharedMap::new(alloc),
         }
     }
 
@@ -58,9 +47,18 @@ impl<V: Drop> Table<V> {
         Ok(table)
     }
 
+    /// An equal map. It takes no memory, whatever the map holds.
+    pub fn share(&self) -> Result<Table<V>, AllocError>
+        ensures { IfOk result (λ t. t ≡ self.now) }
+    {
+        Ok(Table {
+            entries: self.entries.share()?,
+        })
+    }
+
     /// The names with what is under each, in the order of the names' bytes.
-    pub fn iter(&self) -> Iter<'_, Vec<u8>, V>
-        ensures { list.map pair_of result ≡ map.entries self.now }
+    pub fn iter(&self) -> Iter<'_, V>
+        ensures { result ≡ map.entries self.now }
     {
         self.entries.iter()
     }
@@ -76,7 +74,7 @@ impl<V: Drop> Table<V> {
     pub fn contains(&self, name: &[u8]) -> bool
         ensures { result ≡ map.contains_key self.now name.now }
     {
-        self.entries.contains_key(name)
+        self.entries.contains(name)
     }
 
     /// The value under a name.
@@ -86,38 +84,19 @@ impl<V: Drop> Table<V> {
         self.entries.get(name)
     }
 
-    /// The value under a name, to be changed.
-    pub fn get_mut(&mut self, name: &[u8]) -> Option<&mut V>
-        ensures* writes_back { sem 𝓛 (LendsValue V.row self.entry name.now result) }
-        ensures value { option_copied_mut result ≡ map.get self.old name.now }
-    {
-        self.entries.get_mut(name)
-    }
-
     /// Puts a value under a name, in the place of the one that is there.
     pub fn insert(&mut self, name: &[u8], value: V) -> Result<(), AllocError>
         ensures ok { OnOk result (self.new ≡ map.insert self.old name.now value) }
         ensures err { OnErr result (self.new ≡ self.old) }
     {
-        self.entries
-            .insert(Vec::from_slice(self.alloc, name)?, value)?;
-        Ok(())
+        self.entries.insert(name, value)
     }
 
     /// Takes a name out.
-    pub fn remove(&mut self, name: &[u8])
-        ensures { self.new ≡ map.remove self.old name.now }
+    pub fn remove(&mut self, name: &[u8]) -> Result<(), AllocError>
+        ensures ok { OnOk result (self.new ≡ map.remove self.old name.now) }
+        ensures err { OnErr result (self.new ≡ self.old) }
     {
-        self.entries.remove(name);
-    }
-}
-
-impl<V: CloneIn> CloneIn for Table<V> {
-    fn clone_in(&self, alloc: Global) -> Result<Table<V>, AllocError> {
-        let mut copy = Table::new(alloc);
-        for (name, value) in &self.entries {
-            copy.insert(name.as_slice(), value.clone_in(alloc)?)?;
-        }
-        Ok(copy)
+        self.entries.remove(name)
     }
 }

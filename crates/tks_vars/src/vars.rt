@@ -2,9 +2,8 @@ ghost use Rattle.std.specs.Prelude.{◌≡◌, length, reverse, false, IfOk, OnO
 ghost use Rattle.std.specs.FinMap as map;
 ghost use Rattle.tks_text.specs.Fault.{Gives};
 ghost use Rattle.tks_vars.specs.Meets.{AnswersSo};
-ghost use Rattle.tks_vars.specs.Variables.{no_variables, at_global_level, innermost, content_of, is_global, value_at, value_of, with_value, global_value_at, global_value_of, with_global_value, without_at, without, exists, with_global_link, pushed, pushed_global, frame_of, pushed_with, frame_size, popped, with_procedure, size_in, grown_by_value, grown_by_global_value, grown_by_link};
+ghost use Rattle.tks_vars.specs.Variables.{no_variables, at_global_level, innermost, content_of, is_global, value_at, value_of, with_value, global_value_at, global_value_of, with_global_value, without, exists, with_global_link, pushed, pushed_global, frame_of, pushed_with, frame_size, popped, with_procedure, size_in, grown_by_value, grown_by_global_value, grown_by_link};
 
-use crate::clones::CloneIn;
 use crate::content::{Content, Local};
 use crate::name::named;
 use crate::procedure::{Argument, Procedure};
@@ -210,35 +209,24 @@ impl Vars {
         Ok(())
     }
 
-    // Takes a variable or an element out.
-    fn take(&mut self, name: &[u8]) -> Result<(), ErrorNumber>
-        ensures value { AnswersSo (λ _. self.new) result (without_at self.old name.now) }
+    /// Takes a variable or an element out. A link stays, and so does an array without its last element.
+    pub fn unset(&mut self, name: &Txt) -> Result<(), Failure>
+        ensures value { Gives (λ _. self.new) result (without self.old name.now) }
         ensures err { OnErr result (self.new ≡ self.old) }
     {
-        let Some(part) = named(name) else {
-            return Err(ErrorNumber::BadName);
+        let Some(part) = named(name.as_bytes()) else {
+            return Err(Failure::about(ErrorNumber::BadName, name));
         };
         if self.is_global(part.variable) {
-            take_global(&mut self.globals, part)?;
+            take_global(&mut self.globals, name, part)?;
             return Ok(());
         }
         let top = self.locals.len() - 1;
         let Some(frame) = &mut self.locals[top] else {
             return Ok(());
         };
-        take_local(frame, part)?;
+        take_local(frame, name, part)?;
         Ok(())
-    }
-
-    /// Takes a variable or an element out. A link stays, and so does an array without its last element.
-    pub fn unset(&mut self, name: &Txt) -> Result<(), Failure>
-        ensures value { Gives (λ _. self.new) result (without self.old name.now) }
-        ensures err { OnErr result (self.new ≡ self.old) }
-    {
-        match self.take(name.as_bytes()) {
-            Ok(()) => Ok(()),
-            Err(number) => Err(Failure::about(number, name)),
-        }
     }
 
     /// Begins a frame without variables.
@@ -374,15 +362,15 @@ impl Vars {
         }
     }
 
-    /// Equal variables and procedures.
+    /// Equal variables and procedures. They share what they hold, so this costs the same whatever they are.
     pub fn try_clone(&self) -> Result<Vars, AllocError>
         ensures { IfOk result (λ v. v ≡ self.now) }
     {
         Ok(Vars {
             alloc: self.alloc,
-            globals: self.globals.clone_in(self.alloc)?,
-            locals: clone_frames(self.alloc, &self.locals)?,
-            procedures: self.procedures.clone_in(self.alloc)?,
+            globals: self.globals.share()?,
+            locals: share_frames(self.alloc, &self.locals)?,
+            procedures: self.procedures.share()?,
         })
     }
 }
@@ -400,20 +388,17 @@ fn frame_of(alloc: Global, arguments: Vec<Argument>) -> Result<Table<Local>, All
 }
 
 // An equal frame.
-fn clone_frame(
-    alloc: Global,
-    frame: &Option<Table<Local>>,
-) -> Result<Option<Table<Local>>, AllocError>
+fn share_frame(frame: &Option<Table<Local>>) -> Result<Option<Table<Local>>, AllocError>
     ensures { IfOk result (λ copy. copy ≡ frame.now) }
 {
     match frame {
-        Some(frame) => Ok(Some(frame.clone_in(alloc)?)),
+        Some(frame) => Ok(Some(frame.share()?)),
         None => Ok(None),
     }
 }
 
 // Equal frames.
-fn clone_frames(
+fn share_frames(
     alloc: Global,
     frames: &[Option<Table<Local>>],
 ) -> Result<Vec<Option<Table<Local>>>, AllocError>
@@ -421,7 +406,7 @@ fn clone_frames(
 {
     let mut copy = Vec::new(alloc);
     for frame in frames {
-        copy.push(clone_frame(alloc, frame)?)?;
+        copy.push(share_frame(frame)?)?;
     }
     Ok(copy)
 }

@@ -1,7 +1,6 @@
 ghost use Rattle.std.specs.Prelude.{◌≡◌, OnErr, false};
 ghost use Rattle.std.specs.FinMap as map;
 ghost use Rattle.tks_text.specs.Fault.{Gives};
-ghost use Rattle.tks_vars.specs.Meets.{AnswersSo};
 ghost use Rattle.tks_vars.specs.View.{name_seen};
 ghost use Rattle.tks_vars.specs.Variables.{about, is_link, with_link};
 ghost use Rattle.tks_vars.specs.Parts.{put_global, put_local, without_name, take_global, take_local};
@@ -24,9 +23,10 @@ pub fn write_global(
     ensures value { Gives (λ _. globals.new) result (about name.now (put_global globals.old (name_seen part.entry) value)) }
     ensures err { OnErr result (globals.new ≡ globals.old) }
 {
-    match globals.get_mut(part.variable) {
+    match globals.get(part.variable) {
         Some(content) => {
-            content.write(name, part.index, value)?;
+            let content = content.updated(name, part.index, value)?;
+            globals.insert(part.variable, content)?;
             Ok(())
         }
         None => {
@@ -48,11 +48,13 @@ pub fn write_local(
     ensures value { Gives (λ _. frame.new) result (about name.now (put_local frame.old (name_seen part.entry) value)) }
     ensures err { OnErr result (frame.new ≡ frame.old) }
 {
-    match frame.get_mut(part.variable) {
-        Some(local) => {
-            local.write(name, part.index, value)?;
+    match frame.get(part.variable) {
+        Some(Local::Own(content)) => {
+            let content = content.updated(name, part.index, value)?;
+            frame.insert(part.variable, Local::Own(content))?;
             Ok(())
         }
+        Some(Local::Link) => Err(Failure::about(ErrorNumber::NoSuchVariable, name)),
         None => {
             let content = Content::of(alloc, part.index, value)?;
             frame.insert(part.variable, Local::Own(content))?;
@@ -61,75 +63,79 @@ pub fn write_local(
     }
 }
 
-/// Takes a global, or an element of one, out.
-pub fn take_global(globals: &mut Table<Content>, part: Name<'_>) -> Result<(), ErrorNumber>
-    ensures value { AnswersSo (λ _. globals.new) result (take_global globals.old (name_seen part.entry)) }
+/// Takes a global, or an element of one, out. The error tells the name.
+pub fn take_global(globals: &mut Table<Content>, name: &Txt, part: Name<'_>) -> Result<(), Failure>
+    ensures value { Gives (λ _. globals.new) result (about name.now (take_global globals.old (name_seen part.entry))) }
     ensures err { OnErr result (globals.new ≡ globals.old) }
 {
     match part.index {
-        Some(index) => take_global_element(globals, part.variable, index),
-        None => take_whole(globals, part.variable),
+        Some(index) => take_global_element(globals, name, part.variable, index),
+        None => take_whole(globals, name, part.variable),
     }
 }
 
 /// The same of a procedure's own variable.
-pub fn take_local(frame: &mut Table<Local>, part: Name<'_>) -> Result<(), ErrorNumber>
+pub fn take_local(frame: &mut Table<Local>, name: &Txt, part: Name<'_>) -> Result<(), Failure>
     requires { is_link (map.get frame.old part.variable.now) ≡ false }
-    ensures value { AnswersSo (λ _. frame.new) result (take_local frame.old (name_seen part.entry)) }
+    ensures value { Gives (λ _. frame.new) result (about name.now (take_local frame.old (name_seen part.entry))) }
     ensures err { OnErr result (frame.new ≡ frame.old) }
 {
     match part.index {
-        Some(index) => take_local_element(frame, part.variable, index),
-        None => take_whole(frame, part.variable),
+        Some(index) => take_local_element(frame, name, part.variable, index),
+        None => take_whole(frame, name, part.variable),
     }
 }
 
 // Takes a name out with all that stands under it.
-fn take_whole<V: Drop>(table: &mut Table<V>, variable: &[u8]) -> Result<(), ErrorNumber>
-    ensures value { AnswersSo (λ _. table.new) result (without_name table.old variable.now) }
+fn take_whole<V: Drop>(table: &mut Table<V>, name: &Txt, variable: &[u8]) -> Result<(), Failure>
+    ensures value { Gives (λ _. table.new) result (about name.now (without_name table.old variable.now)) }
     ensures err { OnErr result (table.new ≡ table.old) }
 {
     if !table.contains(variable) {
-        return Err(ErrorNumber::NoSuchVariable);
+        return Err(Failure::about(ErrorNumber::NoSuchVariable, name));
     }
-    table.remove(variable);
+    table.remove(variable)?;
     Ok(())
 }
 
 // Takes an element of a global out.
 fn take_global_element(
     globals: &mut Table<Content>,
+    name: &Txt,
     variable: &[u8],
     index: &[u8],
-) -> Result<(), ErrorNumber>
-    ensures value { AnswersSo (λ _. globals.new) result (take_global globals.old (element variable.now index.now)) }
+) -> Result<(), Failure>
+    ensures value { Gives (λ _. globals.new) result (about name.now (take_global globals.old (element variable.now index.now))) }
     ensures err { OnErr result (globals.new ≡ globals.old) }
 {
-    match globals.get_mut(variable) {
+    match globals.get(variable) {
         Some(content) => {
-            content.take(index)?;
+            let left = content.left(name, index)?;
+            globals.insert(variable, left)?;
             Ok(())
         }
-        None => Err(ErrorNumber::NoSuchVariable),
+        None => Err(Failure::about(ErrorNumber::NoSuchVariable, name)),
     }
 }
 
 // The same of a procedure's own variable.
 fn take_local_element(
     frame: &mut Table<Local>,
+    name: &Txt,
     variable: &[u8],
     index: &[u8],
-) -> Result<(), ErrorNumber>
+) -> Result<(), Failure>
     requires { is_link (map.get frame.old variable.now) ≡ false }
-    ensures value { AnswersSo (λ _. frame.new) result (take_local frame.old (element variable.now index.now)) }
+    ensures value { Gives (λ _. frame.new) result (about name.now (take_local frame.old (element variable.now index.now))) }
     ensures err { OnErr result (frame.new ≡ frame.old) }
 {
-    match frame.get_mut(variable) {
-        Some(local) => {
-            local.take(index)?;
+    match frame.get(variable) {
+        Some(Local::Own(content)) => {
+            let left = content.left(name, index)?;
+            frame.insert(variable, Local::Own(left))?;
             Ok(())
         }
-        None => Err(ErrorNumber::NoSuchVariable),
+        _ => Err(Failure::about(ErrorNumber::NoSuchVariable, name)),
     }
 }
 

@@ -1,9 +1,8 @@
-use Rattle.std.proofs.Common.{◌≡◌, ◌&&◌, map}
+use Rattle.std.proofs.Common.{◌≡◌, ◌&&◌}
 use Rattle.std.specs.List.{list_all}
-use Rattle.tks_vars.specs.Table.{pair_of}
 use Rattle.tks_limits.specs.Within as kinds
 use Rattle.tks_limits.proofs.variables.each_element_fits.Given as goal
 
 -- the others decide
 abbrev pub invariant-loop-name : goal.invariant-loop-name
-invariant-loop-name l = list_all (λ e. kinds.fits l.limits e.0 && kinds.fits l.limits e.1) (map pair_of l.name-iterator) ≡ list_all (λ e. kinds.fits l.fn.limits e.0 && kinds.fits l.fn.limits e.1) (map pair_of l.fn.elements)
+invariant-loop-name l = list_all (λ e. kinds.fits l.limits e.0 && kinds.fits l.limits e.1) l.name-iterator ≡ list_all (λ e. kinds.fits l.fn.limits e.0 && kinds.fits l.fn.limits e.1) l.fn.elements
