@@ -49,6 +49,13 @@ row {if {"a"} {}} error {E13 a}
 row {while + {}} error E20
 row {while {"a"} {}} error {E13 a}
 
+session "expressions: a backslash before a newline is white space"
+ask {set c "1 +\\\n2"; expr $c} {set c "\\\n-\\\n(2\\\n) \\\n* 3\\\n"; expr $c} {set c "1\\\n? \\\n\t4 :\\\n5"; expr $c} \
+    {set c "\\\n0\\\n"; if $c {set x yes} else {set x no}} {set c "\"a\"\\\neq {a}\\\n"; expr $c}
+foreach text {{1 \\} {1 +\\\n} {\\\n} {1 \\\\\n} {1 \\ \n} {\\} {-\\}} {
+    row "set c \"$text\"; expr \$c" error E20
+}
+
 session "expressions: how deep they may be"
 row {set a(1) 1} ok 1
 foreach {front middle back count answer} {

@@ -223,15 +223,17 @@ fn a_reader_that_breaks(rt: HostRuntime) {
     }
 }
 
-// Whether a session's run ends with its writer, which takes so many bytes and perhaps doesn't flush, and what it took by then.
+// Whether a session's run over these lines ends with its writer, which takes so many bytes and perhaps doesn't flush, and
+// whether this is what it took by then.
 fn ends_with_its_writer(
     alloc: Global,
     session: &mut Session<MemoryDisk, Terminal<Own, Body>>,
+    lines: &[u8],
     most: usize,
     flushes: bool,
     want: &[u8],
 ) -> bool {
-    let mut reader: &[u8] = b"cmd set x 5\ncmd set x 6\ncmd set x 7\n";
+    let mut reader = lines;
     let mut writer = Narrow {
         held: Vec::new(alloc),
         most,
@@ -245,7 +247,15 @@ fn ends_with_its_writer(
 // The same of a fresh session.
 fn breaks(alloc: Global, most: usize, flushes: bool, want: &[u8]) -> Option<bool> {
     let mut session = fresh_session(alloc)?;
-    Some(ends_with_its_writer(alloc, &mut session, most, flushes, want))
+    let lines = b"cmd set x 5\ncmd set x 6\ncmd set x 7\n";
+    Some(ends_with_its_writer(
+        alloc,
+        &mut session,
+        lines,
+        most,
+        flushes,
+        want,
+    ))
 }
 
 #[test]
@@ -263,6 +273,40 @@ fn a_writer_that_breaks(rt: HostRuntime) {
             Some(true),
             "at {most}"
         );
+    }
+}
+
+// Three scripts that wait, and a line that runs them in turns.
+const DRAINING: &[u8] =
+    b"cmd after 0 {append r a}; after 0 {append r b}; after 0 {append r c}\ndrain 9\ncmd set r\n";
+
+// What is answered to these lines, but for the last.
+const DRAINED: &[u8] =
+    b"ok 1 after#2\nok 2 timer after#0\nok 3 timer after#1\nok 4 timer after#2\ndrained 3\n";
+
+// Whether a session that goes on behind such a run answers a line as behind all three turns.
+fn has_drained(alloc: Global, session: &mut Session<MemoryDisk, Terminal<Own, Body>>) -> bool {
+    let mut reader: &[u8] = b"cmd set r\n";
+    let mut written = Vec::new(alloc);
+    let end = run(alloc, &mut reader, &mut written, session);
+    told(&end) == "end" && written.as_slice() == b"ok 5 abc\n".as_slice()
+}
+
+// Whether a run whose writer breaks behind so many bytes, inside a `drain`, writes nothing more, runs the turns that are
+// left, and ends with that fault.
+fn drains_on(alloc: Global, most: usize) -> Option<bool> {
+    let mut session = fresh_session(alloc)?;
+    let (front, _) = DRAINED.split_at_checked(most)?;
+    Some(
+        ends_with_its_writer(alloc, &mut session, DRAINING, most, true, front)
+            && has_drained(alloc, &mut session),
+    )
+}
+
+#[test]
+fn a_writer_that_breaks_in_a_drain(rt: HostRuntime) {
+    for most in [13, 20, 32, 50, 70, 79] {
+        assert_eq!(rt; drains_on(rt.alloc(), most), Some(true), "at {most}");
     }
 }
 

@@ -27,7 +27,7 @@ use Rattle.tks_expr.specs.Expression.{Then, SpaceThen, LiteralThen, IsOnePart, O
 use Rattle.tks_expr.specs.Literal.{literal_len, numeral_len, word_len}
 use Rattle.tks_expr.specs.Sign.{level_of, combined, unary_of}
 use Rattle.tks_expr.specs.Tree.{Expr, Literal, Made, One, Conditional}
-use Rattle.tks_expr.specs.Reading.{Read, then_read, bad_syntax, begins_name, trim, made, made_text, literal, close, operand, signs, under, signed, chain, is_level, level, colon, question, inner, operand_at, conditional_at, ended_read, expr_of}
+use Rattle.tks_expr.specs.Reading.{Read, then_read, bad_syntax, begins_name, begins_space, trim, made, made_text, literal, close, operand, signs, under, signed, chain, is_level, level, colon, question, inner, operand_at, conditional_at, ended_read, expr_of}
 use Rattle.tks_expr.specs.declared.operator.Unary.{Unary}
 use Rattle.tks_expr.specs.declared.sign.Join.{Join}
 use Rattle.tks_expr.proofs.Literals.{LiteralAt, literal_reads, literal_spelled}
@@ -44,12 +44,23 @@ ReadsFault f F = (t : List ℕ) (fault : ScriptFault) → F t fault → f t ≡ 
 
 -- ---- operands
 
-space_read : (t v : List ℕ) → SpaceThen t v → trim t ≡ v
+trim_none : (t : List ℕ) → begins_space t ≡ false → trim t ≡ t
 unfolding trim
-space_read t v h =
-    ap (λ x. drop (prefix_len is_space x) x) h.is
-    ∙ ap (λ n. drop n (h.spaces ++ v)) (prefix_of is_space h.spaces v h.each h.all)
-    ∙ drop_at h.spaces v (length h.spaces) refl
+trim_none [] e = refl
+trim_none (c ∷ u) e = ap (λ b. cond b (trim u) (c ∷ u)) e
+
+trim_one : (c : ℕ) (u : List ℕ) → begins_space (c ∷ u) ≡ true → trim (c ∷ u) ≡ trim u
+unfolding trim
+trim_one c u e = ap (λ b. cond b (trim u) (c ∷ u)) e
+
+-- a character that is white space by itself
+is_blank : (c : ℕ) (u : List ℕ) → is_space c ≡ true → begins_space (c ∷ u) ≡ true
+is_blank c u e = rw e refl
+
+space_read : (t v : List ℕ) → SpaceThen t v → trim t ≡ v
+space_read _ _ (SpaceThen.none v e) = trim_none v e
+space_read _ _ (SpaceThen.space c t v e h) = trim_one c t (is_blank c t e) ∙ space_read t v h
+space_read _ _ (SpaceThen.backslash t v h) = trim_one 92 (10 ∷ t) refl ∙ space_read (10 ∷ t) v h
 
 -- behind n bytes of u stands w, and behind its white space v
 leaf_read : (e : Expr) (n : ℕ) (u w v : List ℕ) → drop n u ≡ w → SpaceThen w v → Before e (trim (drop n u)) ≡ Before e v
@@ -214,10 +225,10 @@ module _ (operand' : List ℕ → Read) where
   abbrev With : List Unary × List ℕ → Read
   With p = then_read (operand' p.1) (λ e v. Ok (under p.0 e, v))
 
-  signs_space : (c : ℕ) (u : List ℕ) → is_space c ≡ true → signs (c ∷ u) ≡ signs u
+  signs_space : (c : ℕ) (u : List ℕ) → begins_space (c ∷ u) ≡ true → signs (c ∷ u) ≡ signs u
   signs_space c u e = ap (λ b. cond b (signs u) (elim (unary_of c) [ None ↦ ([], c ∷ u) | Some op ↦ (op ∷ (signs u).0, (signs u).1) ])) e
 
-  signs_sign : (c : ℕ) (op : Unary) (u : List ℕ) → is_space c ≡ false → unary_of c ≡ Some op → signs (c ∷ u) ≡ (op ∷ (signs u).0, (signs u).1)
+  signs_sign : (c : ℕ) (op : Unary) (u : List ℕ) → begins_space (c ∷ u) ≡ false → unary_of c ≡ Some op → signs (c ∷ u) ≡ (op ∷ (signs u).0, (signs u).1)
   signs_sign c op u s e =
       ap (λ b. cond b (signs u) (elim (unary_of c) [ None ↦ ([], c ∷ u) | Some op ↦ (op ∷ (signs u).0, (signs u).1) ])) s
       ∙ ap (λ o. elim o as (λ _. List Unary × List ℕ) [ None ↦ ([], c ∷ u) | Some op ↦ (op ∷ (signs u).0, (signs u).1) ]) e
@@ -238,12 +249,14 @@ module _ (operand' : List ℕ → Read) where
   more_faults op ops (Err g) f h = h
 
   signed_read : (Operand' : Then) → ReadsThen operand' Operand' → ReadsThen (signed operand') (SignedThen Operand')
-  signed_read Operand' reads _ _ _ (SignedThen.space c e t v s h) = ap With (signs_space c t s) ∙ signed_read Operand' reads e t v h
+  signed_read Operand' reads _ _ _ (SignedThen.space c e t v s h) = ap With (signs_space c t (is_blank c t s)) ∙ signed_read Operand' reads e t v h
+  signed_read Operand' reads _ _ _ (SignedThen.backslash e t v h) = ap With (signs_space 92 (10 ∷ t) refl) ∙ signed_read Operand' reads e (10 ∷ t) v h
   signed_read Operand' reads _ _ _ (SignedThen.sign c op e t v s k h) = ap With (signs_sign c op t s k) ∙ more_signs op (signs t).0 (operand' (signs t).1) e v (signed_read Operand' reads e t v h)
   signed_read Operand' reads _ _ _ (SignedThen.operand e t v s h) = ap With (signs_none t s) ∙ ap (λ r. then_read r (λ e v. Ok (e, v))) (reads e t v h)
 
   signed_fault : (Fault' : Fails) → ReadsFault operand' Fault' → ReadsFault (signed operand') (SignedFails Fault')
-  signed_fault Fault' reads _ _ (SignedFails.space c t f s h) = ap With (signs_space c t s) ∙ signed_fault Fault' reads t f h
+  signed_fault Fault' reads _ _ (SignedFails.space c t f s h) = ap With (signs_space c t (is_blank c t s)) ∙ signed_fault Fault' reads t f h
+  signed_fault Fault' reads _ _ (SignedFails.backslash t f h) = ap With (signs_space 92 (10 ∷ t) refl) ∙ signed_fault Fault' reads (10 ∷ t) f h
   signed_fault Fault' reads _ _ (SignedFails.sign c op t f s k h) = ap With (signs_sign c op t s k) ∙ more_faults op (signs t).0 (operand' (signs t).1) f (signed_fault Fault' reads t f h)
   signed_fault Fault' reads _ _ (SignedFails.operand t f s h) = ap With (signs_none t s) ∙ ap (λ r. then_read r (λ e v. Ok (e, v))) (reads t f h)
 

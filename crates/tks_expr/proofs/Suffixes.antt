@@ -15,7 +15,7 @@ use Rattle.tks_parse.specs.declared.syntax.Syntax.TheVariants.{Expressions}
 use Rattle.tks_expr.specs.Literal.{literal_len}
 use Rattle.tks_expr.specs.Sign.{combined, join_at, unary_of}
 use Rattle.tks_expr.specs.Tree.{Expr, Literal, Made, Conditional}
-use Rattle.tks_expr.specs.Reading.{Read, then_read, begins_name, trim, made, literal, close, operand, signs, under, signed, when, on_join, chain, is_level, level, colon, question, conditional, inner, operand_at}
+use Rattle.tks_expr.specs.Reading.{Read, then_read, begins_name, begins_space, trim, made, literal, close, operand, signs, under, signed, when, on_join, chain, is_level, level, colon, question, conditional, inner, operand_at}
 use Rattle.tks_expr.specs.declared.operator.Unary.{Unary}
 use Rattle.tks_expr.specs.declared.sign.Join.{Join}
 
@@ -73,7 +73,8 @@ leaves_then t (Err f) next l n e v h = absurd cc
 
 pub trim_suffix : (t : List ℕ) → Suffix t (trim t)
 unfolding trim
-trim_suffix t = (prefix_len is_space t, refl)
+trim_suffix [] = (0, refl)
+trim_suffix (c ∷ u) = if_case (Suffix (c ∷ u)) (begins_space (c ∷ u)) _ _ (λ _. suffix_more c u (trim u) (trim_suffix u)) (λ _. (0, refl))
 
 leaf_leaves : (u : List ℕ) (n : ℕ) (a : Expr) → Leaves u (Before a (trim (drop n u)))
 leaf_leaves u n a = leaves_ok u a (trim (drop n u)) (suffix_then u (drop n u) (trim (drop n u)) (n, refl) (trim_suffix (drop n u)))
@@ -120,7 +121,7 @@ sign_leaves c u s (Some op) = suffix_more c u (signs u).1 s
 
 signs_leave : (t : List ℕ) → Suffix t (signs t).1
 signs_leave [] = (0, refl)
-signs_leave (c ∷ u) = if_case (λ (x : List Unary × List ℕ). Suffix (c ∷ u) x.1) (is_space c) _ _ (λ _. suffix_more c u (signs u).1 (signs_leave u)) (λ _. sign_leaves c u (signs_leave u) (unary_of c))
+signs_leave (c ∷ u) = if_case (λ (x : List Unary × List ℕ). Suffix (c ∷ u) x.1) (begins_space (c ∷ u)) _ _ (λ _. suffix_more c u (signs u).1 (signs_leave u)) (λ _. sign_leaves c u (signs_leave u) (unary_of c))
 
 module _ (operand' : List ℕ → Read) (leaves : (t : List ℕ) → Leaves t (operand' t)) where
   signed_leaves : (t : List ℕ) → Leaves t (signed operand' t)

@@ -1,9 +1,7 @@
 -- What is read is spelled so.
 use Rattle.std.proofs.Common.{◌≡◌, ℕ, zero, suc, ◌+◌, ◌-◌, Bool, true, false, cond, eqb, List, [], ◌∷◌, length, take, drop, Option, Some, None, Ok, Err, refl, sym, ap, ◌∙◌, subst, arith, inl, inr}
 use Rattle.std.specs.Prelude.{◌||◌, ◌&&◌}
-use Rattle.std.specs.List.{prefix_len}
 use Rattle.std.proofs.lemmas.Bool.{eqb-true, eqb-false}
-use Rattle.std.proofs.lemmas.List.{take-append-drop}
 use Rattle.tks_text.specs.Integer.{is_space}
 use Rattle.tks_text.specs.Run.{Step, Run, ended}
 use Rattle.tks_text.specs.declared.fault.ScriptFault.{ScriptFault}
@@ -16,16 +14,16 @@ use Rattle.tks_parse.specs.Script.{NameThen, BracedThen, PartsThen, Fails, PartF
 use Rattle.tks_parse.specs.Tree.{Parts, no_part, variable, element, nested, chars}
 use Rattle.tks_parse.specs.declared.mode.Mode.TheVariants.{Quoted}
 use Rattle.tks_parse.specs.declared.syntax.Syntax.TheVariants.{Expressions}
+use Rattle.tks_text.proofs.Tests.{or_case}
 use Rattle.tks_parse.proofs.Braced.{braced_told, unclosed_told, verbatim_told}
 use Rattle.tks_parse.proofs.Spelled.{variable_at}
-use Rattle.tks_text.proofs.Prefixes.{prefix_passes}
 use Rattle.tks_parse.proofs.Tests.{if_case, and_cases, drop_one}
 use Rattle.tks_parse.proofs.Told.{BracketCase, bracket_is, bracket_fails, IndexCase, index_is, index_fails, PartCase, at_stop, at_char, at_escape, at_variable, at_bracket, at_index, at_fault, PartsOutcome, part_case, parts_told, brackets_told, indexes_told, index_rest}
 use Rattle.tks_expr.specs.Expression.{Then, SpaceThen, IsOnePart, OperandThen, StartsOperand, SignedThen, ChainThen, LevelThen, ConditionalThen, InsideThen, ExprThen, opens_operand, OperandFails, SignedFails, LevelFails, ConditionalFails, InsideFails, ExprFails, ExprOf}
 use Rattle.tks_expr.specs.Literal.{literal_len, numeral_len, word_len}
 use Rattle.tks_expr.specs.Sign.{level_of, combined, join_at, unary_of}
 use Rattle.tks_expr.specs.Tree.{Expr, Made, One, Conditional}
-use Rattle.tks_expr.specs.Reading.{Read, then_read, bad_syntax, begins_name, trim, made, made_text, literal, close, operand, signs, under, signed, when, on_join, chain, is_level, level, colon, question, inner, operand_at, conditional_at, ended_read, expr_of}
+use Rattle.tks_expr.specs.Reading.{Read, then_read, bad_syntax, begins_name, begins_line, begins_space, trim, made, made_text, literal, close, operand, signs, under, signed, when, on_join, chain, is_level, level, colon, question, inner, operand_at, conditional_at, ended_read, expr_of}
 use Rattle.tks_expr.specs.declared.operator.Unary.{Unary}
 use Rattle.tks_expr.specs.declared.sign.Join.{Join}
 use Rattle.tks_expr.proofs.Literals.{literal_reads, literal_spelled}
@@ -41,12 +39,25 @@ Tells f T F = (t : List ℕ) → Told T F t (f t)
 
 -- ---- operands
 
+-- what holds behind a blank, a tab, a newline, or a backslash before a newline
+backslash_told : (P : List ℕ → Type 0) → ((t : List ℕ) → P (10 ∷ t) → P (92 ∷ 10 ∷ t)) → (c : ℕ) (u : List ℕ) → c ≡ 92 → begins_line u ≡ true → P u → P (c ∷ u)
+backslash_told P backslash c [] e l h = absurd cc
+backslash_told P backslash c (d ∷ t) e l h =
+    let newline : d ≡ 10 = eqb-true d 10 l in
+    subst (λ x. P (x ∷ d ∷ t)) (sym e) (subst (λ y. P (92 ∷ y ∷ t)) (sym newline) (backslash t (subst (λ y. P (y ∷ t)) newline h)))
+
+blank_told : (P : List ℕ → Type 0) → ((c : ℕ) (t : List ℕ) → is_space c ≡ true → P t → P (c ∷ t)) → ((t : List ℕ) → P (10 ∷ t) → P (92 ∷ 10 ∷ t)) → (c : ℕ) (u : List ℕ) → begins_space (c ∷ u) ≡ true → P u → P (c ∷ u)
+blank_told P space backslash c u k h =
+    or_case (is_space c) (eqb c 92 && begins_line u) k (λ s. space c u s h)
+    (λ l. let b = and_cases (eqb c 92) (begins_line u) l in backslash_told P backslash c u (eqb-true c 92 b.0) b.1 h)
+
 space_told : (t : List ℕ) → SpaceThen t (trim t)
 unfolding trim
-space_told t =
-    let n = prefix_len is_space t in
-    let told = prefix_passes is_space t in
-    record { spaces = take n t; each = told.0; is = sym (take-append-drop n t); all = told.1 }
+space_told [] = SpaceThen.none [] refl
+space_told (c ∷ u) =
+    if_case (SpaceThen (c ∷ u)) (begins_space (c ∷ u)) _ _
+    (λ k. blank_told (λ t. SpaceThen t (trim u)) (λ d t. SpaceThen.space d t (trim u)) (λ t. SpaceThen.backslash t (trim u)) c u k (space_told u))
+    (λ k. SpaceThen.none (c ∷ u) k)
 
 -- the same, where t is known as another text
 space_from : (t u : List ℕ) → t ≡ u → SpaceThen u (trim t)
@@ -189,19 +200,21 @@ module _ (operand' : List ℕ → Read) (Operand' : Then) (Fault' : Fails) (tell
   no_sign_told t (Ok x) s h = SignedThen.operand x.0 t x.1 s h
   no_sign_told t (Err f) s h = SignedFails.operand t f s h
 
-  sign_told : (c : ℕ) (op : Unary) (ops : List Unary) (u : List ℕ) (r : Read) → is_space c ≡ false → unary_of c ≡ Some op → Told S G u (then_read r (λ e v. Ok (under ops e, v))) → Told S G (c ∷ u) (then_read r (λ e v. Ok (One op (under ops e), v)))
+  sign_told : (c : ℕ) (op : Unary) (ops : List Unary) (u : List ℕ) (r : Read) → begins_space (c ∷ u) ≡ false → unary_of c ≡ Some op → Told S G u (then_read r (λ e v. Ok (under ops e, v))) → Told S G (c ∷ u) (then_read r (λ e v. Ok (One op (under ops e), v)))
   sign_told c op ops u (Ok x) s e h = SignedThen.sign c op (under ops x.0) u x.1 s e h
   sign_told c op ops u (Err f) s e h = SignedFails.sign c op u f s e h
 
-  first_told : (c : ℕ) (u : List ℕ) (o : Option Unary) → is_space c ≡ false → unary_of c ≡ o → Told S G u (With (signs u)) → Told S G (c ∷ u) (With (elim o as (λ _. List Unary × List ℕ) [ None ↦ ([], c ∷ u) | Some op ↦ (op ∷ (signs u).0, (signs u).1) ]))
+  first_told : (c : ℕ) (u : List ℕ) (o : Option Unary) → begins_space (c ∷ u) ≡ false → unary_of c ≡ o → Told S G u (With (signs u)) → Told S G (c ∷ u) (With (elim o as (λ _. List Unary × List ℕ) [ None ↦ ([], c ∷ u) | Some op ↦ (op ∷ (signs u).0, (signs u).1) ]))
   first_told c u None s e h = no_sign_told (c ∷ u) (operand' (c ∷ u)) (s, e) (tells (c ∷ u))
   first_told c u (Some op) s e h = sign_told c op (signs u).0 u (operand' (signs u).1) s e h
 
   signed_told : Tells (signed operand') S G
   signed_told [] = no_sign_told [] (operand' []) tt (tells [])
   signed_told (c ∷ u) =
-      if_case (λ (p : List Unary × List ℕ). Told S G (c ∷ u) (With p)) (is_space c) _ _
-      (λ k. told_map S S G G (c ∷ u) u (With (signs u)) (λ e v h. SignedThen.space c e u v k h) (λ f h. SignedFails.space c u f k h) (signed_told u))
+      if_case (λ (p : List Unary × List ℕ). Told S G (c ∷ u) (With p)) (begins_space (c ∷ u)) _ _
+      (λ k. told_map S S G G (c ∷ u) u (With (signs u))
+      (λ e v. blank_told (λ t. S e t v) (λ d t. SignedThen.space d e t v) (λ t. SignedThen.backslash e t v) c u k)
+      (λ f. blank_told (λ t. G t f) (λ d t. SignedFails.space d t f) (λ t. SignedFails.backslash t f) c u k) (signed_told u))
       (λ k. first_told c u (unary_of c) k refl (signed_told u))
 
 -- ---- levels

@@ -4,7 +4,7 @@
 -- "t is X, then v" says that X stands at the front of t, and v behind it.
 use Rattle.std.specs.Prelude.{◌≡◌, ℕ, zero, suc, ◌<◌, Bool, true, false, ◌||◌, ◌==◌, List, [], ◌∷◌, ◌++◌, length, drop, ◌⊎◌, Some, None, Result, Ok, Err}
 use Rattle.std.specs.Char.{is_digit}
-use Rattle.tks_text.specs.Integer.{is_space, AreSpaces, AreDigits, BeginsOtherThan}
+use Rattle.tks_text.specs.Integer.{is_space, AreDigits, BeginsOtherThan}
 use Rattle.tks_text.specs.declared.fault.ScriptFault.{ScriptFault}
 use Rattle.tks_parse.specs.Class.{is_name_char}
 use Rattle.tks_parse.specs.Fault.{expression_syntax, too_deeply_nested}
@@ -14,7 +14,7 @@ use Rattle.tks_parse.specs.Tree.{Script, Parts, no_part, variable, element, nest
 use Rattle.tks_parse.specs.declared.mode.Mode.TheVariants.{Quoted}
 use Rattle.tks_parse.specs.declared.syntax.Syntax.TheVariants.{Expressions}
 use Rattle.tks_expr.specs.Literal.{is_truth_word}
-use Rattle.tks_expr.specs.Reading.{when, is_level, loosest}
+use Rattle.tks_expr.specs.Reading.{begins_space, when, is_level, loosest}
 use Rattle.tks_expr.specs.Sign.{level_of, combined, is_letter, join_at, unary_of}
 use Rattle.tks_expr.specs.Tree.{Expr, Literal, Made, One, Conditional}
 use Rattle.tks_expr.specs.declared.operator.Unary.{Unary}
@@ -24,12 +24,11 @@ use Rattle.tks_expr.specs.declared.sign.Join.{Join}
 abbrev pub Then : Type 1
 Then = Expr → List ℕ → List ℕ → Type 0
 
--- white space, then v, which begins with none
-pub record SpaceThen (t v : List ℕ) : Type 0 where
-  pub spaces : List ℕ
-  pub each : AreSpaces spaces
-  pub is : t ≡ spaces ++ v
-  pub all : BeginsNot is_space v
+-- white space, then v, which begins with none: blanks, tabs, newlines, and backslashes before newlines
+pub data SpaceThen : List ℕ → List ℕ → Type 0 where
+  none : (v : List ℕ) → begins_space v ≡ false → SpaceThen v v
+  space : (c : ℕ) (t v : List ℕ) → is_space c ≡ true → SpaceThen t v → SpaceThen (c ∷ t) v
+  backslash : (t v : List ℕ) → SpaceThen (10 ∷ t) v → SpaceThen (92 ∷ 10 ∷ t) v
 
 -- ---- operands
 
@@ -58,12 +57,13 @@ pub data OperandThen (Inside : Then) (d : ℕ) : Expr → List ℕ → List ℕ 
 -- no white space and no sign stands at the front
 abbrev pub StartsOperand : List ℕ → Type 0
 StartsOperand [] = Unit {0}
-StartsOperand (c ∷ u) = (is_space c ≡ false) × (unary_of c ≡ None)
+StartsOperand (c ∷ u) = (begins_space (c ∷ u) ≡ false) × (unary_of c ≡ None)
 
 -- signs and an operand, with white space before each
 pub data SignedThen (Operand : Then) : Expr → List ℕ → List ℕ → Type 0 where
   space : (c : ℕ) (e : Expr) (t v : List ℕ) → is_space c ≡ true → SignedThen Operand e t v → SignedThen Operand e (c ∷ t) v
-  sign : (c : ℕ) (op : Unary) (e : Expr) (t v : List ℕ) → is_space c ≡ false → unary_of c ≡ Some op → SignedThen Operand e t v → SignedThen Operand (One op e) (c ∷ t) v
+  backslash : (e : Expr) (t v : List ℕ) → SignedThen Operand e (10 ∷ t) v → SignedThen Operand e (92 ∷ 10 ∷ t) v
+  sign : (c : ℕ) (op : Unary) (e : Expr) (t v : List ℕ) → begins_space (c ∷ t) ≡ false → unary_of c ≡ Some op → SignedThen Operand e t v → SignedThen Operand (One op e) (c ∷ t) v
   operand : (e : Expr) (t v : List ℕ) → StartsOperand t → Operand e t v → SignedThen Operand e t v
 
 -- ---- levels
@@ -116,7 +116,8 @@ pub data OperandFails (Inside : Then) (InsideFails : Fails) (d : ℕ) : List ℕ
 
 pub data SignedFails (OperandFault : Fails) : List ℕ → ScriptFault → Type 0 where
   space : (c : ℕ) (t : List ℕ) (fault : ScriptFault) → is_space c ≡ true → SignedFails OperandFault t fault → SignedFails OperandFault (c ∷ t) fault
-  sign : (c : ℕ) (op : Unary) (t : List ℕ) (fault : ScriptFault) → is_space c ≡ false → unary_of c ≡ Some op → SignedFails OperandFault t fault → SignedFails OperandFault (c ∷ t) fault
+  backslash : (t : List ℕ) (fault : ScriptFault) → SignedFails OperandFault (10 ∷ t) fault → SignedFails OperandFault (92 ∷ 10 ∷ t) fault
+  sign : (c : ℕ) (op : Unary) (t : List ℕ) (fault : ScriptFault) → begins_space (c ∷ t) ≡ false → unary_of c ≡ Some op → SignedFails OperandFault t fault → SignedFails OperandFault (c ∷ t) fault
   operand : (t : List ℕ) (fault : ScriptFault) → StartsOperand t → OperandFault t fault → SignedFails OperandFault t fault
 
 -- the first operand of a level fails, or one behind an operator

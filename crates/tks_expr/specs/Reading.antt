@@ -1,6 +1,5 @@
 -- The expression that a text spells (expr(n)), read from left to right.
 use Rattle.std.specs.Prelude.{ℕ, zero, suc, ◌-◌, Bool, false, ◌||◌, ◌&&◌, ◌==◌, nat_le, List, [], ◌∷◌, length, take, drop, Option, Some, None, Result, Ok, Err, if◌then◌else◌}
-use Rattle.std.specs.List.{prefix_len}
 use Rattle.tks_text.specs.Integer.{is_space}
 use Rattle.tks_text.specs.Run.{Step, stop, fails, takes, Run}
 use Rattle.tks_text.specs.declared.fault.ScriptFault.{ScriptFault}
@@ -27,9 +26,20 @@ then_read (Err f) next = Err f
 abbrev pub bad_syntax : Read
 bad_syntax = Err expression_syntax
 
+-- whether a newline stands at the front
+abbrev pub begins_line : List ℕ → Bool
+begins_line [] = false
+begins_line (c ∷ u) = c == 10
+
+-- whether white space stands at the front: a blank, a tab, a newline, or a backslash before a newline
+abbrev pub begins_space : List ℕ → Bool
+begins_space [] = false
+begins_space (c ∷ u) = is_space c || ((c == 92) && begins_line u)
+
 -- a text behind its white space
 unfoldable pub trim : List ℕ → List ℕ
-trim t = drop (prefix_len is_space t) t
+trim [] = []
+trim (c ∷ u) = if begins_space (c ∷ u) then trim u else c ∷ u
 
 -- ---- operands: each takes the white space behind it
 
@@ -75,7 +85,7 @@ module _ (inner : List ℕ → Read) (nest : List ℕ → Run ScriptFault Script
 abbrev pub signs : List ℕ → List Unary × List ℕ
 signs [] = ([], [])
 signs (c ∷ u) =
-    if is_space c then signs u
+    if begins_space (c ∷ u) then signs u
     else elim (unary_of c) [ None ↦ ([], c ∷ u) | Some op ↦ (op ∷ (signs u).0, (signs u).1) ]
 
 -- an operand under its signs

@@ -6,7 +6,7 @@ ghost use Rattle.tks_text.specs.Text.{IsText};
 ghost use Rattle.tks_text.specs.declared.fault.Failure.TheVariants as failure;
 ghost use Rattle.tks_parse.specs.Fault.{expression_syntax};
 ghost use Rattle.tks_parse.specs.Gives.{IsTextPiece};
-ghost use Rattle.tks_expr.specs.Reading.{then_read, begins_name, trim, made, literal, close, operand_at, signs, under, signed, when, within_level, level_at, question, colon, conditional_at, inner, expr_of};
+ghost use Rattle.tks_expr.specs.Reading.{then_read, begins_name, begins_line, begins_space, trim, made, literal, close, operand_at, signs, under, signed, when, within_level, level_at, question, colon, conditional_at, inner, expr_of};
 ghost use Rattle.tks_expr.specs.Seen.{step_of};
 ghost use Rattle.tks_expr.specs.Sign.{join_at};
 ghost use Rattle.tks_expr.specs.View.{expr_of as node_expr, chained};
@@ -19,7 +19,7 @@ use std::alloc::{AllocError, Global};
 use tks_parse::{
     MAX_DEPTH, Piece, Syntax, is_name_char, read_braced, read_nested, read_quoted, read_variable,
 };
-use tks_text::{ErrorNumber, Failure, Txt, is_space, space_len};
+use tks_text::{ErrorNumber, Failure, Txt, is_space};
 
 // The loosest level of binary operators.
 const LOOSEST: u32 = 11;
@@ -31,6 +31,26 @@ fn bad_syntax() -> Failure
     Syntax::Expressions.fault(ErrorNumber::ExpressionSyntax)
 }
 
+// Whether a newline stands at the front.
+fn begins_line(text: &[u8]) -> bool
+    ensures { result ≡ begins_line text.now }
+{
+    match text {
+        [] => false,
+        [c, ..] => *c == b'\n',
+    }
+}
+
+// Whether white space stands at the front: a blank, a tab, a newline, or a backslash before a newline.
+fn begins_space(text: &[u8]) -> bool
+    ensures { result ≡ begins_space text.now }
+{
+    match text {
+        [] => false,
+        [c, rest @ ..] => is_space(*c) || (*c == b'\\' && begins_line(rest)),
+    }
+}
+
 // A text behind its white space.
 #[tactic(auto, unfolding(crate::specs::Reading::trim))]
 fn trim(text: &[u8]) -> &[u8]
@@ -39,7 +59,14 @@ fn trim(text: &[u8]) -> &[u8]
     ensures bound { length result.now ≤ length text.now }
     ensures text { IsText result.now }
 {
-    text.split_at(space_len(text)).1
+    let mut rest = text;
+    'spaces: while let Some((_, behind)) = rest.split_first() {
+        if !begins_space(rest) {
+            return rest;
+        }
+        rest = behind;
+    }
+    rest
 }
 
 // Whether a variable's name, or one in braces, stands at the front.
@@ -162,7 +189,7 @@ fn read_signs(alloc: Global, text: &[u8]) -> Result<(Vec<Unary>, &[u8]), AllocEr
     let mut signs = Vec::new(alloc);
     let mut rest = text;
     'signs: while let Some((first, behind)) = rest.split_first() {
-        if !is_space(*first) {
+        if !begins_space(rest) {
             match unary_of(*first) {
                 Some(sign) => signs.push(sign)?,
                 None => return Ok((signs, rest)),

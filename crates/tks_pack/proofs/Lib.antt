@@ -8,3 +8,4 @@ pub mod Fitting
 pub mod Noted
 pub mod Overtakes
 pub mod Ready
+pub mod Sized

@@ -1,11 +1,14 @@
 -- What a user of the packer would doubt (pack(n), "The packer algorithm"), said of its places and shares.
-use Rattle.std.specs.Prelude.{◌+◌, ◌≤◌, List, [], ◌∷◌, Option, Some, None}
+use Rattle.std.specs.Prelude.{⊥, ℕ, ◌+◌, ◌≤◌, List, [], ◌∷◌, Option, Some, None}
 use Rattle.std.specs.List.{AllByRecursion}
 use Rattle.tks_pack.specs.declared.area.Area.{Area}
 use Rattle.tks_pack.specs.declared.area.Extent.{Extent}
+use Rattle.tks_pack.specs.declared.line.Span.{Span}
 use Rattle.tks_pack.specs.declared.packing.Content.{Content}
 use Rattle.tks_pack.specs.declared.settings.Side.{Side}
 use Rattle.tks_pack.specs.declared.settings.Side.TheVariants as side
+use Rattle.tks_pack.specs.declared.stretch.Stretch.{Stretch}
+use Rattle.tks_pack.specs.Stretch.{inner}
 
 -- a window has at least a cell, and lies inside its container
 abbrev pub LiesInside : Extent → Option Area → Type 0
@@ -31,3 +34,34 @@ abbrev pub InOrder : List Content → List (Option Area) → Type 0
 InOrder [] places = Unit {0}
 InOrder (c ∷ contents) [] = Unit {0}
 InOrder (c ∷ contents) (a ∷ places) = AllByRecursion (Nearer c.settings.side a) places × InOrder contents places
+
+-- ---- in a container as large as its contents ask for
+
+-- how long a window's place along an axis is
+abbrev pub length_of : Option Span → ℕ
+length_of None = 0
+length_of (Some place) = place.length
+
+-- each has at least the length that it asks for
+abbrev pub AllGet : List Stretch → List (Option Span) → Type 0
+AllGet [] places = Unit {0}
+AllGet (s ∷ rest) [] = ⊥
+AllGet (s ∷ rest) (place ∷ places) = (inner s ≤ length_of place) × AllGet rest places
+
+-- each asks for a cell at least
+abbrev pub AllAsk : List Stretch → Type 0
+AllAsk contents = AllByRecursion (λ s. 1 ≤ inner s) contents
+
+-- a window has cells, at least as many along each axis as this size
+abbrev pub HasSize : Extent → Option Area → Type 0
+HasSize size None = ⊥
+HasSize size (Some a) = (size.width ≤ a.width) × (size.height ≤ a.height)
+
+abbrev pub AllHaveSizes : (ℕ → Extent) → List Content → List (Option Area) → Type 0
+AllHaveSizes size [] places = Unit {0}
+AllHaveSizes size (c ∷ contents) [] = ⊥
+AllHaveSizes size (c ∷ contents) (place ∷ places) = HasSize (size c.window) place × AllHaveSizes size contents places
+
+-- each has a size of a cell at least
+abbrev pub AllHaveCells : (ℕ → Extent) → List Content → Type 0
+AllHaveCells size contents = AllByRecursion (λ c. (1 ≤ (size c.window).width) × (1 ≤ (size c.window).height)) contents

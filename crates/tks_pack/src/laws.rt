@@ -1,14 +1,15 @@
 ghost use Rattle.std.specs.Prelude.{List, ◌∷◌, ◌≡◌, ◌≤◌, ◌↔◌, ℕ, Some, true};
 ghost use Rattle.std.specs.List.{AllByRecursion};
 ghost use Rattle.tks_pack.specs.declared.area.Extent.{Extent};
+ghost use Rattle.tks_pack.specs.declared.line.Span.{Span};
 ghost use Rattle.tks_pack.specs.declared.packing.Content.{Content};
 ghost use Rattle.tks_pack.specs.declared.settings.Fill.{Fill};
 ghost use Rattle.tks_pack.specs.declared.settings.Side.{Side};
 ghost use Rattle.tks_pack.specs.declared.stretch.Stretch.{Stretch};
-ghost use Rattle.tks_pack.specs.Laws.{LiesInside, InOrder};
+ghost use Rattle.tks_pack.specs.Laws.{LiesInside, InOrder, AllGet, AllAsk, AllHaveSizes, AllHaveCells};
 ghost use Rattle.tks_pack.specs.Numbers.{side_number, side_numbered, fill_number, fill_numbered};
-ghost use Rattle.tks_pack.specs.Packer.{share};
-ghost use Rattle.tks_pack.specs.Packing.{places};
+ghost use Rattle.tks_pack.specs.Packer.{share, spans, request};
+ghost use Rattle.tks_pack.specs.Packing.{places, horizontals, verticals};
 ghost use Rattle.tks_pack.specs.Requests.{request_with};
 ghost use Rattle.tks_pack.specs.Stretch.{takes_share};
 
@@ -27,6 +28,17 @@ pub fn windows_stand_in_order()
 /// get alike, so that each content still gets what it asks for; where not even a cell fits, it is nothing.
 pub fn share_is_the_most_that_fits()
     ensures { (r x : ℕ) (s : Stretch) (rest : List Stretch) → takes_share s ≡ true → 1 ≤ x → (x ≤ share r s rest) ↔ (request_with x (s ∷ rest) ≤ r) }
+{}
+
+/// Along an axis, each window gets the length that it asks for just where the container has the length that they ask for
+/// together: in less, one doesn't.
+pub fn request_is_the_least_that_fits()
+    ensures { (cavity : Span) (contents : List Stretch) → AllAsk contents → AllGet contents (spans cavity contents) ↔ (request contents ≤ cavity.length) }
+{}
+
+/// In a container as large as its contents ask for, each window has its size.
+pub fn windows_have_their_sizes()
+    ensures { (size : ℕ → Extent) (container : Extent) (contents : List Content) → AllHaveCells size contents → request (horizontals size contents) ≤ container.width → request (verticals size contents) ≤ container.height → AllHaveSizes size contents (places size container contents) }
 {}
 
 /// Each side has a number of its own, and is the one of that number.
