@@ -1,5 +1,5 @@
 -- What a user of the packer would doubt (pack(n), "The packer algorithm"), said of its places and shares.
-use Rattle.std.specs.Prelude.{⊥, ℕ, ◌+◌, ◌≤◌, List, [], ◌∷◌, Option, Some, None}
+use Rattle.std.specs.Prelude.{ℕ, ◌+◌, ◌≤◌, List, [], ◌∷◌, Option, Some, None}
 use Rattle.std.specs.List.{AllByRecursion}
 use Rattle.tks_pack.specs.declared.area.Area.{Area}
 use Rattle.tks_pack.specs.declared.area.Extent.{Extent}
