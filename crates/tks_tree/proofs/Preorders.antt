@@ -10,6 +10,7 @@ use Rattle.tks_text.specs.Text.{same_text}
 use Rattle.tks_tree.specs.Path.{parent_of, is_text, is_child}
 use Rattle.tks_tree.specs.Windows.{Window, Windows, on_window, of_number, has_path, numbers, children, inside, preorder}
 use Rattle.tks_tree.specs.WellFormed.{Rise, StandsIn, Follows, AllFollow, WellFormed}
+use Rattle.tks_tree.specs.Laws.{below, from_window, GoesDown}
 use Rattle.tks_tree.proofs.Trees.{has_more}
 
 -- no window stands in one whose path none before it has
@@ -60,13 +61,6 @@ its_own low (u ∷ front) v later high r =
     ap (λ b. cond b (Some u) (of_number (front ++ v ∷ later) v.number)) (other_number u.number v.number (at_least (u.number + 1) front v later high r.1))
     ∙ its_own (u.number + 1) front v later high r.1
 
--- the numbers of those that stand in the window of a number, and with its own before them
-abbrev pub below : List Window → ℕ → List ℕ
-below windows n = on_window (of_number windows n) [] (λ w. numbers (inside w.path windows))
-
-abbrev pub from_window : List Window → ℕ → List ℕ
-from_window windows n = n ∷ below windows n
-
 module _ (t : Windows) (w : WellFormed t) where
   child_below : (front : List Window) (v : Window) (later : List Window) → t.windows ≡ front ++ v ∷ later → below t.windows v.number ≡ numbers (inside v.path later)
   child_below front v later is =
@@ -99,6 +93,9 @@ module _ (t : Windows) (w : WellFormed t) where
   -- all of them are `.` and those in it
   pub from_root : preorder t ≡ from_window t.windows 0
   from_root = subst (λ ws. preorder (record t { windows = ws }) ≡ from_window ws 0) (sym w.first.1) refl
+
+pub goes_down : (t : Windows) → WellFormed t → GoesDown t
+goes_down t w = record { from_root = from_root t w; by_children = below_children t w }
 
 -- a step of the walk: the last pending window goes to the order, and its children to the pending ones
 module _ (t : Windows) (w : WellFormed t) (before pending after more : List ℕ) (n : ℕ) (was : before ≡ pending ++ n ∷ []) (is : after ≡ pending ++ more) (children_are : more ≡ reverse (children t n)) where

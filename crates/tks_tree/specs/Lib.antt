@@ -4,3 +4,4 @@ pub mod Families
 pub mod WellFormed
 pub mod View
 pub mod Meets
+pub mod Laws

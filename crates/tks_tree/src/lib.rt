@@ -9,7 +9,7 @@ mod tree;
 mod window;
 
 pub use fault::CreateFault;
-pub use laws::preorder_holds_each_once;
+pub use laws::{preorder_goes_down_the_tree, preorder_holds_each_once};
 pub use path::is_path;
 pub use tree::Tree;
 pub use window::{Window, WindowId};

@@ -2,7 +2,7 @@ use Rattle.std.proofs.Common.{◌≡◌, ◌++◌, length}
 use Rattle.std.specs.Prelude.{reverse}
 use Rattle.std.specs.List.{flat_map}
 use Rattle.tks_tree.specs.Windows.{preorder}
-use Rattle.tks_tree.proofs.Preorders.{from_window}
+use Rattle.tks_tree.specs.Laws.{from_window}
 use Rattle.tks_tree.proofs.tree.Tree.preorder.Given as goal
 
 -- those so far, and the pending ones with those in them, are all
