@@ -7,3 +7,4 @@ pub mod Families
 pub mod Once
 pub mod Parents
 pub mod Searches
+pub mod Earlier

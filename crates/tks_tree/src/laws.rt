@@ -1,5 +1,5 @@
-ghost use Rattle.std.specs.Prelude.{◌≡◌, ℕ, is_some, if◌then◌else◌};
-ghost use Rattle.tks_tree.specs.Windows.{Windows, of_number, preorder, times};
+ghost use Rattle.std.specs.Prelude.{◌≡◌, ◌<◌, ℕ, Some, is_some, if◌then◌else◌};
+ghost use Rattle.tks_tree.specs.Windows.{Windows, of_number, parent, preorder, times};
 ghost use Rattle.tks_tree.specs.Laws.{GoesDown};
 ghost use Rattle.tks_tree.specs.WellFormed.{WellFormed};
 
@@ -13,4 +13,9 @@ pub fn preorder_holds_each_once()
 /// in which these were made, each right before those that stand in it.
 pub fn preorder_goes_down_the_tree()
     ensures { (t : Windows) → WellFormed t → GoesDown t }
+{}
+
+/// A window was made after the one that it stands in.
+pub fn windows_were_made_after_their_parents()
+    ensures { (t : Windows) (n container : ℕ) → WellFormed t → parent t n ≡ Some container → container < n }
 {}

@@ -9,7 +9,9 @@ mod tree;
 mod window;
 
 pub use fault::CreateFault;
-pub use laws::{preorder_goes_down_the_tree, preorder_holds_each_once};
+pub use laws::{
+    preorder_goes_down_the_tree, preorder_holds_each_once, windows_were_made_after_their_parents,
+};
 pub use path::is_path;
 pub use tree::Tree;
 pub use window::{Window, WindowId};
