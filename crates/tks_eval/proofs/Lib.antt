@@ -6,3 +6,4 @@ pub mod Spending
 pub mod Turns
 pub mod Wider
 pub mod Framing
+pub mod Grammar

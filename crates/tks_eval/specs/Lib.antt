@@ -6,5 +6,6 @@ pub mod Evaluation
 pub mod Values
 pub mod Loops
 pub mod Laws
+pub mod Grammar
 pub mod Meets
 pub mod Machine

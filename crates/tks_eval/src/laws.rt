@@ -1,3 +1,4 @@
+ghost use Rattle.tks_eval.specs.Grammar.{ReadsIf};
 ghost use Rattle.tks_eval.specs.Laws.{EndsStay, HostLeavesFrames, LeavesFrames, RunsAsHalves, TextIsOfSecondHalf, Unrolls};
 ghost use Rattle.tks_text.specs.Limits.{Wider};
 ghost use Rattle.tks_text.specs.declared.limits.Limits.{Limits};
@@ -23,4 +24,10 @@ pub fn loops_unroll<H: Host>()
 /// A script that ends leaves all frames but the innermost, and as many of them, for each host whose commands do.
 pub fn scripts_leave_frames<H: Host>()
     ensures { HostLeavesFrames H.meaning → LeavesFrames H.meaning }
+{}
+
+/// The words of `if` are a condition and a body, further ones behind `elseif`, and perhaps a last body, as the grammar has it;
+/// words that aren't are no `if`.
+pub fn words_of_if_follow_its_grammar()
+    ensures { ReadsIf }
 {}

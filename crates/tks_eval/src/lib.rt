@@ -22,5 +22,6 @@ pub use ended::Ended;
 pub use host::{Host, Plan};
 pub use laws::{
     loops_unroll, script_runs_as_its_halves, scripts_leave_frames, wider_limits_keep_ends,
+    words_of_if_follow_its_grammar,
 };
 pub use machine::{eval, eval_plan};

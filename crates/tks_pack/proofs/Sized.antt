@@ -1,6 +1,5 @@
 -- In a container as large as its contents ask for, each window has its size; in less, one doesn't.
-use Rattle.std.proofs.Common.{◌≡◌, ◌↔◌, ℕ, zero, suc, ◌+◌, ◌-◌, ◌*◌, ◌<◌, ◌≤◌, ◌==◌, min, max, Bool, true, false, if◌then◌else◌, List, [], ◌∷◌, Option, Some, None, inl, inr, refl, sym, ap, subst, arith, rules}
-use Rattle.std.proofs.lemmas.Bool.{cases_lt, eqb-true}
+use Rattle.std.proofs.Common.{◌≡◌, ◌↔◌, ℕ, zero, suc, ◌+◌, ◌-◌, ◌*◌, ◌≤◌, ◌==◌, min, max, Bool, true, false, if◌then◌else◌, List, [], ◌∷◌, Option, Some, None, refl, subst, arith, rules}
 use Rattle.tks_pack.specs.declared.area.Extent.{Extent}
 use Rattle.tks_pack.specs.declared.line.Span.{Span}
 use Rattle.tks_pack.specs.declared.packing.Content.{Content}
@@ -11,7 +10,7 @@ use Rattle.tks_pack.specs.Laws.{length_of, AllGet, AllAsk, HasSize, AllHaveSizes
 use Rattle.tks_pack.specs.Packer.{more, share, parcel_length, parcel_at, behind, shown_length, in_room, within, spans, request}
 use Rattle.tks_pack.specs.Packing.{area, areas, horizontals, verticals, places}
 use Rattle.tks_pack.specs.Requests.{request_with}
-use Rattle.tks_pack.specs.Stretch.{lies_along, takes_share, inner, outer, horizontal, vertical}
+use Rattle.tks_pack.specs.Stretch.{lies_along, takes_share, inner, outer}
 use Rattle.tks_pack.proofs.Fitting.{most_that_fits}
 
 -- ---- shares leave what the rest asks for

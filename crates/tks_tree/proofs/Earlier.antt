@@ -1,13 +1,12 @@
 -- A window was made before those that stand in it.
 use Rattle.std.proofs.Common.{◌≡◌, ℕ, ◌+◌, ◌<◌, ◌≤◌, Bool, true, false, cond, List, [], ◌∷◌, ◌++◌, Option, Some, None, is_some, refl, sym, ap, subst, ◌∙◌, append_assoc, arith}
 use Rattle.std.specs.Prelude.{◌==◌}
-use Rattle.std.specs.List.{find}
 use Rattle.std.specs.Option.{option_map, option_or}
 use Rattle.std.proofs.lemmas.List.Folds.{find-append}
 use Rattle.std.proofs.lemmas.Bool.{eqb-true}
 use Rattle.tks_text.specs.Text.{same_text}
 use Rattle.tks_tree.specs.Path.{parent_of}
-use Rattle.tks_tree.specs.Windows.{Window, Windows, on_window, of_path, of_number, has_path, number_at, parent}
+use Rattle.tks_tree.specs.Windows.{Window, Windows, on_window, of_path, of_number, number_at, parent}
 use Rattle.tks_tree.specs.WellFormed.{Rise, StandsIn, Follows, AllFollow, WellFormed}
 use Rattle.tks_tree.proofs.Trees.{some_is_none}
 
