@@ -7,3 +7,4 @@ pub mod Turns
 pub mod Wider
 pub mod Framing
 pub mod Grammar
+pub mod Parameters

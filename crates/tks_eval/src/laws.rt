@@ -1,4 +1,4 @@
-ghost use Rattle.tks_eval.specs.Grammar.{ReadsIf};
+ghost use Rattle.tks_eval.specs.Grammar.{ReadsIf, ReadsParameters};
 ghost use Rattle.tks_eval.specs.Laws.{EndsStay, HostLeavesFrames, LeavesFrames, RunsAsHalves, TextIsOfSecondHalf, Unrolls};
 ghost use Rattle.tks_text.specs.Limits.{Wider};
 ghost use Rattle.tks_text.specs.declared.limits.Limits.{Limits};
@@ -30,4 +30,9 @@ pub fn scripts_leave_frames<H: Host>()
 /// words that aren't are no `if`.
 pub fn words_of_if_follow_its_grammar()
     ensures { ReadsIf }
+{}
+
+/// A text says the parameters of a procedure just where it is a list of names, each alone or in a list with its default.
+pub fn parameters_are_lists_of_names()
+    ensures { ReadsParameters }
 {}
