@@ -6,10 +6,10 @@ use std::alloc::{AllocError, Global};
 use tks_codec::Unread;
 use tks_codec::reading::{presence_of, text_of};
 use tks_codec::writing::{put_presence, put_text};
-use tks_text::Txt;
+use tks_list::ListText;
 use tks_vars::Content;
 
-impl Named for Txt {
+impl Named for ListText {
     ghost use Rattle.tks_codec.specs.Spelling.{text};
     ghost use Rattle.tks_codec_variables.specs.Globals.{IsAny, IsShortText};
 
@@ -23,12 +23,13 @@ impl Named for Txt {
         self.len() < 1 << 32
     }
 
-    fn read(alloc: Global, bytes: &[u8]) -> Result<(Txt, &[u8]), Unread> {
-        text_of(alloc, bytes)
+    fn read(alloc: Global, bytes: &[u8]) -> Result<(ListText, &[u8]), Unread> {
+        let (text, rest) = text_of(alloc, bytes)?;
+        Ok((ListText::of(text), rest))
     }
 
     fn put(&self, out: &mut Vec<u8>) -> Result<(), AllocError> {
-        put_text(out, self)
+        put_text(out, self.as_text())
     }
 }
 
@@ -52,11 +53,11 @@ impl Named for Content {
     fn read(alloc: Global, bytes: &[u8]) -> Result<(Content, &[u8]), Unread> {
         let (is_array, rest) = presence_of(bytes)?;
         if is_array {
-            let (elements, rest) = table_of::<Txt>(alloc, rest)?;
+            let (elements, rest) = table_of::<ListText>(alloc, rest)?;
             return Ok((Content::Array(elements), rest));
         }
         let (value, rest) = text_of(alloc, rest)?;
-        Ok((Content::Scalar(value), rest))
+        Ok((Content::Scalar(ListText::of(value)), rest))
     }
 
     #[tactic(auto, using(tks_codec::proofs::Puts::put_behind))]
@@ -64,7 +65,7 @@ impl Named for Content {
         match self {
             Content::Scalar(value) => {
                 put_presence(out, false)?;
-                put_text(out, value)
+                value.put(out)
             }
             Content::Array(elements) => {
                 put_presence(out, true)?;

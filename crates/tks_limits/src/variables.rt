@@ -4,11 +4,12 @@ ghost use Rattle.std.specs.List.{list_all};
 ghost use Rattle.tks_limits.specs.Within as kinds;
 
 use crate::texts::{fits, may_hold};
+use tks_list::ListText;
 use tks_text::{Limits, Txt};
 use tks_vars::{Content, Iter, Parameter, Procedure, Table, Vars};
 
 // Whether the names and values of elements fit.
-fn each_element_fits(elements: Iter<'_, Txt>, limits: &Limits) -> bool
+fn each_element_fits(elements: Iter<'_, ListText>, limits: &Limits) -> bool
     ensures { result ≡ list_all (λ e. kinds.fits limits.now e.0 && kinds.fits limits.now e.1) elements.entry }
 {
     for (name, value) in elements {
@@ -20,7 +21,7 @@ fn each_element_fits(elements: Iter<'_, Txt>, limits: &Limits) -> bool
 }
 
 // Whether an array fits.
-fn elements_fit(elements: &Table<Txt>, limits: &Limits) -> bool
+fn elements_fit(elements: &Table<ListText>, limits: &Limits) -> bool
     ensures { result ≡ kinds.elements_fit limits.now elements.now }
 {
     may_hold(elements.len(), limits) && each_element_fits(elements.iter(), limits)

@@ -3,3 +3,4 @@ pub mod Matching
 pub mod Spelled
 pub mod Told
 pub mod Joined
+pub mod Grown

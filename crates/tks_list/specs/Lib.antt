@@ -2,3 +2,4 @@ pub mod ListText
 pub mod Reading
 pub mod Gives
 pub mod Quoting
+pub mod Growing

@@ -4,11 +4,13 @@
 mod braces;
 mod ends;
 mod fault;
+mod growing;
 mod laws;
 mod reading;
 mod writing;
 
 pub use fault::ListFault;
+pub use growing::{ListText, Suffix};
 pub use laws::{backslash_form_splits_back, join_splits_back, one_list};
 pub use reading::split;
 pub use writing::{backslash_form, join, quote};

@@ -149,8 +149,8 @@ fn push_quoted(text: &mut Txt, element: &Txt) -> Result<(), AllocError>
     }
 }
 
-// Adds elements, each with a space before it.
-fn push_spaced(text: &mut Txt, list: &[Txt]) -> Result<(), AllocError>
+/// Adds elements, each with a space before it.
+pub(crate) fn push_spaced(text: &mut Txt, list: &[Txt]) -> Result<(), AllocError>
     ensures { OnOk result (text.new ≡ text.old ++ spaced list.now) }
 {
     for element in list {

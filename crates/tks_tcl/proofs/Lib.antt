@@ -4,3 +4,4 @@ pub mod Parts
 pub mod Listing
 pub mod Erring
 pub mod Framing
+pub mod Added

@@ -9,3 +9,4 @@ pub mod Names
 pub mod Plain
 pub mod Laws
 pub mod Meets
+pub mod Growing

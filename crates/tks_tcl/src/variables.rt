@@ -1,12 +1,13 @@
-ghost use Rattle.std.specs.Prelude.{◌≡◌, ◌++◌, ◌+ℤ◌, OnOk, OnErr};
+ghost use Rattle.std.specs.Prelude.{◌≡◌, ◌+ℤ◌, OnErr};
 ghost use Rattle.tks_tcl.specs.Meets.{GivesSo};
-ghost use Rattle.tks_tcl.specs.Variables.{value_in, is_missing, value_or, decimal_within, increased, flat, appended, list_appended, without_all, may_grow, stores, stores_global, link_within, with_global_links, set_does, unset_does, incr_does, append_does, lappend_does, global_does, info_does, variable_does};
+ghost use Rattle.tks_tcl.specs.Variables.{value_in, is_missing, value_or, decimal_within, increased, without_all, may_grow, stores, stores_global, link_within, with_global_links, set_does, unset_does, incr_does, append_does, lappend_does, global_does, info_does, variable_does};
 
+use crate::growing::{add_elements, add_texts};
 use crate::interrupt::{Interrupt, error, fits, within, wrong_words};
-use crate::words::{integer_in, list_in, truth_text};
-use std::alloc::{AllocError, Global};
-use tks_list::join;
-use tks_text::{ErrorNumber, Failure, Limits, Seq, Txt, decimal_of};
+use crate::words::{integer_in, truth_text};
+use std::alloc::Global;
+use tks_list::ListText;
+use tks_text::{ErrorNumber, Failure, Limits, Txt, decimal_of};
 use tks_vars::Vars;
 
 /// The commands on variables.
@@ -46,8 +47,8 @@ impl VariableCommand {
     }
 }
 
-// The value of a variable.
-fn value_in(variables: &Vars, name: &Txt) -> Result<Txt, Interrupt>
+/// The value of a variable.
+pub(crate) fn value_in(variables: &Vars, name: &Txt) -> Result<Txt, Interrupt>
     ensures { GivesSo (λ t. t) result (value_in variables.now name.now) }
 {
     let value = variables.get(name)?;
@@ -61,8 +62,8 @@ pub fn is_missing(number: ErrorNumber) -> bool
     matches!(number, ErrorNumber::NoSuchVariable)
 }
 
-// The value of a variable, or a default where it is missing.
-fn value_or(default: Txt, variables: &Vars, name: &Txt) -> Result<Txt, Interrupt>
+/// The value of a variable, or a default where it is missing.
+pub(crate) fn value_or(default: Txt, variables: &Vars, name: &Txt) -> Result<Txt, Interrupt>
     ensures { GivesSo (λ t. t) result (value_or default variables.now name.now) }
 {
     match variables.get(name) {
@@ -78,8 +79,8 @@ fn value_or(default: Txt, variables: &Vars, name: &Txt) -> Result<Txt, Interrupt
     }
 }
 
-// Whether a list that would grow may have one member more.
-fn may_grow(members: Option<usize>, limits: &Limits) -> bool
+/// Whether a list that would grow may have one member more.
+pub(crate) fn may_grow(members: Option<usize>, limits: &Limits) -> bool
     ensures { result ≡ may_grow limits.now members }
 {
     match members {
@@ -99,14 +100,29 @@ pub fn store(
     ensures value { GivesSo (λ t. (t, variables.new)) result (stores limits.now name.now variables.old value) }
     ensures err { OnErr result (variables.new ≡ variables.old) }
 {
-    if !fits(&value, limits) {
+    let value = store_list(variables, name, ListText::of(value), limits)?;
+    Ok(value)
+}
+
+/// The same, with a text that may be known to be spelled as lists are.
+pub(crate) fn store_list(
+    variables: &mut Vars,
+    name: &Txt,
+    value: ListText,
+    limits: &Limits,
+) -> Result<Txt, Interrupt>
+    ensures value { GivesSo (λ t. (t, variables.new)) result (stores limits.now name.now variables.old value) }
+    ensures err { OnErr result (variables.new ≡ variables.old) }
+{
+    if !fits(value.as_text(), limits) {
         return Err(Interrupt::TooLarge);
     }
     if !may_grow(variables.grown_by_value(name), limits) {
         return Err(Interrupt::TooLarge);
     }
-    variables.set(name, &value)?;
-    Ok(value)
+    let answer = value.as_text().try_clone()?;
+    variables.set_list(name, value)?;
+    Ok(answer)
 }
 
 /// The same as `store`, of a global, whatever the present frame is.
@@ -244,25 +260,6 @@ fn run_incr(
     }
 }
 
-// Adds texts at the end of a text.
-fn push_all(text: &mut Txt, more: &[Txt]) -> Result<(), AllocError>
-    ensures { OnOk result (text.new ≡ text.old ++ flat more.now) }
-{
-    for next in more {
-        text.append(next)?;
-    }
-    Ok(())
-}
-
-// The value of a variable, and texts behind it.
-fn appended(alloc: Global, variables: &Vars, name: &Txt, texts: &[Txt]) -> Result<Txt, Interrupt>
-    ensures { GivesSo (λ t. t) result (appended variables.now name.now texts.now) }
-{
-    let mut value = value_or(Txt::new(alloc), variables, name)?;
-    push_all(&mut value, texts)?;
-    Ok(value)
-}
-
 // append name value ..
 #[tactic(auto, using(crate::proofs::Causes::tells))]
 fn run_append(
@@ -277,36 +274,11 @@ fn run_append(
 {
     match words {
         [name, values @ ..] if !values.is_empty() => {
-            let value = appended(alloc, variables, name, values)?;
-            let value = store(variables, name, value, limits)?;
+            let value = add_texts(alloc, variables, name, values, limits)?;
             Ok(value)
         }
         _ => Err(wrong_words(command)),
     }
-}
-
-// Adds elements at the end of a list.
-fn push_elements(list: &mut Seq<Txt>, elements: &[Txt]) -> Result<(), AllocError>
-    ensures { OnOk result (list.new ≡ list.old ++ elements.now) }
-{
-    for element in elements {
-        list.push(element.try_clone()?)?;
-    }
-    Ok(())
-}
-
-// The list in a variable, and elements behind it.
-fn list_appended(
-    alloc: Global,
-    variables: &Vars,
-    name: &Txt,
-    elements: &[Txt],
-) -> Result<Txt, Interrupt>
-    ensures { GivesSo (λ t. t) result (list_appended variables.now name.now elements.now) }
-{
-    let mut list = list_in(alloc, &value_or(Txt::new(alloc), variables, name)?)?;
-    push_elements(&mut list, elements)?;
-    Ok(join(alloc, list.as_slice())?)
 }
 
 // lappend name value ..
@@ -323,8 +295,7 @@ fn run_lappend(
 {
     match words {
         [name, values @ ..] if !values.is_empty() => {
-            let value = list_appended(alloc, variables, name, values)?;
-            let value = store(variables, name, value, limits)?;
+            let value = add_elements(alloc, variables, name, values, limits)?;
             Ok(value)
         }
         _ => Err(wrong_words(command)),

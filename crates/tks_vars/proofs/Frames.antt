@@ -8,10 +8,12 @@ use Rattle.tks_vars.specs.Table.{Map}
 use Rattle.tks_vars.specs.Names.{Name, named}
 use Rattle.tks_vars.specs.Variables.{Variables, Frame, about, after, updated, taken, on_name, is_link, is_global, innermost, seen_through, with_value, without_at, with_link, with_global_link, content_of, with_content, left_with}
 use Rattle.tks_vars.specs.Parts.{own, local_left, put_local, take_local}
+use Rattle.tks_vars.specs.Growth.{with_more, lengthened, lengthen_local}
 use Rattle.tks_vars.specs.declared.content.Content.{Content}
 use Rattle.tks_vars.specs.declared.content.Local.{Local}
 use Rattle.tks_vars.specs.declared.content.Local.TheVariants.{Own, Link}
 use Rattle.tks_vars.specs.declared.procedure.Procedure.{Procedure}
+use Rattle.tks_vars.proofs.Growing.{by_content}
 
 module _ {A : Type 0} where
   last_first : (x : A) (xs : List A) (d : A) → reverse (x ∷ xs) ≡ get_or (x ∷ xs) (length xs) d ∷ drop 1 (reverse (x ∷ xs))
@@ -82,6 +84,12 @@ module _ (globals : Map Content) (procedures : Map Procedure) (below : List (Opt
         ∙ after_same (taken (own (map.get frame name.variable)) name.index) _ _ leaves_own
         ∙ sym (after_both (taken (own (map.get frame name.variable)) name.index) (local_left frame name.variable) holding)
 
+    local_lengthened : (more : List ℕ) → after (lengthened (content_of (holding frame) name.variable) name.index more) (with_content (holding frame) name.variable) ≡ after (lengthen_local frame name more) holding
+    local_lengthened more =
+        ap (λ (o : Option Content). after (lengthened o name.index more) (with_content (holding frame) name.variable)) reads_own
+        ∙ after_same (lengthened (own (map.get frame name.variable)) name.index more) _ _ puts_own
+        ∙ sym (after_both (lengthened (own (map.get frame name.variable)) name.index more) (λ c. map.insert frame name.variable (Own c)) holding)
+
   module _ (now : Variables) (frame : Frame) (held : now ≡ holding frame) (text : List ℕ) where
     no_link_in : (name : Name) → is_global (innermost now.locals) name.variable ≡ false → is_link (map.get frame name.variable) ≡ false
     no_link_in name local = ap (λ (v : Variables). is_global (innermost v.locals) name.variable) (sym held) ∙ local
@@ -92,6 +100,11 @@ module _ (globals : Map Content) (procedures : Map Procedure) (below : List (Opt
         ap (λ v. with_value v text value) held
         ∙ ap (λ (n : Option Name). about text (on_name n (λ name. after (updated (content_of (holding frame) name.variable) name.index value) (with_content (holding frame) name.variable)))) is
         ∙ ap (about text) (local_put frame name (no_link_in name local) value)
+
+    -- and so is a text behind its value
+    pub lengthens : (name : Name) (more : List ℕ) → named text ≡ Some name → is_global (innermost now.locals) name.variable ≡ false → with_more now text more ≡ about text (after (lengthen_local frame name more) holding)
+    lengthens name more is local =
+        ap (λ v. with_more v text more) held ∙ by_content (holding frame) text more name is ∙ ap (about text) (local_lengthened frame name (no_link_in name local) more)
 
     pub takes : (name : Name) → named text ≡ Some name → is_global (innermost now.locals) name.variable ≡ false → without_at now text ≡ after (take_local frame name) holding
     takes name is local =

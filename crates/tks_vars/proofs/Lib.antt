@@ -6,3 +6,4 @@ pub mod Scripting
 pub mod Linking
 pub mod Spelled
 pub mod Framing
+pub mod Growing

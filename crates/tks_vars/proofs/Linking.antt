@@ -1,11 +1,11 @@
 -- A name that was made a link is the global of that name.
-use Rattle.std.proofs.Common.{◌≡◌, ℕ, Bool, true, false, if◌then◌else◌, List, [], ◌∷◌, Option, Some, None, Result, Ok, Err, refl, sym, ap, ◌∙◌}
+use Rattle.std.proofs.Common.{◌≡◌, ℕ, true, if◌then◌else◌, List, [], ◌∷◌, Option, Some, None, Result, Ok, Err, refl, sym, ap, ◌∙◌}
 use Rattle.std.specs.FinMap as fin
 use Rattle.tks_text.specs.declared.fault.ErrorNumber.{ErrorNumber}
 use Rattle.tks_text.specs.declared.fault.ScriptFault.{ScriptFault}
 use Rattle.tks_vars.specs.Table.{Map}
 use Rattle.tks_vars.specs.Names.{Name, named}
-use Rattle.tks_vars.specs.Variables.{Variables, Frame, about, after, on_name, value_in, updated, content_of, content_in, with_content, is_global, is_link, innermost, seen_through, link_at, link_by, with_link, with_global_link, changed, pushed_global, back}
+use Rattle.tks_vars.specs.Variables.{Variables, Frame, about, after, on_name, value_in, updated, content_of, content_in, with_content, is_global, is_link, innermost, seen_through, link_at, link_by, with_global_link, changed, pushed_global, back}
 use Rattle.tks_vars.specs.Laws.{LinkReads, LinkWrites}
 use Rattle.tks_vars.specs.declared.content.Content.{Content}
 use Rattle.tks_vars.specs.declared.content.Local.{Local}

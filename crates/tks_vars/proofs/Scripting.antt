@@ -1,13 +1,12 @@
 -- What scripts rely on of variables: what was set is got, what was unset is gone, a link is the global.
-use Rattle.std.proofs.Common.{◌≡◌, ◌≢◌, ℕ, Bool, true, false, if◌then◌else◌, List, [], ◌∷◌, Option, Some, None, Result, Ok, Err, refl, sym, subst, ap, ◌∙◌}
-use Rattle.std.specs.Prelude.{◌⊎◌}
+use Rattle.std.proofs.Common.{◌≡◌, ◌≢◌, ℕ, Bool, true, false, if◌then◌else◌, List, Option, Some, None, Result, Ok, Err, refl, sym, ap, ◌∙◌}
 use mathlib.Core.Logic.{inl, inr}
 use Rattle.std.specs.FinMap as fin
 use Rattle.tks_text.specs.declared.fault.ErrorNumber.{ErrorNumber}
-use Rattle.tks_text.specs.declared.fault.ErrorNumber.TheVariants.{NoSuchVariable, BadName}
+use Rattle.tks_text.specs.declared.fault.ErrorNumber.TheVariants.{NoSuchVariable}
 use Rattle.tks_text.specs.Fault.{fault_about}
 use Rattle.tks_vars.specs.Names.{Name, named}
-use Rattle.tks_vars.specs.Variables.{Variables, about, after, on_name, value_in, value_of, with_value, without, updated, taken, content_of, with_content, without_content, left_with, element_of, without_element}
+use Rattle.tks_vars.specs.Variables.{Variables, about, after, on_name, value_in, value_of, updated, taken, content_of, with_content, left_with, element_of, without_element}
 use Rattle.tks_vars.specs.Laws.{Apart, OfOtherElements, NameApart, SetIsGot, SetLeavesOthers, UnsetIsGone, UnsetLeavesOthers}
 use Rattle.tks_vars.specs.declared.content.Content.{Content}
 use Rattle.tks_vars.specs.declared.content.Content.TheVariants.{Scalar, Array}

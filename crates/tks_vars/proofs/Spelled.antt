@@ -1,6 +1,5 @@
 -- How the name of an element is spelled.
-use Rattle.std.proofs.Common.{◌≡◌, ◌≢◌, ◌↔◌, ℕ, suc, ◌+◌, ◌-◌, ◌<◌, ◌==◌, Bool, true, false, not, cond, nat_lt, if◌then◌else◌, List, [], ◌∷◌, ◌++◌, length, take, drop, Option, Some, None, option_map, refl, sym, subst, ap, ◌∙◌, arith, codes, append_assoc}
-use Rattle.std.specs.Prelude.{◌&&◌}
+use Rattle.std.proofs.Common.{◌≡◌, ◌≢◌, ℕ, suc, ◌+◌, ◌-◌, ◌<◌, ◌==◌, Bool, true, false, not, cond, nat_lt, if◌then◌else◌, List, [], ◌∷◌, ◌++◌, length, take, drop, Option, Some, None, option_map, refl, sym, ap, ◌∙◌, arith}
 use Rattle.std.specs.List.{list_all, position, position_or_len}
 use Rattle.std.specs.Cmp.Lexicographic as texts
 use Rattle.std.proofs.lemmas.List.{take-append-drop, length-append}
@@ -8,7 +7,7 @@ use Rattle.std.proofs.Math.Seq.{take-append_seam, drop-append_seam, drop-append-
 use Rattle.std.proofs.lemmas.Bool.{eqb-true, and_parts, and_from}
 use Rattle.std.proofs.lemmas.Bool.Decides.{nat_tests}
 use Rattle.tks_text.specs.Text.{same_text}
-use Rattle.tks_vars.specs.Names.{Name, halves, closed, whole, element, element_named, named_behind, named_in, named}
+use Rattle.tks_vars.specs.Names.{Name, closed, whole, element, element_named, named_behind, named_in, named}
 use Rattle.tks_vars.specs.Laws.{NamesElement}
 
 -- the place of the first `(`, or the length

@@ -5,3 +5,4 @@ pub mod Laws
 pub mod Parts
 pub mod View
 pub mod Meets
+pub mod Growth

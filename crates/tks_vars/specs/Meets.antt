@@ -10,3 +10,8 @@ index_seen index = option_map (λ i. i.now) index
 abbrev pub AnswersSo : {X Y : Type 0} → (X → Y) → Result X ErrorNumber → Result Y ErrorNumber → Type 0
 AnswersSo view (Ok x) given = given ≡ Ok (view x)
 AnswersSo view (Err number) given = given ≡ Err number
+
+-- there is a value, and this holds of it
+abbrev pub IsValue : {X E : Type 0} → (X → Type 0) → Result X E → Type 0
+IsValue P (Ok x) = P x
+IsValue P (Err e) = ⊥

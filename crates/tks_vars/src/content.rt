@@ -1,17 +1,21 @@
-ghost use Rattle.std.specs.Prelude.{◌≡◌, IfOk, None, Some, Ok};
+ghost use Rattle.std.specs.Prelude.{◌≡◌, IfOk, OnErr, None, Some, Ok};
 ghost use Rattle.tks_text.specs.Fault.{Gives};
+ghost use Rattle.tks_vars.specs.Growth.{lengthened};
 ghost use Rattle.tks_vars.specs.Meets.{AnswersSo, index_seen};
 ghost use Rattle.tks_vars.specs.Variables.{about, value_in, updated, taken, is_there, grown_inside};
 
+use crate::growth::lengthen_element;
 use crate::table::Table;
 use std::alloc::{AllocError, Global};
+use tks_list::{ListText, Suffix};
+use tks_share::Copied;
 use tks_text::{ErrorNumber, Failure, Txt};
 
 /// What stands under the name of a variable.
 #[derive(Drop)]
 pub enum Content {
-    Scalar(Txt),
-    Array(Table<Txt>),
+    Scalar(ListText),
+    Array(Table<ListText>),
 }
 
 /// What stands under a name in a procedure's frame.
@@ -25,7 +29,7 @@ pub enum Local {
 
 impl Content {
     /// A new variable with a value: a scalar, or an array with one element.
-    pub fn of(alloc: Global, index: Option<&[u8]>, value: Txt) -> Result<Content, AllocError>
+    pub fn of(alloc: Global, index: Option<&[u8]>, value: ListText) -> Result<Content, AllocError>
         ensures { IfOk result (λ made. updated None (index_seen index.entry) value ≡ Ok made) }
     {
         match index {
@@ -39,7 +43,7 @@ impl Content {
     }
 
     /// The value of the whole variable, or of an element.
-    pub fn value(&self, index: Option<&[u8]>) -> Result<&Txt, ErrorNumber>
+    pub fn value(&self, index: Option<&[u8]>) -> Result<&ListText, ErrorNumber>
         ensures { AnswersSo (λ v. v.now) result (value_in (Some self.now) (index_seen index.entry)) }
     {
         match (self, index) {
@@ -63,7 +67,12 @@ impl Content {
     }
 
     /// What the whole variable, or its array, becomes by a value. The error tells the name.
-    pub fn updated(&self, name: &Txt, index: Option<&[u8]>, value: Txt) -> Result<Content, Failure>
+    pub fn updated(
+        &self,
+        name: &Txt,
+        index: Option<&[u8]>,
+        value: ListText,
+    ) -> Result<Content, Failure>
         ensures { Gives (λ c. c) result (about name.now (updated (Some self.now) (index_seen index.entry) value)) }
     {
         match (self, index) {
@@ -72,6 +81,24 @@ impl Content {
                 let mut elements = elements.share()?;
                 elements.insert(index, value)?;
                 Ok(Content::Array(elements))
+            }
+            _ => Err(Failure::about(ErrorNumber::WrongKindOfVariable, name)),
+        }
+    }
+
+    /// Puts a text behind the value of the whole variable, or of an element. The error tells the name.
+    pub fn append(&mut self, name: &Txt, index: Option<&[u8]>, more: &Suffix) -> Result<(), Failure>
+        ensures value { Gives (λ _. self.new) result (about name.now (lengthened (Some self.old) (index_seen index.entry) more.now)) }
+        ensures err { OnErr result (self.new ≡ self.old) }
+    {
+        match (self, index) {
+            (Content::Scalar(value), None) => {
+                value.append(more)?;
+                Ok(())
+            }
+            (Content::Array(elements), Some(index)) => {
+                lengthen_element(elements, name, index, more)?;
+                Ok(())
             }
             _ => Err(Failure::about(ErrorNumber::WrongKindOfVariable, name)),
         }
@@ -103,6 +130,24 @@ impl Content {
                 elements.remove(index)?;
                 Ok(Content::Array(elements))
             }
+        }
+    }
+}
+
+impl Copied for Content {
+    fn copied(&self, _alloc: Global) -> Result<Content, AllocError> {
+        match self {
+            Content::Scalar(value) => Ok(Content::Scalar(value.try_clone()?)),
+            Content::Array(elements) => Ok(Content::Array(elements.share()?)),
+        }
+    }
+}
+
+impl Copied for Local {
+    fn copied(&self, alloc: Global) -> Result<Local, AllocError> {
+        match self {
+            Local::Own(content) => Ok(Local::Own(content.copied(alloc)?)),
+            Local::Link => Ok(Local::Link),
         }
     }
 }

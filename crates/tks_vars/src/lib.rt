@@ -2,6 +2,7 @@
 #![tactic(auto)]
 
 mod content;
+mod growth;
 mod laws;
 mod name;
 mod procedure;

@@ -1,9 +1,9 @@
-ghost use Rattle.std.specs.Prelude.{◌≡◌, IfOk, OnOk, OnErr, option_copied};
+ghost use Rattle.std.specs.Prelude.{◌≡◌, IfOk, IfSome, IfNone, None, OnOk, OnErr, option_copied};
 ghost use Rattle.std.specs.FinMap as map;
 
 use std::alloc::{AllocError, Global};
 use std::marker::Model;
-use tks_share::{Iter, SharedMap};
+use tks_share::{Change, Copied, Iter, SharedMap};
 use tks_text::Txt;
 
 /// A finite map from names to values, in the order of the names' bytes. Copies share what they have in common.
@@ -98,5 +98,23 @@ impl<V: Drop> Table<V> {
         ensures err { OnErr result (self.new ≡ self.old) }
     {
         self.entries.remove(name)
+    }
+}
+
+impl<V: Copied> Table<V> {
+    ghost use Rattle.tks_share.specs.Maps.{IsChangedIn};
+
+    /// Changes the value under a name where it stands, if there is one. A value that other maps hold too is copied first, and
+    /// they keep theirs.
+    pub fn change<C: Change<V>>(
+        &mut self,
+        name: &[u8],
+        change: &mut C,
+    ) -> Result<Option<C::Answer>, AllocError>
+        ensures some { IfOk result (λ o. IfSome o (λ answer. IsChangedIn (C.gives change.old) name.now self.old self.new answer)) }
+        ensures none { IfOk result (λ o. IfNone o ((self.new ≡ self.old) × (map.get self.old name.now ≡ None))) }
+        ensures err { OnErr result (self.new ≡ self.old) }
+    {
+        self.entries.change(name, change)
     }
 }

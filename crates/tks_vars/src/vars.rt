@@ -1,16 +1,20 @@
-ghost use Rattle.std.specs.Prelude.{◌≡◌, length, reverse, false, IfOk, OnOk, OnErr, IsOk, option_copied};
+ghost use Rattle.std.specs.Prelude.{◌≡◌, length, reverse, true, false, IfOk, OnOk, OnErr, IsOk, option_copied};
 ghost use Rattle.std.specs.FinMap as map;
 ghost use Rattle.tks_text.specs.Fault.{Gives};
-ghost use Rattle.tks_vars.specs.Meets.{AnswersSo};
+ghost use Rattle.tks_list.specs.Growing.{TakesElements};
+ghost use Rattle.tks_vars.specs.Growth.{with_more};
+ghost use Rattle.tks_vars.specs.Meets.{AnswersSo, IsValue};
 ghost use Rattle.tks_vars.specs.Variables.{no_variables, at_global_level, innermost, content_of, is_global, value_at, value_of, with_value, global_value_at, global_value_of, with_global_value, without, exists, with_global_link, pushed, pushed_global, frame_of, pushed_with, frame_size, popped, with_procedure, size_in, grown_by_value, grown_by_global_value, grown_by_link};
 
 use crate::content::{Content, Local};
+use crate::growth::{lengthen_global, lengthen_local};
 use crate::name::named;
 use crate::procedure::{Argument, Procedure};
 use crate::table::Table;
 use crate::writing::{link, take_global, take_local, write_global, write_local};
 use std::alloc::{AllocError, Global};
 use std::marker::Model;
+use tks_list::{ListText, Suffix};
 use tks_text::{ErrorNumber, Failure, Txt};
 
 /// The variables of scripts, and the procedures. Calls speak of the present frame: that of the innermost
@@ -115,7 +119,7 @@ impl Vars {
     }
 
     // The value of a variable or an element.
-    fn value(&self, name: &[u8]) -> Result<&Txt, ErrorNumber>
+    fn value(&self, name: &[u8]) -> Result<&ListText, ErrorNumber>
         ensures { AnswersSo (λ v. v.now) result (value_at self.now name.now) }
     {
         let Some(name) = named(name) else {
@@ -133,13 +137,13 @@ impl Vars {
         ensures present { IsOk (value_of self.now name.now) → IsOk result }
     {
         match self.value(name.as_bytes()) {
-            Ok(value) => Ok(value),
+            Ok(value) => Ok(value.as_text()),
             Err(number) => Err(Failure::about(number, name)),
         }
     }
 
     // The value of a global or an element of one.
-    fn global_value(&self, name: &[u8]) -> Result<&Txt, ErrorNumber>
+    fn global_value(&self, name: &[u8]) -> Result<&ListText, ErrorNumber>
         ensures { AnswersSo (λ v. v.now) result (global_value_at self.now name.now) }
     {
         let Some(name) = named(name) else {
@@ -157,7 +161,7 @@ impl Vars {
         ensures present { IsOk (global_value_of self.now name.now) → IsOk result }
     {
         match self.global_value(name.as_bytes()) {
-            Ok(value) => Ok(value),
+            Ok(value) => Ok(value.as_text()),
             Err(number) => Err(Failure::about(number, name)),
         }
     }
@@ -175,15 +179,36 @@ impl Vars {
         }
     }
 
+    /// Whether elements are known to join the list in a variable or an element when they are put behind its value as they
+    /// are spelled.
+    pub fn takes_elements(&self, name: &Txt) -> bool
+        ensures { result ≡ true → IsValue TakesElements (value_of self.now name.now) }
+    {
+        let value = self.value(name.as_bytes());
+        match value {
+            Ok(value) => value.takes_elements(),
+            Err(_) => false,
+        }
+    }
+
     /// Gives a variable or an element a value, and makes what is missing of it.
     pub fn set(&mut self, name: &Txt, value: &Txt) -> Result<(), Failure>
         ensures value { Gives (λ _. self.new) result (with_value self.old name.now value.now) }
         ensures err { OnErr result (self.new ≡ self.old) }
     {
+        let copy = value.try_clone()?;
+        self.set_list(name, ListText::of(copy))?;
+        Ok(())
+    }
+
+    /// The same as `set`, with a text that may be known to be spelled as lists are.
+    pub fn set_list(&mut self, name: &Txt, value: ListText) -> Result<(), Failure>
+        ensures value { Gives (λ _. self.new) result (with_value self.old name.now value) }
+        ensures err { OnErr result (self.new ≡ self.old) }
+    {
         let Some(part) = named(name.as_bytes()) else {
             return Err(Failure::about(ErrorNumber::BadName, name));
         };
-        let value = value.try_clone()?;
         if self.is_global(part.variable) {
             write_global(self.alloc, &mut self.globals, name, part, value)?;
             return Ok(());
@@ -196,6 +221,26 @@ impl Vars {
         Ok(())
     }
 
+    /// Puts a text behind the value of a variable or an element, in time that goes by what is put there.
+    pub fn append(&mut self, name: &Txt, more: &Suffix) -> Result<(), Failure>
+        ensures value { Gives (λ _. self.new) result (with_more self.old name.now more.now) }
+        ensures err { OnErr result (self.new ≡ self.old) }
+    {
+        let Some(part) = named(name.as_bytes()) else {
+            return Err(Failure::about(ErrorNumber::BadName, name));
+        };
+        if self.is_global(part.variable) {
+            lengthen_global(&mut self.globals, name, part, more)?;
+            return Ok(());
+        }
+        let top = self.locals.len() - 1;
+        let Some(frame) = &mut self.locals[top] else {
+            return Ok(());
+        };
+        lengthen_local(frame, name, part, more)?;
+        Ok(())
+    }
+
     /// The same as `set`, of the globals, whatever the present frame is.
     pub fn set_global(&mut self, name: &Txt, value: &Txt) -> Result<(), Failure>
         ensures value { Gives (λ _. self.new) result (with_global_value self.old name.now value.now) }
@@ -204,7 +249,7 @@ impl Vars {
         let Some(part) = named(name.as_bytes()) else {
             return Err(Failure::about(ErrorNumber::BadName, name));
         };
-        let copy = value.try_clone()?;
+        let copy = ListText::of(value.try_clone()?);
         write_global(self.alloc, &mut self.globals, name, part, copy)?;
         Ok(())
     }
@@ -382,7 +427,8 @@ fn frame_of(alloc: Global, arguments: Vec<Argument>) -> Result<Table<Local>, All
     let mut frame = Table::new(alloc);
     let mut arguments = arguments;
     while let Some(Argument { name, value }) = arguments.pop() {
-        frame.insert(name.as_bytes(), Local::Own(Content::Scalar(value)))?;
+        let value = Content::Scalar(ListText::of(value));
+        frame.insert(name.as_bytes(), Local::Own(value))?;
     }
     Ok(frame)
 }

@@ -10,6 +10,7 @@ use crate::content::{Content, Local};
 use crate::name::{Name, named};
 use crate::table::Table;
 use std::alloc::Global;
+use tks_list::ListText;
 use tks_text::{ErrorNumber, Failure, Txt};
 
 /// Gives a global, or an element of one, a value. The error tells the name.
@@ -18,7 +19,7 @@ pub fn write_global(
     globals: &mut Table<Content>,
     name: &Txt,
     part: Name<'_>,
-    value: Txt,
+    value: ListText,
 ) -> Result<(), Failure>
     ensures value { Gives (λ _. globals.new) result (about name.now (put_global globals.old (name_seen part.entry) value)) }
     ensures err { OnErr result (globals.new ≡ globals.old) }
@@ -42,7 +43,7 @@ pub fn write_local(
     frame: &mut Table<Local>,
     name: &Txt,
     part: Name<'_>,
-    value: Txt,
+    value: ListText,
 ) -> Result<(), Failure>
     requires { is_link (map.get frame.old part.variable.now) ≡ false }
     ensures value { Gives (λ _. frame.new) result (about name.now (put_local frame.old (name_seen part.entry) value)) }

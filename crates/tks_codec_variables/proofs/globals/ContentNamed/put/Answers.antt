@@ -6,7 +6,7 @@ use Rattle.tks_codec_variables.proofs.globals.ContentNamed.put.Goals as goal
 
 pub returns-in_ok-put_presence-in-Scalar-clause-puts : goal.returns-in_ok-put_presence-in-Scalar-clause-puts
 returns-in_ok-put_presence-in-Scalar-clause-puts c =
-    rw c.in-Scalar.is (put_behind c.put_text.result c.args.out.now.items (0 ∷ []) c.put_presence.new.out.items (text.write c.in-Scalar.value) c.put_text.new.out.items c.in_ok-put_presence-in-Scalar.ensures c.put_text.ensures.puts)
+    rw c.in-Scalar.is (put_behind c.put.result c.args.out.now.items (0 ∷ []) c.put_presence.new.out.items (text.write c.in-Scalar.value) c.put.new.out.items c.in_ok-put_presence-in-Scalar.ensures c.put.ensures.puts)
 
 pub returns-in_ok-put_presence-in-Array-clause-puts : goal.returns-in_ok-put_presence-in-Array-clause-puts
 returns-in_ok-put_presence-in-Array-clause-puts c =

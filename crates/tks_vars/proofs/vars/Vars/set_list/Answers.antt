@@ -3,11 +3,11 @@ use Rattle.std.specs.Prelude.{reverse}
 use Rattle.std.proofs.lemmas.Result.{err_from_is_err_and}
 use Rattle.tks_vars.specs.Names.{named}
 use Rattle.tks_vars.specs.View.{name_seen}
-use Rattle.tks_vars.specs.Variables.{Variables, is_global, innermost, with_value}
+use Rattle.tks_vars.specs.Variables.{Variables, is_global, innermost}
 use Rattle.tks_vars.specs.Parts.{put_local}
 use Rattle.tks_vars.proofs.Frames.{some_frame, innermost_first, innermost_set, holding, sets}
 use Rattle.tks_vars.proofs.Changes.{about_after, about_failed, failed}
-use Rattle.tks_vars.proofs.vars.Vars.set.Goals as goal
+use Rattle.tks_vars.proofs.vars.Vars.set_list.Goals as goal
 
 pub returns-clause-value : goal.returns-clause-value
 returns-clause-value c =
@@ -21,9 +21,8 @@ returns-clause-value c =
     ∙ ap (λ ls. record { globals = c.self.inside.globals; locals = ls; procedures = c.self.inside.procedures }) (innermost_first items (c.len-top.result - 1) c.index_mut.result.now last ∙ ap (λ f. f ∷ below) (sym c.index_mut.ensures.value ∙ c.in-Some-index_mut.is)) in
     let name = name_seen c.in-Some.part in
     let is = ap named (sym c.as_bytes.ensures.value) ∙ sym c.in-Some.ensures in
-    ap (λ value. with_value c.args.self.now c.args.name.now value) (sym c.in_ok-value.ensures)
-    ∙ sets c.self.inside.globals c.self.inside.procedures below c.args.self.now frame held c.args.name.now name c.in_ok-value.value is (sym c.is_global.ensures ∙ c.if-is_global.false)
-    ∙ about_after c.args.name.now (put_local frame name c.in_ok-value.value) all c.write_local.new.frame c.in_ok-write_local.ensures.value
+    sets c.self.inside.globals c.self.inside.procedures below c.args.self.now frame held c.args.name.now name c.args.value is (sym c.is_global.ensures ∙ c.if-is_global.false)
+    ∙ about_after c.args.name.now (put_local frame name c.args.value) all c.write_local.new.frame c.in_ok-write_local.ensures.value
     ∙ ap (λ ls. Ok (record { globals = c.self.inside.globals; locals = ls; procedures = c.self.inside.procedures })) (sym (innermost_set items (c.len-top.result - 1) (Some c.write_local.new.frame) last))
 
 pub returns-in_err-write_local-clause-value : goal.returns-in_err-write_local-clause-value
@@ -40,6 +39,5 @@ returns-in_err-write_local-clause-value c =
     let name = name_seen c.in-Some.part in
     let is = ap named (sym c.as_bytes.ensures.value) ∙ sym c.in-Some.ensures in
     rw (p.1, p.2) (failed {X = Unit {0}} {X' = Unit {0}} (λ _. frame) (λ _. c.args.self.now) c.in_err-write_local.field-0.0 _ _ (λ fault e.
-    ap (λ value. with_value c.args.self.now c.args.name.now value) (sym c.in_ok-value.ensures)
-    ∙ sets c.self.inside.globals c.self.inside.procedures below c.args.self.now frame held c.args.name.now name c.in_ok-value.value is (sym c.is_global.ensures ∙ c.if-is_global.false)
-    ∙ about_failed c.args.name.now (put_local frame name c.in_ok-value.value) all fault e) c.in_err-write_local.ensures.value)
+    sets c.self.inside.globals c.self.inside.procedures below c.args.self.now frame held c.args.name.now name c.args.value is (sym c.is_global.ensures ∙ c.if-is_global.false)
+    ∙ about_failed c.args.name.now (put_local frame name c.args.value) all fault e) c.in_err-write_local.ensures.value)

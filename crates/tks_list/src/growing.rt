@@ -1,0 +1,154 @@
+ghost use Rattle.std.specs.Prelude.{◌≡◌, ◌++◌, length, true, IfOk, OnOk, OnErr};
+ghost use Rattle.tks_text.specs.Text.{IsText};
+ghost use Rattle.tks_list.specs.Growing.{TakesElements};
+ghost use Rattle.tks_list.specs.Quoting.{joined, spaced};
+
+use crate::writing::{join, push_spaced};
+use std::alloc::{AllocError, Global};
+use std::marker::Model;
+use tks_share::Copied;
+use tks_text::Txt;
+
+/// What is put behind a text: it knows whether it is elements of a list, each with a space before it. Contracts see the text.
+#[derive(Drop)]
+pub struct Suffix {
+    text: Txt,
+    is_elements: bool,
+}
+
+impl Model for Suffix {
+    ghost use Rattle.std.specs.Prelude.{List, ℕ, ◌≡◌, true};
+    ghost use Rattle.tks_list.specs.Growing.{AreElements};
+
+    ghost Value = { List ℕ };
+
+    ghost view = { λ s. s.text };
+
+    ghost invariant = { λ s. s.is_elements ≡ true → AreElements s.text };
+}
+
+impl Suffix {
+    /// Any text.
+    pub fn of(text: Txt) -> Suffix
+        ensures { result ≡ text }
+    {
+        Suffix {
+            text,
+            is_elements: false,
+        }
+    }
+
+    /// Elements of a list.
+    pub fn of_elements(alloc: Global, elements: &[Txt]) -> Result<Suffix, AllocError>
+        ensures { IfOk result (λ s. s ≡ spaced elements.now) }
+    {
+        let mut text = Txt::new(alloc);
+        push_spaced(&mut text, elements)?;
+        Ok(Suffix {
+            text,
+            is_elements: true,
+        })
+    }
+
+    /// The text.
+    pub fn as_text(&self) -> &Txt
+        ensures { result.now ≡ self.now }
+    {
+        &self.text
+    }
+}
+
+/// A text that grows: it may know that it is a list with some elements, spelled as `join` spells lists, and then a further
+/// element joins it without the others being read. Contracts see the text.
+#[derive(Drop)]
+pub struct ListText {
+    text: Txt,
+    is_spelled: bool,
+}
+
+impl Model for ListText {
+    ghost use Rattle.std.specs.Prelude.{List, ℕ, ◌≡◌, true};
+    ghost use Rattle.tks_list.specs.Growing.{IsSpelled};
+
+    ghost Value = { List ℕ };
+
+    ghost view = { λ t. t.text };
+
+    ghost invariant = { λ t. t.is_spelled ≡ true → IsSpelled t.text };
+}
+
+impl ListText {
+    /// A text of which nothing is known.
+    pub fn of(text: Txt) -> ListText
+        ensures { result ≡ text }
+    {
+        ListText {
+            text,
+            is_spelled: false,
+        }
+    }
+
+    /// The text of a list.
+    pub fn of_list(alloc: Global, list: &[Txt]) -> Result<ListText, AllocError>
+        ensures { IfOk result (λ t. t ≡ joined list.now) }
+    {
+        let text = join(alloc, list)?;
+        let is_spelled = !list.is_empty();
+        Ok(ListText { text, is_spelled })
+    }
+
+    /// The text.
+    pub fn as_text(&self) -> &Txt
+        ensures { result.now ≡ self.now }
+    {
+        &self.text
+    }
+
+    /// The bytes.
+    pub fn as_bytes(&self) -> &[u8]
+        ensures value { result.now ≡ self.now }
+        ensures text { IsText self.now }
+    {
+        self.text.as_bytes()
+    }
+
+    /// How many bytes there are.
+    pub fn len(&self) -> usize
+        ensures { result ≡ length self.now }
+    {
+        self.text.len()
+    }
+
+    /// Whether elements are known to join the list when they are put behind the text as they are spelled.
+    pub fn takes_elements(&self) -> bool
+        ensures { result ≡ true → TakesElements self.now }
+    {
+        self.is_spelled
+    }
+
+    /// Puts a text behind it.
+    pub fn append(&mut self, more: &Suffix) -> Result<(), AllocError>
+        ensures ok { OnOk result (self.new ≡ self.old ++ more.now) }
+        ensures err { OnErr result (self.new ≡ self.old) }
+    {
+        self.text.append(&more.text)?;
+        self.is_spelled = self.is_spelled && more.is_elements;
+        Ok(())
+    }
+
+    /// An equal text, of which as much is known.
+    pub fn try_clone(&self) -> Result<ListText, AllocError>
+        ensures { IfOk result (λ t. t ≡ self.now) }
+    {
+        Ok(ListText {
+            text: self.text.try_clone()?,
+            is_spelled: self.is_spelled,
+        })
+    }
+}
+
+impl Copied for ListText {
+    fn copied(&self, _alloc: Global) -> Result<ListText, AllocError> {
+        self.try_clone()
+    }
+}

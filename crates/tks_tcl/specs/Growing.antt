@@ -1,0 +1,36 @@
+-- Texts that are put behind values (append(n), lappend(n)), in the parts that the code has.
+use Rattle.std.specs.Prelude.{ℕ, Bool, true, false, if◌then◌else◌, List, [], ◌++◌, Result, Ok, Err}
+use Rattle.tks_text.specs.declared.fault.ScriptFault.{ScriptFault}
+use Rattle.tks_text.specs.declared.limits.Limits.{Limits}
+use Rattle.tks_vars.specs.Variables.{Variables, value_of}
+use Rattle.tks_tcl.specs.Cause.{Cause, Fault, after}
+use Rattle.tks_tcl.specs.Variables.{Changed, value_in, value_or, is_missing, appended, list_appended, stores}
+
+-- whether there is a value; an error where it isn't just missing
+abbrev pub is_told : Result (List ℕ) ScriptFault → Result Bool Cause
+is_told (Ok value) = Ok true
+is_told (Err fault) = if is_missing fault.number then Ok false else Err (Fault fault)
+
+abbrev pub has_value : Variables → List ℕ → Result Bool Cause
+has_value variables name = is_told (value_of variables name)
+
+-- the value of a variable, which must be there, and a text behind it
+abbrev pub lengthened : Variables → List ℕ → List ℕ → Result (List ℕ) Cause
+lengthened variables name more = after (value_in variables name) (λ value. Ok (value ++ more))
+
+module _ (limits : Limits) where
+  -- the variables after a text was put behind the value of one that is there
+  abbrev pub lengthens : List ℕ → List ℕ → Variables → Result Changed Cause
+  lengthens name more variables = after (lengthened variables name more) (stores limits name variables)
+
+  -- the same, where a missing one counts as empty
+  abbrev pub adds : List ℕ → List ℕ → Variables → Result Changed Cause
+  adds name more variables = after (value_or [] variables name) (λ value. stores limits name variables (value ++ more))
+
+  -- the same of texts one after the other
+  abbrev pub adds_texts : List ℕ → List (List ℕ) → Variables → Result Changed Cause
+  adds_texts name texts variables = after (appended variables name texts) (stores limits name variables)
+
+  -- the same of the elements of a list
+  abbrev pub adds_elements : List ℕ → List (List ℕ) → Variables → Result Changed Cause
+  adds_elements name elements variables = after (list_appended variables name elements) (stores limits name variables)

@@ -1,0 +1,154 @@
+//! Values that grow: texts and elements are put behind them.
+ghost use Rattle.std.specs.Prelude.{◌≡◌, ◌++◌, IfOk, OnOk, OnErr};
+ghost use Rattle.tks_tcl.specs.Meets.{GivesSo};
+ghost use Rattle.tks_tcl.specs.Variables.{flat, list_appended};
+ghost use Rattle.tks_tcl.specs.Growing.{has_value, lengthened, lengthens, adds, adds_texts, adds_elements};
+
+use crate::interrupt::{Interrupt, fits};
+use crate::variables::{is_missing, may_grow, store, store_list, value_in, value_or};
+use crate::words::list_in;
+use std::alloc::{AllocError, Global};
+use tks_list::{ListText, Suffix};
+use tks_text::{Failure, Limits, Seq, Txt};
+use tks_vars::Vars;
+
+// Whether a variable or an element has a value.
+fn has_value(variables: &Vars, name: &Txt) -> Result<bool, Interrupt>
+    ensures { GivesSo (λ b. b) result (has_value variables.now name.now) }
+{
+    match variables.get(name) {
+        Ok(_) => Ok(true),
+        Err(Failure::Script(fault)) => {
+            if is_missing(fault.number) {
+                Ok(false)
+            } else {
+                Err(Interrupt::Script(fault))
+            }
+        }
+        Err(Failure::NoMemory) => Err(Interrupt::NoMemory),
+    }
+}
+
+// The value of a variable or an element, and a text behind it.
+fn lengthened(variables: &Vars, name: &Txt, more: &Suffix) -> Result<Txt, Interrupt>
+    ensures { GivesSo (λ t. t) result (lengthened variables.now name.now more.now) }
+{
+    let mut value = value_in(variables, name)?;
+    value.append(more.as_text())?;
+    Ok(value)
+}
+
+// Puts a text behind the value of a variable or an element. The new value is answered.
+fn lengthen(
+    variables: &mut Vars,
+    name: &Txt,
+    more: &Suffix,
+    limits: &Limits,
+) -> Result<Txt, Interrupt>
+    ensures value { GivesSo (λ t. (t, variables.new)) result (lengthens limits.now name.now more.now variables.old) }
+    ensures err { OnErr result (variables.new ≡ variables.old) }
+{
+    let value = lengthened(variables, name, more)?;
+    if !fits(&value, limits) {
+        return Err(Interrupt::TooLarge);
+    }
+    if !may_grow(variables.grown_by_value(name), limits) {
+        return Err(Interrupt::TooLarge);
+    }
+    variables.append(name, more)?;
+    Ok(value)
+}
+
+// The same, where a missing one counts as empty.
+fn add(variables: &mut Vars, name: &Txt, more: Txt, limits: &Limits) -> Result<Txt, Interrupt>
+    ensures value { GivesSo (λ t. (t, variables.new)) result (adds limits.now name.now more variables.old) }
+    ensures err { OnErr result (variables.new ≡ variables.old) }
+{
+    if has_value(variables, name)? {
+        let more = Suffix::of(more);
+        let value = lengthen(variables, name, &more, limits)?;
+        return Ok(value);
+    }
+    let value = store(variables, name, more, limits)?;
+    Ok(value)
+}
+
+// Adds texts at the end of a text.
+fn push_all(text: &mut Txt, more: &[Txt]) -> Result<(), AllocError>
+    ensures { OnOk result (text.new ≡ text.old ++ flat more.now) }
+{
+    for next in more {
+        text.append(next)?;
+    }
+    Ok(())
+}
+
+// Texts one after the other.
+fn flat(alloc: Global, texts: &[Txt]) -> Result<Txt, AllocError>
+    ensures { IfOk result (λ t. t ≡ flat texts.now) }
+{
+    let mut text = Txt::new(alloc);
+    push_all(&mut text, texts)?;
+    Ok(text)
+}
+
+/// Puts texts behind the value of a variable or an element, where a missing one counts as empty. The new value is answered.
+pub fn add_texts(
+    alloc: Global,
+    variables: &mut Vars,
+    name: &Txt,
+    texts: &[Txt],
+    limits: &Limits,
+) -> Result<Txt, Interrupt>
+    ensures value { GivesSo (λ t. (t, variables.new)) result (adds_texts limits.now name.now texts.now variables.old) }
+    ensures err { OnErr result (variables.new ≡ variables.old) }
+{
+    let more = flat(alloc, texts)?;
+    let value = add(variables, name, more, limits)?;
+    Ok(value)
+}
+
+// Adds elements at the end of a list.
+fn push_elements(list: &mut Seq<Txt>, elements: &[Txt]) -> Result<(), AllocError>
+    ensures { OnOk result (list.new ≡ list.old ++ elements.now) }
+{
+    for element in elements {
+        list.push(element.try_clone()?)?;
+    }
+    Ok(())
+}
+
+// The list in a variable or an element, and elements behind it.
+fn list_appended(
+    alloc: Global,
+    variables: &Vars,
+    name: &Txt,
+    elements: &[Txt],
+) -> Result<ListText, Interrupt>
+    ensures { GivesSo (λ t. t) result (list_appended variables.now name.now elements.now) }
+{
+    let mut list = list_in(alloc, &value_or(Txt::new(alloc), variables, name)?)?;
+    push_elements(&mut list, elements)?;
+    Ok(ListText::of_list(alloc, list.as_slice())?)
+}
+
+/// Puts elements behind the list in a variable or an element, where a missing one counts as empty. The new value is answered.
+pub fn add_elements(
+    alloc: Global,
+    variables: &mut Vars,
+    name: &Txt,
+    elements: &[Txt],
+    limits: &Limits,
+) -> Result<Txt, Interrupt>
+    ensures value { GivesSo (λ t. (t, variables.new)) result (adds_elements limits.now name.now elements.now variables.old) }
+    ensures err { OnErr result (variables.new ≡ variables.old) }
+{
+    if variables.takes_elements(name) {
+        let more = Suffix::of_elements(alloc, elements)?;
+        let value = lengthen(variables, name, &more, limits)?;
+        return Ok(value);
+    }
+    let list = list_appended(alloc, variables, name, elements)?;
+    let value = store_list(variables, name, list, limits)?;
+    Ok(value)
+}

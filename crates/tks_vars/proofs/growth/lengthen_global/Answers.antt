@@ -1,0 +1,12 @@
+use Rattle.std.proofs.Common.{Some}
+use Rattle.tks_share.specs.Maps.{IsChangedIn}
+use Rattle.tks_vars.specs.Growth.{ChangesSo, lengthened}
+use Rattle.tks_vars.specs.Meets.{index_seen}
+use Rattle.tks_vars.proofs.Growing.{told, kept}
+use Rattle.tks_vars.proofs.growth.lengthen_global.Goals as goal
+
+pub returns-in-Some-clause-err : goal.returns-in-Some-clause-err
+returns-in-Some-clause-err c =
+    kept c.args.name.now (λ before. lengthened (Some before) (index_seen c.args.part.index) c.args.more.now) c.args.part.variable.now c.args.globals.now c.change.new.self c.in-Some.answer
+    (told (λ answer. IsChangedIn (λ before. ChangesSo c.args.name.now (lengthened (Some before) (index_seen c.args.part.index) c.args.more.now) before) c.args.part.variable.now c.args.globals.now c.change.new.self answer)
+    c.in_ok-answer.field-0 c.in-Some.answer c.in-Some.is c.in_ok-answer.ensures.some)

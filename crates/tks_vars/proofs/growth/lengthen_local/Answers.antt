@@ -1,0 +1,11 @@
+use Rattle.tks_share.specs.Maps.{IsChangedIn}
+use Rattle.tks_vars.specs.Growth.{ChangesSo, local_lengthened}
+use Rattle.tks_vars.specs.Meets.{index_seen}
+use Rattle.tks_vars.proofs.Growing.{told, kept}
+use Rattle.tks_vars.proofs.growth.lengthen_local.Goals as goal
+
+pub returns-in-Some-clause-err : goal.returns-in-Some-clause-err
+returns-in-Some-clause-err c =
+    kept c.args.name.now (λ before. local_lengthened before (index_seen c.args.part.index) c.args.more.now) c.args.part.variable.now c.args.frame.now c.change.new.self c.in-Some.answer
+    (told (λ answer. IsChangedIn (λ before. ChangesSo c.args.name.now (local_lengthened before (index_seen c.args.part.index) c.args.more.now) before) c.args.part.variable.now c.args.frame.now c.change.new.self answer)
+    c.in_ok-answer.field-0 c.in-Some.answer c.in-Some.is c.in_ok-answer.ensures.some)
