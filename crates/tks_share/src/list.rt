@@ -94,13 +94,24 @@ impl<T: Drop> SharedList<T> {
         places::set(&mut self.tree, index, item)
     }
 
+    /// The list of those items that the closure accepts. They are held on to and not copied.
+    pub fn kept<F: Fn(&T) -> bool>(&self, keep: F) -> Result<SharedList<T>, AllocError>
+        requires { F.IsAlwaysCallable keep }
+        ensures { IfOk result (λ l. (p : T → Bool) → Says (F.post keep) p → l ≡ filter p self.now) }
+    {
+        Ok(SharedList {
+            alloc: self.alloc,
+            tree: places::kept(&self.tree, self.alloc, &keep)?,
+        })
+    }
+
     /// Takes out the items that the closure doesn't accept. The others are held on to and not copied.
     pub fn retain<F: Fn(&T) -> bool>(&mut self, keep: F) -> Result<(), AllocError>
         requires { F.IsAlwaysCallable keep }
         ensures ok { OnOk result ((p : T → Bool) → Says (F.post keep) p → self.new ≡ filter p self.old) }
         ensures err { OnErr result (self.new ≡ self.old) }
     {
-        self.tree = places::kept(&self.tree, self.alloc, &keep)?;
+        *self = self.kept(keep)?;
         Ok(())
     }
 

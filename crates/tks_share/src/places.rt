@@ -12,12 +12,6 @@ use crate::tree::{Tree, balance, forked, outweighs};
 use std::alloc::{AllocError, Global};
 use std::rc::Rc;
 
-impl<T: Drop> Held for Shared<T> {
-    fn share(&self) -> Result<Shared<T>, AllocError> {
-        Shared::share(self)
-    }
-}
-
 /// The item at an index.
 pub(crate) fn at<E>(tree: &Tree<E>, index: usize) -> Option<&E>
     ensures { Fits tree.now → option_copied result ≡ slice_get tree.now index }
