@@ -4,7 +4,8 @@ use Rattle.std.specs.Ordering.{is_lt, ordering_reverse}
 use Rattle.std.specs.Cmp.{tied_itself}
 use Rattle.std.specs.Cmp.Lexicographic.{nat_list_cmp_total}
 use Rattle.std.specs.FinMap.Entries.{is_sorted, below_all}
-use Rattle.tks_share.specs.Names.{order, behind, front}
+use Rattle.tks_share.specs.Names.{order, behind}
+use Rattle.tks_share.specs.Tree.{front}
 use Rattle.tks_share.specs.Maps.{rest_of}
 use Rattle.tks_share.proofs.Sides.{first, second, less, later_under, under_less}
 

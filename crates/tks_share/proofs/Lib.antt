@@ -2,3 +2,4 @@ pub mod Sides
 pub mod AtFork
 pub mod Mapped
 pub mod Going
+pub mod AtPlace

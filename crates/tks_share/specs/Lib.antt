@@ -3,3 +3,4 @@ pub mod Tree
 pub mod Falls
 pub mod Lending
 pub mod Maps
+pub mod Lists

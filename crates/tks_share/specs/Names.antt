@@ -1,5 +1,5 @@
 -- Names in the order of their bytes, and entries under them.
-use Rattle.std.specs.Prelude.{◌≡◌, ℕ, not, List, [], ◌∷◌, Option, Some, None}
+use Rattle.std.specs.Prelude.{◌≡◌, ℕ, not, List, Some}
 use Rattle.std.specs.declared.cmp.Ordering.{Ordering}
 use Rattle.std.specs.Ordering.{nat_cmp, eq_by_cmp, is_lt}
 use Rattle.std.specs.Cmp.Lexicographic.{slice_cmp}
@@ -17,11 +17,6 @@ module _ {V : Type 0} where
   -- those whose names come behind this one
   abbrev pub behind : List ℕ → List (List ℕ × V) → List (List ℕ × V)
   behind name = where_key order (λ other. is_lt (order name other))
-
-  -- the first of them, if there is one
-  abbrev pub front : List (List ℕ × V) → Option (List ℕ × V)
-  front [] = None
-  front (e ∷ es) = Some e
 
 -- the value that was found under a name was changed, the change gave this answer, and nothing else is new
 pub record IsChanged {V A : Type 0} (gives : V → V → A → Type 0) (name : List ℕ) (old new : List (List ℕ × V)) (answer : A) : Type 0 where

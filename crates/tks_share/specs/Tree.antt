@@ -1,22 +1,32 @@
--- A tree as data: its entries in order.
-use Rattle.std.specs.Prelude.{ℕ, List, [], ◌∷◌, ◌++◌, Option, Some, None, option_map}
-use Rattle.std.specs.Borrow.{Bor}
+-- A tree as data: its items in order.
+use Rattle.std.specs.Prelude.{◌≡◌, ⊤, ℕ, ◌-◌, ◌^◌, min, List, [], ◌∷◌, ◌++◌, length, Option, Some, None}
 use Rattle.std.specs.declared.rc.Rc.{Rc}
-use Rattle.tks_share.specs.declared.tree.Entry.{Entry}
 use Rattle.tks_share.specs.declared.tree.Fork.{Fork}
 
-module _ {V : Type 0} where
-  abbrev pub pair : Entry V → List ℕ × V
-  pair entry = (entry.name, entry.value)
+module _ {X : Type 0} where
+  -- how many there are, as a number of 64 bits tells it
+  abbrev pub counted : List X → ℕ
+  counted xs = min (length xs) (2 ^ 64 - 1)
 
-  abbrev pub pair_told : Option (Bor (Entry V)) → Option (List ℕ × V)
-  pair_told told = option_map (λ e. pair e.now) told
+  -- the first of them, if there is one
+  abbrev pub front : List X → Option X
+  front [] = None
+  front (x ∷ xs) = Some x
 
-  -- those before the fork's entry, that entry, and those behind it
-  abbrev pub entries_at : Fork V → List (List ℕ × V)
-  entries_at fork = fork.left ++ (fork.entry.name, fork.entry.value) ∷ fork.right
+module _ {E : Type 0} where
+  -- those before the fork's item, that item, and those behind it
+  abbrev pub items_at : Fork E → List E
+  items_at fork = fork.left ++ fork.item ∷ fork.right
 
-module _ {V Z : Type 0} where
-  abbrev pub entries_of : Option (Rc (Fork V) Z) → List (List ℕ × V)
-  entries_of None = []
-  entries_of (Some root) = entries_at root.value
+  -- the fork tells how many items it has
+  abbrev pub Weighed : Fork E → Type 0
+  Weighed fork = fork.count ≡ counted (items_at fork)
+
+module _ {E Z : Type 0} where
+  abbrev pub items_of : Option (Rc (Fork E) Z) → List E
+  items_of None = []
+  items_of (Some root) = items_at root.value
+
+  abbrev pub RootWeighed : Option (Rc (Fork E) Z) → Type 0
+  RootWeighed None = ⊤
+  RootWeighed (Some root) = Weighed root.value

@@ -4,36 +4,36 @@ ghost use Rattle.std.specs.FinMap.Entries.{is_sorted};
 ghost use Rattle.tks_share.specs.Names.{order};
 ghost use Rattle.tks_share.specs.Maps.{entry_seen};
 
-use crate::tree::{Entry, Tree};
+use crate::names::{self, Entry};
+use crate::tree::Tree;
 use std::marker::Model;
 
 /// The entries of a map that are still to come, in the names' order.
 #[derive(Drop)]
 pub struct Iter<'a, V> {
-    tree: &'a Tree<V>,
+    tree: &'a Tree<Entry<V>>,
     next: Option<&'a Entry<V>>,
 }
 
 impl<'a, V> Model for Iter<'a, V> {
-    ghost use Rattle.std.specs.Prelude.{List, ℕ, T};
+    ghost use Rattle.std.specs.Prelude.{List, ℕ, T, option_copied};
     ghost use Rattle.std.specs.FinMap.Entries.{is_sorted};
     ghost use Rattle.std.specs.Coded.{coded_list, coded_ℕ, coded×};
     ghost use Rattle.tks_share.specs.Names.{order};
-    ghost use Rattle.tks_share.specs.Tree.{pair_told};
     ghost use Rattle.tks_share.specs.Maps.{rest_of};
 
     ghost Value = { List (List ℕ × V) };
 
     ghost coded = { coded_list (coded× (coded_list coded_ℕ) V.code) };
 
-    ghost view = { λ i. rest_of i.tree.now (pair_told i.next) };
+    ghost view = { λ i. rest_of i.tree.now (option_copied i.next) };
 
     ghost invariant = { λ i. T (is_sorted order i.tree.now) };
 }
 
 impl<'a, V: Drop> Iter<'a, V> {
     // The entries of a tree.
-    pub(crate) fn of(tree: &'a Tree<V>) -> Iter<'a, V>
+    pub(crate) fn of(tree: &'a Tree<Entry<V>>) -> Iter<'a, V>
         requires { T (is_sorted order tree.now) }
         ensures { result ≡ tree.now }
     {
@@ -55,8 +55,8 @@ impl<'a, V: Drop> Iterator for Iter<'a, V> {
         let Some(entry) = self.next else {
             return None;
         };
-        let name = entry.name.get().as_bytes();
-        self.next = self.tree.after(name);
-        Some((name, entry.value.get()))
+        let name = entry.0.get().as_bytes();
+        self.next = names::after(self.tree, name);
+        Some((name, entry.1.get()))
     }
 }

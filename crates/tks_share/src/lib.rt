@@ -1,17 +1,26 @@
-//! An ordered map whose copies share what they have in common: a copy costs next to nothing, and a change copies one path.
+//! A map and a list whose copies share what they have in common: a copy costs next to nothing, and a change copies one path.
 #![tactic(auto)]
 
 mod change;
 mod copied;
+mod held;
+mod items;
 mod iter;
+mod list;
 mod map;
 mod name;
+mod names;
+mod numbered;
+mod places;
 mod shared;
 mod tree;
 
 pub use change::Change;
 pub use copied::Copied;
+pub use items::Items;
 pub use iter::Iter;
+pub use list::SharedList;
 pub use map::SharedMap;
 pub use name::Name;
+pub use numbered::Numbered;
 pub use shared::Shared;

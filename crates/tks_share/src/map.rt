@@ -4,6 +4,7 @@ ghost use Rattle.std.specs.FinMap as map;
 use crate::change::Change;
 use crate::copied::Copied;
 use crate::iter::Iter;
+use crate::names::{self, Entry};
 use crate::shared::Shared;
 use crate::tree::Tree;
 use std::alloc::{AllocError, Global};
@@ -15,7 +16,7 @@ use std::marker::Model;
 pub struct SharedMap<V> {
     alloc: Global,
     len: usize,
-    tree: Tree<V>,
+    tree: Tree<Entry<V>>,
 }
 
 impl<V> Model for SharedMap<V> {
@@ -75,7 +76,7 @@ impl<V: Drop> SharedMap<V> {
     pub fn get(&self, name: &[u8]) -> Option<&V>
         ensures { option_copied result ≡ map.get self.now name.now }
     {
-        self.tree.get(name)
+        names::get(&self.tree, name)
     }
 
     /// Puts a value under a name, in the place of the one that is there.
@@ -85,7 +86,7 @@ impl<V: Drop> SharedMap<V> {
     {
         let len = self.len_with(name)?;
         let value = Shared::new(self.alloc, value)?;
-        self.tree.insert(self.alloc, name, value)?;
+        names::insert(&mut self.tree, self.alloc, name, value)?;
         self.len = len;
         Ok(())
     }
@@ -111,7 +112,7 @@ impl<V: Drop> SharedMap<V> {
         if !self.contains(name) {
             return Ok(());
         }
-        self.tree.remove(name)?;
+        names::remove(&mut self.tree, name)?;
         self.len -= 1;
         Ok(())
     }
@@ -138,7 +139,7 @@ impl<V: Copied> SharedMap<V> {
         ensures none { IfOk result (λ o. IfNone o ((self.new ≡ self.old) × (map.get self.old name.now ≡ None))) }
         ensures err { OnErr result (self.new ≡ self.old) }
     {
-        self.tree.change(self.alloc, name, change)
+        names::change(&mut self.tree, self.alloc, name, change)
     }
 }
 

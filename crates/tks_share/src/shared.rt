@@ -1,6 +1,7 @@
 ghost use Rattle.std.specs.Prelude.{◌≡◌, IfOk};
 
 use crate::copied::Copied;
+use crate::held::Held;
 use std::alloc::{AllocError, Global};
 use std::marker::Model;
 use std::rc::Rc;
@@ -42,6 +43,12 @@ impl<T: Drop> Shared<T> {
         Ok(Shared {
             inner: self.inner.clone()?,
         })
+    }
+}
+
+impl<T: Drop> Held for Shared<T> {
+    fn share(&self) -> Result<Shared<T>, AllocError> {
+        Shared::share(self)
     }
 }
 

@@ -8,11 +8,11 @@ invariant_of-self-2 g c =
     let es = c.self.inside.tree in
     let m = c.args.self.now in
     let put = c.in_ok-insert.ensures.ok c.self.invariant.0 in (
-      sorted_put es m c.self.view_is c.self.invariant.0 c.args.name.now c.insert.new.self c.in_ok-value.value put,
-      c.in_ok-len.ensures c.in_ok-value.value ∙ counted_put es m c.self.view_is c.self.invariant.0 c.args.name.now c.insert.new.self c.in_ok-value.value put,
+      sorted_put es m c.self.view_is c.self.invariant.0 c.args.name.now c.insert.new.tree c.in_ok-value.value put,
+      c.in_ok-len.ensures c.in_ok-value.value ∙ counted_put es m c.self.view_is c.self.invariant.0 c.args.name.now c.insert.new.tree c.in_ok-value.value put,
     )
 
 pub returns-clause-ok : goal.returns-clause-ok
 returns-clause-ok g c =
-    inserted c.self.inside.tree c.args.self.now c.self.view_is c.self.invariant.0 c.args.name.now c.insert.new.self c.in_ok-value.value (c.in_ok-insert.ensures.ok c.self.invariant.0)
+    inserted c.self.inside.tree c.args.self.now c.self.view_is c.self.invariant.0 c.args.name.now c.insert.new.tree c.in_ok-value.value (c.in_ok-insert.ensures.ok c.self.invariant.0)
     ∙ ap (fin.insert c.args.self.now c.args.name.now) c.in_ok-value.ensures

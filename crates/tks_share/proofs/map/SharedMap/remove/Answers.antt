@@ -11,17 +11,17 @@ returns-then-not-contains-clause-ok g c =
 pub overflow_sub-self : goal.overflow_sub-self
 overflow_sub-self g c =
     let there : fin.contains_key c.args.self.now c.args.name.now ≡ true = search rules in
-    let fewer = one_fewer c.self.inside.tree c.args.self.now c.self.view_is c.self.invariant.0 c.args.name.now c.remove.new.self c.self.inside.len c.self.invariant.1 there (c.in_ok-remove.ensures.ok c.self.invariant.0) in
+    let fewer = one_fewer c.self.inside.tree c.args.self.now c.self.view_is c.self.invariant.0 c.args.name.now c.remove.new.tree c.self.inside.len c.self.invariant.1 there (c.in_ok-remove.ensures.ok c.self.invariant.0) in
     omega (arith, fewer.0)
 
 pub invariant_of-self-2 : goal.invariant_of-self-2
 invariant_of-self-2 g c =
     let there : fin.contains_key c.args.self.now c.args.name.now ≡ true = search rules in
     let out = c.in_ok-remove.ensures.ok c.self.invariant.0 in (
-      sorted_out c.self.inside.tree c.args.self.now c.self.view_is c.self.invariant.0 c.args.name.now c.remove.new.self out,
-      (one_fewer c.self.inside.tree c.args.self.now c.self.view_is c.self.invariant.0 c.args.name.now c.remove.new.self c.self.inside.len c.self.invariant.1 there out).1,
+      sorted_out c.self.inside.tree c.args.self.now c.self.view_is c.self.invariant.0 c.args.name.now c.remove.new.tree out,
+      (one_fewer c.self.inside.tree c.args.self.now c.self.view_is c.self.invariant.0 c.args.name.now c.remove.new.tree c.self.inside.len c.self.invariant.1 there out).1,
     )
 
 pub returns-clause-ok : goal.returns-clause-ok
 returns-clause-ok g c =
-    removed c.self.inside.tree c.args.self.now c.self.view_is c.self.invariant.0 c.args.name.now c.remove.new.self (c.in_ok-remove.ensures.ok c.self.invariant.0)
+    removed c.self.inside.tree c.args.self.now c.self.view_is c.self.invariant.0 c.args.name.now c.remove.new.tree (c.in_ok-remove.ensures.ok c.self.invariant.0)

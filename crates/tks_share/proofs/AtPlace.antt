@@ -1,0 +1,218 @@
+-- Places in a list, on either side of an item and at it.
+use Rattle.std.proofs.Common.{◌≡◌, ℕ, zero, suc, ◌+◌, ◌-◌, ◌<◌, ◌≤◌, ◌==◌, Bool, true, false, cond, List, [], ◌∷◌, ◌++◌, length, Option, Some, None, refl, sym, ap, ◌∙◌, arith, length-append}
+use Rattle.std.specs.Prelude.{slice_get, slice_set, drop}
+use Rattle.std.specs.List.{filter, position, position_from}
+use Rattle.std.specs.Option.{option_map}
+use Rattle.std.proofs.Math.Nat.{min-eq_left}
+use Rattle.std.proofs.Math.Seq.{set-append_seam}
+use Rattle.std.proofs.lemmas.Bool.{ne_eqb, eq-eqb, eqb-true}
+use Rattle.std.proofs.lemmas.List.Elements.{filter-append}
+use Rattle.std.proofs.lemmas.List.{set-append_left, set-append_right}
+use Rattle.std.proofs.lemmas.Iterator.Adapters.{position_from-zero}
+use Rattle.tks_share.specs.Tree.{counted}
+use Rattle.tks_share.specs.Lists.{Fits, Rises}
+
+module _ {X : Type 0} where
+  pub whole : (xs : List X) → Fits xs → counted xs ≡ length xs
+  whole xs fits = min-eq_left fits
+
+  -- what is still to come from an item on
+  pub from_item : (xs : List X) (i : ℕ) (x : X) → slice_get xs i ≡ Some x → drop i xs ≡ x ∷ drop (i + 1) xs
+  from_item [] i x is = cc
+  from_item (y ∷ xs) zero x is = ap (λ z. z ∷ xs) (same y x is) where
+    same : (a b : X) → Some a ≡ Some b → a ≡ b
+    same a b p = cc
+  from_item (y ∷ xs) (suc i) x is = from_item xs i x is ∙ ap (λ n. x ∷ drop n (y ∷ xs)) next where
+    next : suc (i + 1) ≡ suc i + 1
+    next = omega arith
+
+  pub from_end : (xs : List X) (i : ℕ) → slice_get xs i ≡ None → drop i xs ≡ []
+  from_end [] zero is = refl
+  from_end [] (suc i) is = refl
+  from_end (y ∷ xs) zero is = cc
+  from_end (y ∷ xs) (suc i) is = from_end xs i is
+
+  get_left : (l m : List X) (i : ℕ) → i < length l → slice_get (l ++ m) i ≡ slice_get l i
+  get_left [] m i h = absurd (omega (arith, h))
+  get_left (x ∷ l) m zero h = refl
+  get_left (x ∷ l) m (suc i) h = get_left l m i (omega (arith, h))
+
+  get_right : (l m : List X) (i : ℕ) → length l ≤ i → slice_get (l ++ m) i ≡ slice_get m (i - length l)
+  get_right [] m i h = ap (slice_get m) (omega arith)
+  get_right (x ∷ l) m zero h = absurd (omega (arith, h))
+  get_right (x ∷ l) m (suc i) h = get_right l m i (omega (arith, h)) ∙ ap (slice_get m) (omega arith)
+
+module _ {X : Type 0} (l : List X) (x : X) (r es : List X) (is : es ≡ l ++ x ∷ r) (fits : Fits es) where
+  all : length es ≡ length l + (1 + length r)
+  all = omega (arith, ap length is, length-append l (x ∷ r))
+
+  pub fits_left : Fits l
+  fits_left = omega (arith, all, fits)
+
+  pub fits_right : Fits r
+  fits_right = omega (arith, all, fits)
+
+  module _ (i place : ℕ) (here : place ≡ counted l) where
+    at_length : place ≡ length l
+    at_length = here ∙ whole l fits_left
+
+    right_suc : place ≤ i → (i ≡ place → ⊥) → i - length l ≡ suc (i - place - 1)
+    right_suc h apart = omega (arith, h, at_length, differ) where
+      differ : place < i
+      differ = elim (Rattle.std.proofs.lemmas.Bool.cases_lt place i) [
+        | Rattle.std.proofs.Common.inl less ↦ less
+        | Rattle.std.proofs.Common.inr more ↦ absurd (apart (omega (arith, h, more)))
+      ]
+
+    pub got_left : i < place → slice_get es i ≡ slice_get l i
+    got_left h = ap (λ t. slice_get t i) is ∙ get_left l (x ∷ r) i (omega (arith, h, at_length))
+
+    pub got_right : place ≤ i → (i ≡ place → ⊥) → slice_get es i ≡ slice_get r (i - place - 1)
+    got_right h apart = ap (λ t. slice_get t i) is ∙ get_right l (x ∷ r) i (omega (arith, h, at_length)) ∙ ap (slice_get (x ∷ r)) (right_suc h apart)
+
+    pub got_here : i ≡ place → slice_get es i ≡ Some x
+    got_here e = ap (λ t. slice_get t i) is ∙ get_right l (x ∷ r) i (omega (arith, e, at_length)) ∙ ap (slice_get (x ∷ r)) zeroth where
+      zeroth : i - length l ≡ zero
+      zeroth = omega (arith, e, at_length)
+
+    module _ (y : X) where
+      pub set_left : i < place → (left : List X) → left ≡ slice_set l i y → left ++ x ∷ r ≡ slice_set es i y
+      set_left h left e = ap (λ t. t ++ x ∷ r) e ∙ sym (set-append_left l (x ∷ r) i y (omega (arith, h, at_length))) ∙ ap (λ t. slice_set t i y) (sym is)
+
+      pub set_here : i ≡ place → l ++ y ∷ r ≡ slice_set es i y
+      set_here e = sym (set-append_seam l x r y) ∙ ap (λ n. slice_set (l ++ x ∷ r) n y) (sym (e ∙ at_length)) ∙ ap (λ t. slice_set t i y) (sym is)
+
+      pub set_right : place ≤ i → (i ≡ place → ⊥) → (right : List X) → right ≡ slice_set r (i - place - 1) y → l ++ x ∷ right ≡ slice_set es i y
+      set_right h apart right e =
+          ap (λ t. l ++ x ∷ t) e
+          ∙ ap (λ n. l ++ slice_set (x ∷ r) n y) (sym (right_suc h apart))
+          ∙ sym (set-append_right l (x ∷ r) (length l) i y refl (omega (arith, h, at_length)))
+          ∙ ap (λ t. slice_set t i y) (sym is)
+
+-- where the item of a number stands
+module _ {X : Type 0} (number : X → ℕ) where
+  rises_left : (low : ℕ) (l m : List X) → Rises number low (l ++ m) → Rises number low l
+  rises_left low [] m r = tt
+  rises_left low (y ∷ l) m r = (r.0, rises_left (number y + 1) l m r.1)
+
+  rises_right : (low : ℕ) (l : List X) (x : X) (m : List X) → Rises number low (l ++ x ∷ m) → Rises number (number x + 1) m
+  rises_right low [] x m r = r.1
+  rises_right low (y ∷ l) x m r = rises_right (number y + 1) l x m r.1
+
+  reached : (low : ℕ) (l : List X) (x : X) (m : List X) → Rises number low (l ++ x ∷ m) → low ≤ number x
+  reached low [] x m r = r.0
+  reached low (y ∷ l) x m r = omega (arith, r.0, reached (number y + 1) l x m r.1)
+
+  module _ (n : ℕ) where
+    abbrev is_it : X → Bool
+    is_it x = number x == n
+
+    abbrev NoneHas : List X → Type 0
+    NoneHas [] = Unit {0}
+    NoneHas (y ∷ l) = ((number y == n) ≡ false) × NoneHas l
+
+    before_has_none : (low : ℕ) (l : List X) (x : X) (m : List X) → Rises number low (l ++ x ∷ m) → number x ≤ n → NoneHas l
+    before_has_none low [] x m r h = tt
+    before_has_none low (y ∷ l) x m r h =
+        (ne_eqb (number y) n (λ e. omega (arith, e, h, reached (number y + 1) l x m r.1)), before_has_none (number y + 1) l x m r.1 h)
+
+    behind_has_none : (low : ℕ) (m : List X) → Rises number low m → n < low → NoneHas m
+    behind_has_none low [] r h = tt
+    behind_has_none low (y ∷ m) r h =
+        (ne_eqb (number y) n (λ e. omega (arith, e, h, r.0)), behind_has_none (number y + 1) m r.1 (omega (arith, h, r.0)))
+
+    past : (i : ℕ) (l m : List X) → NoneHas l → position_from is_it i (l ++ m) ≡ position_from is_it (i + length l) m
+    past i [] m h = ap (λ k. position_from is_it k m) (omega arith)
+    past i (y ∷ l) m h =
+        ap (λ b. cond b (Some i) (position_from is_it (i + 1) (l ++ m))) h.0 ∙ past (i + 1) l m h.1 ∙ ap (λ k. position_from is_it k m) (omega arith)
+
+    nowhere : (i : ℕ) (m : List X) → NoneHas m → position_from is_it i m ≡ None
+    nowhere i [] h = refl
+    nowhere i (y ∷ m) h = ap (λ b. cond b (Some i) (position_from is_it (i + 1) m)) h.0 ∙ nowhere (i + 1) m h.1
+
+    in_front : (i : ℕ) (l m : List X) → NoneHas m → position_from is_it i (l ++ m) ≡ position_from is_it i l
+    in_front i [] m h = nowhere i m h
+    in_front i (y ∷ l) m h = ap (cond (number y == n) (Some i)) (in_front (i + 1) l m h)
+
+    later : (k i : ℕ) (m : List X) → position_from is_it (k + i) m ≡ option_map (λ j. k + j) (position_from is_it i m)
+    later k i [] = refl
+    later k i (y ∷ m) =
+        elim (number y == n) as (λ b. cond b (Some (k + i)) (position_from is_it (k + i + 1) m) ≡ option_map (λ j. k + j) (cond b (Some i) (position_from is_it (i + 1) m))) [
+          | true ↦ refl
+          | false ↦ ap (λ j. position_from is_it j m) (omega arith) ∙ later k (i + 1) m
+        ]
+
+    from_zero : (m : List X) → position is_it m ≡ position_from is_it 0 m
+    from_zero m = position_from-zero is_it m
+
+    module _ (l : List X) (x : X) (r es : List X) (is : es ≡ l ++ x ∷ r) (low : ℕ) (rises : Rises number low es) where
+      split : Rises number low (l ++ x ∷ r)
+      split = Rattle.std.proofs.Common.subst (Rises number low) is rises
+
+      pub left_rises : Rises number low l
+      left_rises = rises_left low l (x ∷ r) split
+
+      pub right_rises : Rises number (number x + 1) r
+      right_rises = rises_right low l x r split
+
+      pub stands_left : n < number x → position is_it es ≡ position is_it l
+      stands_left h =
+          ap (position is_it) is ∙ from_zero (l ++ x ∷ r)
+          ∙ in_front 0 l (x ∷ r) (behind_has_none (number x) (x ∷ r) (omega arith, right_rises) h)
+          ∙ sym (from_zero l)
+
+      pub stands_here : n ≡ number x → position is_it es ≡ Some (length l)
+      stands_here e =
+          ap (position is_it) is ∙ from_zero (l ++ x ∷ r)
+          ∙ past 0 l (x ∷ r) (before_has_none low l x r split (omega (arith, e)))
+          ∙ ap (λ b. cond b (Some (0 + length l)) (position_from is_it (0 + length l + 1) r)) (eq-eqb (number x) n (sym e))
+          ∙ ap (λ k. Some k) (omega arith)
+
+      pub stands_right : number x ≤ n → (n ≡ number x → ⊥) → position is_it es ≡ option_map (λ j. length l + 1 + j) (position is_it r)
+      stands_right h apart =
+          ap (position is_it) is ∙ from_zero (l ++ x ∷ r)
+          ∙ past 0 l (x ∷ r) (before_has_none low l x r split h)
+          ∙ ap (λ b. cond b (Some (0 + length l)) (position_from is_it (0 + length l + 1) r)) (ne_eqb (number x) n (λ e. apart (sym e)))
+          ∙ ap (λ k. position_from is_it k r) (omega arith)
+          ∙ later (length l + 1) 0 r
+          ∙ ap (option_map (λ j. length l + 1 + j)) (sym (from_zero r))
+
+-- what a test lets through
+module _ {X : Type 0} (p : X → Bool) where
+  pub no_more : (xs : List X) → length (filter p xs) ≤ length xs
+  no_more [] = omega arith
+  no_more (x ∷ xs) = elim (p x) as (λ b. length (cond b (x ∷ filter p xs) (filter p xs)) ≤ suc (length xs)) [
+    | true ↦ omega (arith, no_more xs)
+    | false ↦ omega (arith, no_more xs)
+  ]
+
+  -- as many as there are are all of them
+  pub all_pass : (xs : List X) → length (filter p xs) ≡ length xs → filter p xs ≡ xs
+  all_pass [] e = refl
+  all_pass (x ∷ xs) e =
+      elim (p x) as (λ b. length (cond b (x ∷ filter p xs) (filter p xs)) ≡ suc (length xs) → cond b (x ∷ filter p xs) (filter p xs) ≡ x ∷ xs) [
+        | true ↦ λ same. ap (λ t. x ∷ t) (all_pass xs (omega (arith, same)))
+        | false ↦ λ same. absurd (omega (arith, same, no_more xs))
+      ] e
+
+  module _ (l : List X) (x : X) (r es : List X) (is : es ≡ l ++ x ∷ r) where
+    filtered : (b : Bool) → p x ≡ b → filter p es ≡ filter p l ++ cond b (x ∷ filter p r) (filter p r)
+    filtered b e = ap (filter p) is ∙ filter-append p l (x ∷ r) ∙ ap (λ b. filter p l ++ cond b (x ∷ filter p r) (filter p r)) e
+
+    pub passed_over : p x ≡ false → (left right : List X) → left ≡ filter p l → right ≡ filter p r → left ++ right ≡ filter p es
+    passed_over fails left right on_left on_right = ap (λ t. t ++ right) on_left ∙ ap (λ t. filter p l ++ t) on_right ∙ sym (filtered false fails)
+
+    pub let_through : p x ≡ true → (left right : List X) → left ≡ filter p l → right ≡ filter p r → left ++ x ∷ right ≡ filter p es
+    let_through passes left right on_left on_right = ap (λ t. t ++ x ∷ right) on_left ∙ ap (λ t. filter p l ++ x ∷ t) on_right ∙ sym (filtered true passes)
+
+    -- where as many are left on both sides as there were, all passed
+    pub unchanged : Fits es → p x ≡ true → (left right : List X) → left ≡ filter p l → right ≡ filter p r → counted left ≡ counted l → counted right ≡ counted r
+        → es ≡ filter p es
+    unchanged fits passes left right on_left on_right left_many right_many =
+        is ∙ ap (λ t. t ++ x ∷ r) (sym (kept l left (fits_left l x r es is fits) on_left left_many))
+        ∙ ap (λ t. filter p l ++ x ∷ t) (sym (kept r right (fits_right l x r es is fits) on_right right_many)) ∙ sym (filtered true passes)
+      where
+        kept : (xs now : List X) → Fits xs → now ≡ filter p xs → counted now ≡ counted xs → filter p xs ≡ xs
+        kept xs now small e many =
+            let fewer : Fits now = omega (arith, small, no_more xs, ap length e) in
+            all_pass xs (sym (ap length e) ∙ sym (whole now fewer) ∙ many ∙ whole xs small)

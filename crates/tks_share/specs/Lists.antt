@@ -1,0 +1,24 @@
+-- Lists of items, as contracts see them.
+use Rattle.std.specs.Prelude.{◌≡◌, ⊤, ℕ, ◌+◌, ◌-◌, ◌^◌, ◌≤◌, Bool, List, [], ◌∷◌, length, slice_get, slice_set, Some}
+use Rattle.std.specs.Borrow.{Bor}
+
+-- a number of 64 bits tells how many there are
+abbrev pub Fits : {X : Type 0} → List X → Type 0
+Fits xs = length xs ≤ 2 ^ 64 - 1
+
+-- the numbers of items rise, from one on
+abbrev pub Rises : {X : Type 0} → (X → ℕ) → ℕ → List X → Type 0
+Rises number low [] = ⊤
+Rises number low (x ∷ xs) = (low ≤ number x) × Rises number (number x + 1) xs
+
+-- what is said of each item is this of it
+abbrev pub Says : {X : Type 0} → (Bor X → Bool → Type 0) → (X → Bool) → Type 0
+Says says p = (x : Bor _) (b : Bool) → says x b → b ≡ p x.now
+
+-- the item at an index was changed, the change gave this answer, and nothing else is new
+pub record IsChangedAt {X A : Type 0} (gives : X → X → A → Type 0) (index : ℕ) (old new : List X) (answer : A) : Type 0 where
+  pub before : X
+  pub after : X
+  pub found : slice_get old index ≡ Some before
+  pub given : gives before after answer
+  pub now : new ≡ slice_set old index after

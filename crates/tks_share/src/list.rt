@@ -1,0 +1,158 @@
+ghost use Rattle.std.specs.Prelude.{◌≡◌, ◌++◌, [], ◌∷◌, ◌==◌, ◌<◌, Bool, length, slice_get, slice_set, position, None, IfOk, IfSome, IfNone, OnOk, OnErr, option_copied};
+ghost use Rattle.std.specs.List.{filter};
+ghost use Rattle.tks_share.specs.Lists.{Rises, Says};
+
+use crate::change::Change;
+use crate::copied::Copied;
+use crate::items::Items;
+use crate::numbered::Numbered;
+use crate::places;
+use crate::shared::Shared;
+use crate::tree::Tree;
+use std::alloc::{AllocError, Global};
+use std::marker::Model;
+
+/// A list of items by their places. Copies share what they have in common, so to make one costs next to nothing; a change costs
+/// as much as the items on one way down a balanced tree.
+#[derive(Drop)]
+pub struct SharedList<T> {
+    alloc: Global,
+    tree: Tree<Shared<T>>,
+}
+
+impl<T> Model for SharedList<T> {
+    ghost use Rattle.std.specs.Prelude.{List};
+    ghost use Rattle.std.specs.Coded.{coded_list};
+    ghost use Rattle.tks_share.specs.Lists.{Fits};
+
+    ghost Value = { List T };
+
+    ghost coded = { coded_list T.code };
+
+    ghost view = { λ l. l.tree };
+
+    ghost invariant = { λ l. Fits l.tree };
+}
+
+impl<T: Drop> SharedList<T> {
+    /// The empty list.
+    pub fn new(alloc: Global) -> SharedList<T>
+        ensures { result ≡ [] }
+    {
+        SharedList {
+            alloc,
+            tree: Tree::new(),
+        }
+    }
+
+    /// The same list, held once more. It takes no memory, whatever the list holds.
+    pub fn share(&self) -> Result<SharedList<T>, AllocError>
+        ensures { IfOk result (λ l. l ≡ self.now) }
+    {
+        Ok(SharedList {
+            alloc: self.alloc,
+            tree: self.tree.share()?,
+        })
+    }
+
+    /// How many items there are.
+    pub fn len(&self) -> usize
+        ensures { result ≡ length self.now }
+    {
+        self.tree.count()
+    }
+
+    /// The item at an index.
+    pub fn get(&self, index: usize) -> Option<&T>
+        ensures { option_copied result ≡ slice_get self.now index }
+    {
+        match places::at(&self.tree, index) {
+            None => None,
+            Some(item) => Some(item.get()),
+        }
+    }
+
+    /// Adds an item at the end.
+    pub fn push(&mut self, item: T) -> Result<(), AllocError>
+        ensures ok { OnOk result (self.new ≡ self.old ++ item ∷ []) }
+        ensures err { OnErr result (self.new ≡ self.old) }
+    {
+        if self.len() == usize::MAX {
+            return Err(AllocError);
+        }
+        let item = Shared::new(self.alloc, item)?;
+        places::put_behind(&mut self.tree, self.alloc, item, Tree::new())
+    }
+
+    /// Puts an item into the place of the one at an index.
+    pub fn set(&mut self, index: usize, item: T) -> Result<(), AllocError>
+        requires { index < length self.old }
+        ensures ok { OnOk result (self.new ≡ slice_set self.old index item) }
+        ensures err { OnErr result (self.new ≡ self.old) }
+    {
+        let item = Shared::new(self.alloc, item)?;
+        places::set(&mut self.tree, index, item)
+    }
+
+    /// The list of those items that the closure accepts. They are held on to and not copied.
+    pub fn kept<F: Fn(&T) -> bool>(&self, keep: F) -> Result<SharedList<T>, AllocError>
+        requires { F.IsAlwaysCallable keep }
+        ensures { IfOk result (λ l. (p : T → Bool) → Says (F.post keep) p → l ≡ filter p self.now) }
+    {
+        Ok(SharedList {
+            alloc: self.alloc,
+            tree: places::kept(&self.tree, self.alloc, &keep)?,
+        })
+    }
+
+    /// Takes out the items that the closure doesn't accept. The others are held on to and not copied.
+    pub fn retain<F: Fn(&T) -> bool>(&mut self, keep: F) -> Result<(), AllocError>
+        requires { F.IsAlwaysCallable keep }
+        ensures ok { OnOk result ((p : T → Bool) → Says (F.post keep) p → self.new ≡ filter p self.old) }
+        ensures err { OnErr result (self.new ≡ self.old) }
+    {
+        *self = self.kept(keep)?;
+        Ok(())
+    }
+
+    /// The items in order.
+    pub fn iter(&self) -> Items<'_, T>
+        ensures { result ≡ self.now }
+    {
+        Items::of(&self.tree)
+    }
+}
+
+impl<T: Copied> SharedList<T> {
+    ghost use Rattle.tks_share.specs.Lists.{IsChangedAt};
+
+    /// Changes the item at an index where it stands, if there is one. One that other lists hold too is copied first, and they
+    /// keep theirs.
+    pub fn change<C: Change<T>>(
+        &mut self,
+        index: usize,
+        change: &mut C,
+    ) -> Result<Option<C::Answer>, AllocError>
+        ensures some { IfOk result (λ o. IfSome o (λ answer. IsChangedAt (C.gives change.old) index self.old self.new answer)) }
+        ensures none { IfOk result (λ o. IfNone o ((self.new ≡ self.old) × (slice_get self.old index ≡ None))) }
+        ensures err { OnErr result (self.new ≡ self.old) }
+    {
+        places::change(&mut self.tree, self.alloc, index, change)
+    }
+}
+
+impl<T: Numbered> SharedList<T> {
+    /// The place of the item of a number. Numbers must rise.
+    pub fn place_of(&self, number: u64) -> Option<usize>
+        requires { Rises T.number_of 0 self.now }
+        ensures { result ≡ position (λ x. T.number_of x == number) self.now }
+    {
+        places::place_of(&self.tree, number)
+    }
+}
+
+impl<T: Drop> Copied for SharedList<T> {
+    fn copied(&self, _alloc: Global) -> Result<SharedList<T>, AllocError> {
+        self.share()
+    }
+}

@@ -1,0 +1,208 @@
+//! Items by their places, in a tree.
+ghost use Rattle.std.specs.Prelude.{◌≡◌, ◌∷◌, ◌++◌, ◌==◌, ◌<◌, ◌≤◌, ℕ, Bool, length, slice_get, slice_set, position, None, IfOk, IfSome, IfNone, OnOk, OnErr, option_copied};
+ghost use Rattle.std.specs.List.{filter};
+ghost use Rattle.tks_share.specs.Lists.{Fits, Rises, Says, IsChangedAt};
+
+use crate::change::Change;
+use crate::copied::Copied;
+use crate::held::Held;
+use crate::numbered::Numbered;
+use crate::shared::Shared;
+use crate::tree::{Tree, balance, forked, outweighs};
+use std::alloc::{AllocError, Global};
+use std::rc::Rc;
+
+/// The item at an index.
+pub(crate) fn at<E>(tree: &Tree<E>, index: usize) -> Option<&E>
+    ensures { Fits tree.now → option_copied result ≡ slice_get tree.now index }
+{
+    match &tree.root {
+        None => None,
+        Some(root) => {
+            let fork = root.as_ref();
+            let place = fork.left.count();
+            if index < place {
+                at(&fork.left, index)
+            } else if index == place {
+                Some(&fork.item)
+            } else {
+                at(&fork.right, index - place - 1)
+            }
+        }
+    }
+}
+
+/// Puts an item into the place of the one at an index.
+pub(crate) fn set<E: Held>(tree: &mut Tree<E>, index: usize, item: E) -> Result<(), AllocError>
+    ensures ok { OnOk result (Fits tree.old → tree.new ≡ slice_set tree.old index item) }
+    ensures err { OnErr result (tree.new ≡ tree.old) }
+    ensures count { length tree.new ≡ length tree.old }
+{
+    let Some(root) = &mut tree.root else {
+        return Ok(());
+    };
+    let fork = Rc::make_mut(root)?;
+    let place = fork.left.count();
+    if index < place {
+        set(&mut fork.left, index, item)
+    } else if index == place {
+        fork.item = item;
+        Ok(())
+    } else {
+        set(&mut fork.right, index - place - 1, item)
+    }
+}
+
+/// Changes the item at an index where it stands. One that others hold too is copied first.
+pub(crate) fn change<T: Copied, C: Change<T>>(
+    tree: &mut Tree<Shared<T>>,
+    alloc: Global,
+    index: usize,
+    change: &mut C,
+) -> Result<Option<C::Answer>, AllocError>
+    ensures some { IfOk result (λ o. IfSome o (λ answer. Fits tree.old → IsChangedAt (C.gives change.old) index tree.old tree.new answer)) }
+    ensures none { IfOk result (λ o. IfNone o ((tree.new ≡ tree.old) × (Fits tree.old → slice_get tree.old index ≡ None))) }
+    ensures err { OnErr result (tree.new ≡ tree.old) }
+    ensures count { length tree.new ≡ length tree.old }
+{
+    let Some(root) = &mut tree.root else {
+        return Ok(None);
+    };
+    let fork = Rc::make_mut(root)?;
+    let place = fork.left.count();
+    if index < place {
+        self::change(&mut fork.left, alloc, index, change)
+    } else if index == place {
+        let item = fork.item.get_mut(alloc)?;
+        let answer = change.change(item);
+        Ok(Some(answer))
+    } else {
+        self::change(&mut fork.right, alloc, index - place - 1, change)
+    }
+}
+
+/// Adds an item at the end, and those of another tree behind it.
+pub(crate) fn put_behind<E: Held>(
+    tree: &mut Tree<E>,
+    alloc: Global,
+    item: E,
+    behind: Tree<E>,
+) -> Result<(), AllocError>
+    ensures ok { OnOk result (tree.new ≡ tree.old ++ item ∷ behind) }
+    ensures err { OnErr result (tree.new ≡ tree.old) }
+{
+    let is_heavy = outweighs(tree, &behind);
+    if let Some(root) = &mut tree.root {
+        if is_heavy {
+            let fork = Rc::make_mut(root)?;
+            put_behind(&mut fork.right, alloc, item, behind)?;
+            balance(fork);
+            return Ok(());
+        }
+    }
+    *tree = forked(alloc, tree.share()?, item, behind)?;
+    Ok(())
+}
+
+// Adds an item at the front, and those of another tree before it.
+fn put_before<E: Held>(
+    tree: &mut Tree<E>,
+    alloc: Global,
+    before: Tree<E>,
+    item: E,
+) -> Result<(), AllocError>
+    ensures ok { OnOk result (tree.new ≡ before ++ item ∷ tree.old) }
+    ensures err { OnErr result (tree.new ≡ tree.old) }
+{
+    let is_heavy = outweighs(tree, &before);
+    if let Some(root) = &mut tree.root {
+        if is_heavy {
+            let fork = Rc::make_mut(root)?;
+            put_before(&mut fork.left, alloc, before, item)?;
+            balance(fork);
+            return Ok(());
+        }
+    }
+    *tree = forked(alloc, before, item, tree.share()?)?;
+    Ok(())
+}
+
+// Those of a tree, an item, and those of another tree.
+fn joined<E: Held>(
+    alloc: Global,
+    mut left: Tree<E>,
+    item: E,
+    mut right: Tree<E>,
+) -> Result<Tree<E>, AllocError>
+    ensures { IfOk result (λ t. t ≡ left ++ item ∷ right) }
+{
+    if outweighs(&left, &right) {
+        put_behind(&mut left, alloc, item, right)?;
+        Ok(left)
+    } else {
+        put_before(&mut right, alloc, left, item)?;
+        Ok(right)
+    }
+}
+
+// Those of a tree, and those of another.
+fn appended<E: Held>(
+    alloc: Global,
+    left: Tree<E>,
+    mut right: Tree<E>,
+) -> Result<Tree<E>, AllocError>
+    ensures { IfOk result (λ t. t ≡ left ++ right) }
+{
+    match right.pop_first()? {
+        None => Ok(left),
+        Some(item) => joined(alloc, left, item, right),
+    }
+}
+
+/// Those that a closure accepts. Where it accepts all, nothing is made.
+pub(crate) fn kept<T: Drop, F: Fn(&T) -> bool>(
+    tree: &Tree<Shared<T>>,
+    alloc: Global,
+    keep: &F,
+) -> Result<Tree<Shared<T>>, AllocError>
+    requires { F.IsAlwaysCallable keep.now }
+    ensures filtered { IfOk result (λ t. Fits tree.now → (p : T → Bool) → Says (F.post keep.now) p → t ≡ filter p tree.now) }
+    ensures fewer { IfOk result (λ t. length t ≤ length tree.now) }
+{
+    let Some(root) = &tree.root else {
+        return Ok(Tree::new());
+    };
+    let fork = root.as_ref();
+    let left = kept(&fork.left, alloc, keep)?;
+    let right = kept(&fork.right, alloc, keep)?;
+    if !keep(fork.item.get()) {
+        return appended(alloc, left, right);
+    }
+    if left.count() == fork.left.count() && right.count() == fork.right.count() {
+        return tree.share();
+    }
+    joined(alloc, left, fork.item.share()?, right)
+}
+
+/// The place of the item of a number, where numbers rise.
+pub(crate) fn place_of<T: Numbered>(tree: &Tree<Shared<T>>, number: u64) -> Option<usize>
+    requires { Fits tree.now }
+    ensures place { (low : ℕ) → Rises T.number_of low tree.now → result ≡ position (λ x. T.number_of x == number) tree.now }
+    ensures within { IfSome result (λ i. i < length tree.now) }
+{
+    match &tree.root {
+        None => None,
+        Some(root) => {
+            let fork = root.as_ref();
+            let here = fork.item.get().number();
+            if number < here {
+                place_of(&fork.left, number)
+            } else if number == here {
+                Some(fork.left.count())
+            } else {
+                let behind = place_of(&fork.right, number)?;
+                Some(fork.left.count() + 1 + behind)
+            }
+        }
+    }
+}
