@@ -8,3 +8,4 @@ mod Holding
 pub mod Restored
 pub mod Possible
 mod Looping
+mod Standing

@@ -11,3 +11,4 @@ pub mod Layout
 pub mod WellFormed
 pub mod Laws
 pub mod Restoring
+pub mod Standing

@@ -2,6 +2,9 @@ ghost use Rattle.std.specs.Prelude.{◌≡◌, ℕ, List, Some, true};
 ghost use Rattle.tks_vars.specs.Variables.{Variables};
 ghost use Rattle.tks_state.specs.Laws.{has_text, Shows};
 ghost use Rattle.tks_state.specs.Links.{link_of, seen, text_of};
+ghost use Rattle.tks_state.specs.Standing.{LaysOut, StaysWithin};
+ghost use Rattle.tks_state.specs.WellFormed.{WellFormed};
+ghost use Rattle.tks_state.specs.World.{World};
 ghost use Rattle.tks_state.specs.declared.widget.Widget.{Widget};
 
 /// A widget with a text that is linked to a global shows the global's value of the moment, whatever came before.
@@ -12,4 +15,11 @@ pub fn linked_widget_shows_its_variable()
 /// Two widgets that are linked to one global show one text.
 pub fn widgets_of_one_variable_show_one_text()
     ensures { (variables : Variables) (global : List ℕ) (v w : Widget) → has_text v ≡ true → has_text w ≡ true → link_of v ≡ Some global → link_of w ≡ Some global → text_of (seen variables v) ≡ text_of (seen variables w) }
+{}
+
+/// A window is shown just where it stands: `.` on the whole grid, any other where the packer puts it in its container, if that is
+/// shown; so its cells lie within those of its container.
+pub fn windows_are_shown_where_they_stand()
+    ensures cells { (w : World) → WellFormed w → LaysOut w }
+    ensures within { (w : World) → StaysWithin w }
 {}

@@ -15,7 +15,10 @@ mod windows;
 mod world;
 
 pub use kept::Kept;
-pub use laws::{linked_widget_shows_its_variable, widgets_of_one_variable_show_one_text};
+pub use laws::{
+    linked_widget_shows_its_variable, widgets_of_one_variable_show_one_text,
+    windows_are_shown_where_they_stand,
+};
 pub use layout::Placed;
 pub use restoring::{WindowParts, WorldParts};
 pub use widget::Widget;
