@@ -32,3 +32,28 @@ happenings_of-requires c = binding_within c.args.bytes.now c.in_ok-counts.rest.n
 pub waiting_of-requires : goal.waiting_of-requires
 unfolding counts_at
 waiting_of-requires c = timer_within c.args.bytes.now c.in_ok-counts.rest.now c.in_ok-counts.counts (λ i. omega (arith, c.type_inv.bytes i)) c.in_ok-counts.ensures
+
+pub returns-in_err-queue : goal.returns-in_err-queue
+unfolding fields_at counts_at windows_at variables_at happenings_at waiting_at ends_at
+returns-in_err-queue c =
+    let p = err_from_is_err_and c.from_residual-in_err-queue.result c.from_residual-in_err-queue.ensures.1 in
+    let e = c.in_err-queue.field-0.0 in
+    rw (p.1, p.2) (
+    fails_behind e _ (c.in_ok-counts.counts, c.in_ok-counts.rest.now) _ c.in_ok-counts.ensures (
+    fails_behind e _ (windows_seen c.in_ok-windows.windows, c.in_ok-windows.rest.now) _ c.in_ok-windows.ensures (
+    fails_behind e _ (c.in_ok-variables.variables, c.in_ok-variables.rest.now) _ c.in_ok-variables.ensures (
+    fails_behind e _ (happenings_seen c.in_ok-happenings.happenings, c.in_ok-happenings.rest.now) _ c.in_ok-happenings.ensures (
+    fails_first e _ _ c.in_err-queue.ensures.reads)))))
+
+pub returns-in_err-timers : goal.returns-in_err-timers
+unfolding fields_at counts_at windows_at variables_at happenings_at waiting_at ends_at
+returns-in_err-timers c =
+    let p = err_from_is_err_and c.from_residual-in_err-timers.result c.from_residual-in_err-timers.ensures.1 in
+    let e = c.in_err-timers.field-0.0 in
+    rw (p.1, p.2) (
+    fails_behind e _ (c.in_ok-counts.counts, c.in_ok-counts.rest.now) _ c.in_ok-counts.ensures (
+    fails_behind e _ (windows_seen c.in_ok-windows.windows, c.in_ok-windows.rest.now) _ c.in_ok-windows.ensures (
+    fails_behind e _ (c.in_ok-variables.variables, c.in_ok-variables.rest.now) _ c.in_ok-variables.ensures (
+    fails_behind e _ (happenings_seen c.in_ok-happenings.happenings, c.in_ok-happenings.rest.now) _ c.in_ok-happenings.ensures (
+    fails_behind e _ (c.in_ok-queue.queue.present, c.in_ok-queue.rest.now) _ c.in_ok-queue.ensures.reads (
+    fails_first e _ _ c.in_err-timers.ensures.reads))))))
