@@ -3,7 +3,7 @@
 use std::alloc::Global;
 use std::rt::Files;
 use std::{fs, io};
-use disk_trials::{Dice, Plain, call_agrees, reads_as};
+use tests_disk::{Dice, Plain, call_agrees, reads_as};
 use tks_disk::{Disk, FileDisk, FileDiskFault, Left, Side};
 
 const PATH: &str = "disk";

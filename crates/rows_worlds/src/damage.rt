@@ -2,7 +2,7 @@
 
 use crate::sound::{Reading, read};
 use std::alloc::Global;
-use disk_trials::Dice;
+use tests_disk::Dice;
 use tks_text::Size;
 
 /// The most bytes that are taken out or put in at once.

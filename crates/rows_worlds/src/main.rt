@@ -19,7 +19,7 @@ use std::alloc::Global;
 use std::env;
 use std::io::{Read, Write};
 use std::process::ExitCode;
-use disk_trials::Dice;
+use tests_disk::Dice;
 use tks_text::Size;
 
 /// What begins a session, behind a newline.

@@ -1,7 +1,8 @@
 //! Tests of bindings: examples as calls.
 #![tactic(auto)]
 
-#[cfg(test)]
 mod scenes;
 #[cfg(test)]
 mod tests;
+
+pub use scenes::{Keys, sequence};

@@ -1,4 +1,4 @@
-use crate::scenes::{Keys, sequence};
+use super::*;
 use std::alloc::Global;
 use tks_bind::percents;
 use tks_text::Txt;

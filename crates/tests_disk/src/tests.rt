@@ -1,4 +1,4 @@
-use disk_trials::{Dice, Plain, call_agrees, reads_as};
+use super::*;
 use std::alloc::Global;
 use tks_disk::{Disk, Fuse, Left, MemoryDisk, Side};
 
