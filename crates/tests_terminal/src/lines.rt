@@ -248,14 +248,7 @@ fn ends_with_its_writer(
 fn breaks(alloc: Global, most: usize, flushes: bool, want: &[u8]) -> Option<bool> {
     let mut session = fresh_session(alloc)?;
     let lines = b"cmd set x 5\ncmd set x 6\ncmd set x 7\n";
-    Some(ends_with_its_writer(
-        alloc,
-        &mut session,
-        lines,
-        most,
-        flushes,
-        want,
-    ))
+    Some(ends_with_its_writer(alloc, &mut session, lines, most, flushes, want))
 }
 
 #[test]
