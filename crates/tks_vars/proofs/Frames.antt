@@ -1,5 +1,5 @@
 -- Changes of the innermost frame, which the code keeps last.
-use Rattle.std.proofs.Common.{◌≡◌, ℕ, ◌+◌, ◌<◌, false, if◌then◌else◌, List, [], ◌∷◌, ◌++◌, length, drop, get_or, Option, Some, None, Result, Ok, Err, refl, sym, subst, ap, ◌∙◌, arith}
+use Rattle.std.proofs.Common.{◌≡◌, ℕ, ◌+◌, ◌-◌, ◌<◌, false, if◌then◌else◌, List, [], ◌∷◌, ◌++◌, length, drop, get_or, Option, Some, None, Result, Ok, Err, refl, sym, subst, ap, ◌∙◌, arith}
 use Rattle.std.specs.Prelude.{reverse, slice_set}
 use Rattle.std.proofs.lemmas.List.{reverse-append}
 use Rattle.std.specs.FinMap as map
@@ -30,7 +30,7 @@ module _ {A : Type 0} where
       ∙ ap (λ r. y ∷ drop 1 r) (sym (reverse-append (x ∷ []) (z ∷ xs)))
 
   -- the last item of a list, which comes first in reverse
-  pub innermost_first : (xs : List A) (k : ℕ) (d : A) → k + 1 ≡ length xs → reverse xs ≡ get_or xs k d ∷ drop 1 (reverse xs)
+  innermost_first : (xs : List A) (k : ℕ) (d : A) → k + 1 ≡ length xs → reverse xs ≡ get_or xs k d ∷ drop 1 (reverse xs)
   innermost_first [] k d e = absurd (omega arith)
   innermost_first (x ∷ xs) k d e = let same : length xs ≡ k = omega arith in subst (λ i. reverse (x ∷ xs) ≡ get_or (x ∷ xs) i d ∷ drop 1 (reverse (x ∷ xs))) same (last_first x xs d)
 
@@ -39,9 +39,24 @@ module _ {A : Type 0} where
   innermost_set (x ∷ xs) k y e = let same : length xs ≡ k = omega arith in subst (λ i. reverse (slice_set (x ∷ xs) i y) ≡ y ∷ drop 1 (reverse (x ∷ xs))) same (last_set x xs y)
 
 -- where a name is no global's there is a frame
-pub some_frame : (frames : List (Option Frame)) (variable : List ℕ) → is_global (innermost (reverse frames)) variable ≡ false → 0 < length frames
+some_frame : (frames : List (Option Frame)) (variable : List ℕ) → is_global (innermost (reverse frames)) variable ≡ false → 0 < length frames
 some_frame [] variable local = absurd cc
 some_frame (frame ∷ below) variable local = omega arith
+
+-- the last of these frames is this one, and it is the innermost one of these variables
+pub record Last (now : Variables) (globals : Map Content) (procedures : Map Procedure) (frames : List (Option Frame)) (top : ℕ) (frame : Frame) : Type 0 where
+  pub is_last : top + 1 ≡ length frames
+  pub held : now ≡ record { globals = globals; locals = Some frame ∷ drop 1 (reverse frames); procedures = procedures }
+
+module _ (now : Variables) (globals : Map Content) (procedures : Map Procedure) (frames : List (Option Frame)) (len : ℕ) (there : Option Frame) (frame : Frame) (these : record { globals = globals; locals = reverse frames; procedures = procedures } ≡ now) (all : len ≡ length frames) where
+  pub found_last : 0 < length frames → get_or frames (len - 1) there ≡ Some frame → Last now globals procedures frames (len - 1) frame
+  found_last some found =
+      let last : (len - 1) + 1 ≡ length frames = omega (arith, some, all) in
+      record { is_last = last; held = sym these ∙ ap (λ (ls : List (Option Frame)). record { globals = globals; locals = ls; procedures = procedures }) (innermost_first frames (len - 1) there last ∙ ap (λ f. f ∷ drop 1 (reverse frames)) found) }
+
+  -- a name that is no global's is looked up in it
+  pub found_own : (variable : List ℕ) → is_global (innermost now.locals) variable ≡ false → get_or frames (len - 1) there ≡ Some frame → Last now globals procedures frames (len - 1) frame
+  found_own variable local = found_last (some_frame frames variable (ap (λ (v : Variables). is_global (innermost v.locals) variable) these ∙ local))
 
 seen_own : (o : Option Local) (global : Option Content) → is_link o ≡ false → seen_through o global ≡ own o
 seen_own None global e = refl

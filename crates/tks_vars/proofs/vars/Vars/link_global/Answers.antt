@@ -1,9 +1,9 @@
-use Rattle.std.proofs.Common.{◌≡◌, ◌+◌, ◌-◌, ◌<◌, ◌∷◌, length, drop, Some, Ok, sym, ap, ◌∙◌, arith}
+use Rattle.std.proofs.Common.{◌-◌, drop, Some, Ok, sym, ap, ◌∙◌, arith}
 use Rattle.std.specs.Prelude.{reverse}
 use Rattle.std.proofs.lemmas.Bool.Decides.{nat_tests}
 use Rattle.std.proofs.lemmas.Result.{err_from_is_err_and}
 use Rattle.tks_vars.specs.Variables.{with_link}
-use Rattle.tks_vars.proofs.Frames.{innermost_first, innermost_set, holding, links}
+use Rattle.tks_vars.proofs.Frames.{found_last, innermost_set, holding, links}
 use Rattle.tks_vars.proofs.Changes.{about_after, about_failed, failed}
 use Rattle.tks_vars.proofs.vars.Vars.link_global.Goals as goal
 
@@ -12,14 +12,11 @@ returns-clause-value c =
     let items = c.self.inside.locals.items in
     let below = drop 1 (reverse items) in
     let frame = c.in-Some.frame in
-    let some : 0 < length items = grind (arith, nat_tests) in
-    let last : (c.len-top.result - 1) + 1 ≡ length items = omega arith in
+    let here = found_last c.args.self.now c.self.inside.globals c.self.inside.procedures items c.len-top.result c.index_mut.result.now frame c.self.view_is (omega arith) (grind (arith, nat_tests)) (sym c.index_mut.ensures.value ∙ c.in-Some.is) in
     let all = holding c.self.inside.globals c.self.inside.procedures below in
-    let held : c.args.self.now ≡ all frame = sym c.self.view_is
-    ∙ ap (λ ls. record { globals = c.self.inside.globals; locals = ls; procedures = c.self.inside.procedures }) (innermost_first items (c.len-top.result - 1) c.index_mut.result.now last ∙ ap (λ f. f ∷ below) (sym c.index_mut.ensures.value ∙ c.in-Some.is)) in
-    links c.self.inside.globals c.self.inside.procedures below c.args.self.now frame held c.args.name.now
+    links c.self.inside.globals c.self.inside.procedures below c.args.self.now frame here.held c.args.name.now
     ∙ about_after c.args.name.now (with_link frame c.args.name.now) all c.link.new.frame c.in_ok-link.ensures.value
-    ∙ ap (λ ls. Ok (record { globals = c.self.inside.globals; locals = ls; procedures = c.self.inside.procedures })) (sym (innermost_set items (c.len-top.result - 1) (Some c.link.new.frame) last))
+    ∙ ap (λ ls. Ok (record { globals = c.self.inside.globals; locals = ls; procedures = c.self.inside.procedures })) (sym (innermost_set items (c.len-top.result - 1) (Some c.link.new.frame) here.is_last))
 
 pub returns-in_err-link-clause-value : goal.returns-in_err-link-clause-value
 returns-in_err-link-clause-value c =
@@ -27,11 +24,8 @@ returns-in_err-link-clause-value c =
     let items = c.self.inside.locals.items in
     let below = drop 1 (reverse items) in
     let frame = c.in-Some.frame in
-    let some : 0 < length items = grind (arith, nat_tests) in
-    let last : (c.len-top.result - 1) + 1 ≡ length items = omega arith in
+    let here = found_last c.args.self.now c.self.inside.globals c.self.inside.procedures items c.len-top.result c.index_mut.result.now frame c.self.view_is (omega arith) (grind (arith, nat_tests)) (sym c.index_mut.ensures.value ∙ c.in-Some.is) in
     let all = holding c.self.inside.globals c.self.inside.procedures below in
-    let held : c.args.self.now ≡ all frame = sym c.self.view_is
-    ∙ ap (λ ls. record { globals = c.self.inside.globals; locals = ls; procedures = c.self.inside.procedures }) (innermost_first items (c.len-top.result - 1) c.index_mut.result.now last ∙ ap (λ f. f ∷ below) (sym c.index_mut.ensures.value ∙ c.in-Some.is)) in
     rw (p.1, p.2) (failed {X = Unit {0}} {X' = Unit {0}} (λ _. frame) (λ _. c.args.self.now) c.in_err-link.field-0.0 _ _ (λ fault e.
-    links c.self.inside.globals c.self.inside.procedures below c.args.self.now frame held c.args.name.now
+    links c.self.inside.globals c.self.inside.procedures below c.args.self.now frame here.held c.args.name.now
     ∙ about_failed c.args.name.now (with_link frame c.args.name.now) all fault e) c.in_err-link.ensures.value)
