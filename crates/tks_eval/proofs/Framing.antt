@@ -23,17 +23,13 @@ use Rattle.tks_tcl.specs.Plain.{plain}
 use Rattle.tks_tcl.specs.Variables.{stores}
 use Rattle.tks_tcl.proofs.Framing.{follows, follows_on, one_of, Left, stores_stay, leaves_frames}
 use Rattle.tks_eval.specs.Outcome.{Outcome, End, Stopped, Next, Level, Answer, Unknown, Comes, PassesLimit, Meaning, after_step, after, after_body, after_next, caught, appended, fails, given}
-use Rattle.tks_eval.specs.Evaluation.{element_name, with_value, words_in, foreach_form, without_frame, returned, at_global, global_does, after_script, scripts_do, plan_does, parts_do, wrong_words, text_done, and_then, made_text, value_does, expression_does, if_holds, tested, done, expr_does, script_does, branches_do, form_does, turn_does, turns, loop_does, while_does, for_does, catch_ends, catch_does, eval_does, each, foreach_does, settled, procedure_does, proc_does, control_does, host_does, plain_does, command_does, call, words_do, commands_do, evaluate}
-use Rattle.tks_eval.specs.Names.{control_named}
+use Rattle.tks_eval.specs.Evaluation.{Loop, element_name, with_value, words_in, foreach_form, without_frame, returned, at_global, global_does, after_script, scripts_do, plan_does, parts_do, wrong_words, text_done, and_then, made_text, value_does, expression_does, if_holds, tested, done, expr_does, script_does, branches_do, form_does, turn_does, turns, loop_does, while_does, for_does, catch_ends, catch_does, eval_does, each, foreach_does, settled, procedure_does, proc_does, control_does, host_does, plain_does, command_does, call, words_do, commands_do, evaluate}
+use Rattle.tks_eval.specs.Names.{Control, control_named}
+use Rattle.tks_eval.specs.Names as control
 use Rattle.tks_eval.specs.Procedures.{given_arguments, arguments, with_arguments, entered, parameters_in, defined, is_taken, proc_form}
-use Rattle.tks_eval.specs.declared.control.Control.{Control}
 use Rattle.tks_eval.specs.declared.host.Plan.{Plan}
 use Rattle.tks_eval.specs.declared.host.Plan.TheVariants as plan
-use Rattle.tks_eval.specs.declared.control.Control.TheVariants as control
-use Rattle.tks_eval.specs.declared.branches.Branches.{Branches}
-use Rattle.tks_eval.specs.declared.branches.Test.{Test}
-use Rattle.tks_eval.specs.declared.loops.Loop.{Loop}
-use Rattle.tks_eval.specs.Branches.{Condition, branches}
+use Rattle.tks_eval.specs.Branches.{Test, Branches, Condition, branches}
 use Rattle.tks_expr.specs.Tree as expr
 use Rattle.tks_expr.specs.Tree.{Expr}
 use Rattle.tks_expr.specs.Value.{told, by_condition, truth_text}

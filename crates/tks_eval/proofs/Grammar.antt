@@ -3,10 +3,8 @@ use Rattle.std.proofs.Common.{◌≡◌, ℕ, Bool, true, false, ◌||◌, if◌
 use Rattle.std.specs.Cmp.Lexicographic.{bytes_decides}
 use Rattle.std.proofs.lemmas.List.{append-nil}
 use Rattle.tks_text.specs.Text.{same_text}
-use Rattle.tks_eval.specs.Branches.{is_keyword, with_test, with_last, Place, Condition, BehindCondition, Body, BehindBody, branches}
+use Rattle.tks_eval.specs.Branches.{Test, Branches, is_keyword, with_test, with_last, Place, Condition, BehindCondition, Body, BehindBody, branches}
 use Rattle.tks_eval.specs.Grammar.{TestThen, Behind, SpellsIf, ReadsIf}
-use Rattle.tks_eval.specs.declared.branches.Branches.{Branches}
-use Rattle.tks_eval.specs.declared.branches.Test.{Test}
 
 neither : (a b c : Bool) → (a || b || c) ≡ false → (a ≡ false) × (b ≡ false) × (c ≡ false)
 neither false false false h = (refl, refl, refl)

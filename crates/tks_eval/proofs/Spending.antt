@@ -20,18 +20,14 @@ use Rattle.tks_expr.specs.Operation.{truth_of, applied, applied_unary, result_of
 use Rattle.tks_expr.specs.Reading.{expr_of}
 use Rattle.tks_expr.specs.Value.{by_condition}
 use Rattle.tks_eval.specs.Outcome.{Outcome, End, Stopped, TooLarge, Next, Level, Answer, Unknown, Comes, PassesLimit, Meaning, after_step, after, after_body, after_next, caught, appended, fails, given}
-use Rattle.tks_eval.specs.Names.{control_named}
-use Rattle.tks_eval.specs.Branches.{Condition, branches}
+use Rattle.tks_eval.specs.Names.{Control, control_named}
+use Rattle.tks_eval.specs.Names as control
+use Rattle.tks_eval.specs.Branches.{Test, Branches, Condition, branches}
 use Rattle.tks_eval.specs.Procedures.{entered, proc_form}
-use Rattle.tks_eval.specs.Evaluation.{element_name, with_value, words_in, foreach_form, text_done, and_then, done, without_frame, returned, at_global, global_does, after_script, scripts_do, plan_does, parts_do, made_text, value_does, expression_does, if_holds, after_truth, tested, wrong_words, result_told, expr_does, script_does, branches_do, form_does, behind_body, turn_does, turns, loop_does, while_does, for_does, catch_ends, catch_does, each, settled, procedure_does, control_does, host_does, plain_does, command_does, call, words_do, commands_do, evaluate}
+use Rattle.tks_eval.specs.Evaluation.{Loop, element_name, with_value, words_in, foreach_form, text_done, and_then, done, without_frame, returned, at_global, global_does, after_script, scripts_do, plan_does, parts_do, made_text, value_does, expression_does, if_holds, after_truth, tested, wrong_words, result_told, expr_does, script_does, branches_do, form_does, behind_body, turn_does, turns, loop_does, while_does, for_does, catch_ends, catch_does, each, settled, procedure_does, control_does, host_does, plain_does, command_does, call, words_do, commands_do, evaluate}
 use Rattle.tks_eval.specs.Values.{told_text, by_truth, truth_told}
-use Rattle.tks_eval.specs.declared.branches.Branches.{Branches}
-use Rattle.tks_eval.specs.declared.branches.Test.{Test}
-use Rattle.tks_eval.specs.declared.loops.Loop.{Loop}
-use Rattle.tks_eval.specs.declared.control.Control.{Control}
 use Rattle.tks_eval.specs.declared.host.Plan.{Plan}
 use Rattle.tks_eval.specs.declared.host.Plan.TheVariants as plan
-use Rattle.tks_eval.specs.declared.control.Control.TheVariants as control
 
 module _ {S : Type 0} where
   -- no more steps are left than so many

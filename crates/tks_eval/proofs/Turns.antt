@@ -6,8 +6,7 @@ use Rattle.tks_vars.specs.Variables.{Variables}
 use Rattle.tks_tcl.specs.Cause.{Cause, Fault, OverLimit, value_or_fault}
 use Rattle.tks_expr.specs.Operation.{truth_of}
 use Rattle.tks_eval.specs.Outcome.{Outcome, End, Stopped, Next, Level, after, after_body, after_next, given}
-use Rattle.tks_eval.specs.Evaluation.{if_holds, after_truth, expression_does, tested, script_does, behind_body, turn_does, turns, loop_does, done}
-use Rattle.tks_eval.specs.declared.loops.Loop.{Loop}
+use Rattle.tks_eval.specs.Evaluation.{Loop, if_holds, after_truth, expression_does, tested, script_does, behind_body, turn_does, turns, loop_does, done}
 use Rattle.tks_eval.proofs.Spending.{Spends, Thrifty, script_spends, expression_spends, optional_spends}
 
 module _ {S : Type 0} where

@@ -3,8 +3,16 @@
 -- bodies is this project's own rule.
 use Rattle.std.specs.Prelude.{ℕ, Bool, ◌||◌, if◌then◌else◌, codes, List, [], ◌∷◌, ◌++◌, Option, Some, None}
 use Rattle.tks_text.specs.Text.{same_text}
-use Rattle.tks_eval.specs.declared.branches.Branches.{Branches}
-use Rattle.tks_eval.specs.declared.branches.Test.{Test}
+
+-- a condition, and the body that runs where it is the first that holds
+pub record Test : Type 0 where
+  pub condition : List ℕ
+  pub body : List ℕ
+
+-- what an `if` may yet run: its tests, and the body for where none holds
+pub record Branches : Type 0 where
+  pub tests : List Test
+  pub otherwise : Option (List ℕ)
 
 abbrev pub is_keyword : List ℕ → Bool
 is_keyword word = same_text word (codes "then") || same_text word (codes "elseif") || same_text word (codes "else")

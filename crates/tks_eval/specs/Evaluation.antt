@@ -18,20 +18,16 @@ use Rattle.tks_tcl.specs.Plain as commands
 use Rattle.tks_tcl.specs.Plain.{plain}
 use Rattle.tks_tcl.specs.Variables.{stores}
 use Rattle.tks_eval.specs.Outcome.{Outcome, End, Stopped, TooDeep, TooLarge, OutOfSteps, Next, Level, Answer, Unknown, Comes, PassesLimit, Meaning, after_step, after, after_body, after_next, caught, appended, fails, given}
-use Rattle.tks_eval.specs.Names.{control_named}
+use Rattle.tks_eval.specs.Names.{Control, control_named}
+use Rattle.tks_eval.specs.Names as control
 use Rattle.tks_expr.specs.Tree.{Expr}
 use Rattle.tks_expr.specs.Value.{value}
 use Rattle.tks_expr.specs.Operation.{truth_of, result_of}
 use Rattle.tks_expr.specs.Reading.{expr_of}
-use Rattle.tks_eval.specs.Branches.{Condition, branches}
-use Rattle.tks_eval.specs.declared.branches.Branches.{Branches}
-use Rattle.tks_eval.specs.declared.branches.Test.{Test}
-use Rattle.tks_eval.specs.declared.loops.Loop.{Loop}
+use Rattle.tks_eval.specs.Branches.{Test, Branches, Condition, branches}
 use Rattle.tks_eval.specs.Procedures.{entered, proc_form}
-use Rattle.tks_eval.specs.declared.control.Control.{Control}
 use Rattle.tks_eval.specs.declared.host.Plan.{Plan}
 use Rattle.tks_eval.specs.declared.host.Plan.TheVariants as plan
-use Rattle.tks_eval.specs.declared.control.Control.TheVariants as control
 
 -- the name of an element
 abbrev pub element_name : List ℕ → List ℕ → List ℕ
@@ -49,6 +45,12 @@ words_in expand text = if expand then list_in text else Ok (text ∷ [])
 abbrev pub foreach_form : List ℕ → List (List ℕ) → Result (List ℕ × List ℕ × List (List ℕ)) tcl.Cause
 foreach_form first (name ∷ list ∷ body ∷ []) = tcl.after (list_in list) (λ items. Ok (name, body, items))
 foreach_form first words = tcl.wrong_words first
+
+-- a loop: its condition, its body, and the script that a `for` runs behind that
+pub record Loop : Type 0 where
+  pub condition : List ℕ
+  pub body : List ℕ
+  pub next : Option (List ℕ)
 
 module _ {S : Type 0} where
   -- a text, as what an expression comes to

@@ -4,10 +4,8 @@ use Rattle.std.specs.Prelude.{◌≡◌, ◌↔◌, ◌==◌, ℕ, true, false, 
 use Rattle.tks_list.specs.ListText.{Splits}
 use Rattle.tks_vars.specs.Names.{named, is_whole}
 use Rattle.tks_vars.specs.declared.procedure.Parameter.{Parameter}
-use Rattle.tks_eval.specs.Branches.{is_keyword, branches, Condition}
+use Rattle.tks_eval.specs.Branches.{Test, Branches, is_keyword, branches, Condition}
 use Rattle.tks_eval.specs.Procedures.{parameters_in}
-use Rattle.tks_eval.specs.declared.branches.Branches.{Branches}
-use Rattle.tks_eval.specs.declared.branches.Test.{Test}
 
 -- a condition, perhaps `then`, and a body, then other words
 pub data TestThen : Test → List (List ℕ) → List (List ℕ) → Type 0 where

@@ -6,9 +6,8 @@ use Rattle.tks_parse.specs.Tree.{Script, no_command, join_scripts}
 use Rattle.tks_vars.specs.Laws.{FramesStay}
 use Rattle.tks_vars.specs.Variables.{Variables}
 use Rattle.tks_eval.specs.Outcome.{Outcome, End, Stopped, Answer, Unknown, Comes, PassesLimit, Meaning, mapped, Next, after}
-use Rattle.tks_eval.specs.Evaluation.{tested, turn_does, loop_does, done, evaluate}
+use Rattle.tks_eval.specs.Evaluation.{Loop, tested, turn_does, loop_does, done, evaluate}
 use Rattle.tks_eval.specs.declared.host.Plan.{Plan}
-use Rattle.tks_eval.specs.declared.loops.Loop.{Loop}
 
 -- ---- two halves of a script
 

@@ -1,8 +1,7 @@
 -- What is left of a loop behind each of its scripts, and behind its condition.
 use Rattle.tks_text.specs.declared.limits.Limits.{Limits}
 use Rattle.tks_eval.specs.Outcome.{Outcome, Level, after, after_body, after_next}
-use Rattle.tks_eval.specs.Evaluation.{after_truth, behind_body, turn_does, loop_does, done}
-use Rattle.tks_eval.specs.declared.loops.Loop.{Loop}
+use Rattle.tks_eval.specs.Evaluation.{Loop, after_truth, behind_body, turn_does, loop_does, done}
 use Rattle.tks_eval.specs.declared.loops.Stage.{Stage}
 use Rattle.tks_eval.specs.declared.loops.Stage.TheVariants as stage
 

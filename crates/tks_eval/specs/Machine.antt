@@ -8,15 +8,18 @@ use Rattle.tks_vars.specs.Variables.{Variables}
 use Rattle.tks_eval.specs.Outcome.{Outcome, End, Meaning, Next, after, after_body, caught, appended, fails, given}
 use Rattle.tks_expr.specs.Tree.{Expr, Literal, Made, One, Two, Both, Either, Conditional}
 use Rattle.tks_expr.specs.declared.tree.Link.{Link}
-use Rattle.tks_eval.specs.Evaluation.{element_name, with_value, parts_do, words_in, words_do, commands_do, evaluate, value_does, after_truth, branches_do, catch_ends, each, settled, without_frame, returned, after_script, scripts_do}
+use Rattle.tks_eval.specs.Evaluation.{Loop, element_name, with_value, parts_do, words_in, words_do, commands_do, evaluate, value_does, after_truth, branches_do, catch_ends, each, settled, without_frame, returned, after_script, scripts_do}
+use Rattle.tks_eval.specs.Names.{Control}
+use Rattle.tks_eval.specs.Names as control
 use Rattle.tks_eval.specs.Values.{after_value}
 use Rattle.tks_eval.specs.Loops.{after_stage}
 use Rattle.tks_eval.specs.Meets.{StopsSo}
+use Rattle.tks_eval.specs.declared.control.Control.{Control as Coded}
+use Rattle.tks_eval.specs.declared.control.Control.TheVariants as coded
 use Rattle.tks_eval.specs.declared.frame.Frame.{Frame}
 use Rattle.tks_eval.specs.declared.frame.Frame.TheVariants as frame
 use Rattle.tks_eval.specs.declared.expressions.ValueFrame.{ValueFrame}
 use Rattle.tks_eval.specs.declared.expressions.ValueFrame.TheVariants as value
-use Rattle.tks_eval.specs.declared.loops.Loop.{Loop}
 use Rattle.tks_eval.specs.declared.loops.Stage.{Stage}
 use Rattle.tks_eval.specs.declared.loops.Stage.TheVariants as stage
 use Rattle.tks_eval.specs.declared.frame.Now.{Now}
@@ -24,6 +27,17 @@ use Rattle.tks_eval.specs.declared.frame.Now.TheVariants.{Open, Fill, Value, At}
 use Rattle.tks_eval.specs.declared.machine.Machine.{Machine}
 use Rattle.tks_eval.specs.declared.halt.Halt.{Halt}
 use Rattle.tks_eval.specs.declared.halt.Halt.TheVariants as halt
+
+-- the command that the code means
+abbrev pub control_of : Coded → Control
+control_of coded.Catch = control.Catch
+control_of coded.Eval = control.Eval
+control_of coded.Expr = control.Expr
+control_of coded.For = control.For
+control_of coded.Foreach = control.Foreach
+control_of coded.If = control.If
+control_of coded.Proc = control.Proc
+control_of coded.While = control.While
 
 module _ {S : Type 0} (host : Meaning S) (limits : Limits) where
   -- what a frame makes of the end that it waited for, where so many scripts may yet be opened in one another

@@ -1,8 +1,17 @@
--- The names of the commands that run scripts.
+-- The commands that run scripts, and their names.
 use Rattle.std.specs.Prelude.{ℕ, if◌then◌else◌, codes, List, Option, Some, None}
 use Rattle.tks_text.specs.Text.{same_text}
-use Rattle.tks_eval.specs.declared.control.Control.{Control}
-use Rattle.tks_eval.specs.declared.control.Control.TheVariants.{Catch, Eval, Expr, For, Foreach, If, Proc, While}
+
+-- the commands that run scripts, and `proc`
+pub data Control : Type 0 where
+  Catch : Control
+  Eval : Control
+  Expr : Control
+  For : Control
+  Foreach : Control
+  If : Control
+  Proc : Control
+  While : Control
 
 -- the command of this name that runs scripts
 abbrev pub control_named : List ℕ → Option Control

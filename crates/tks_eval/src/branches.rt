@@ -1,10 +1,9 @@
 ghost use Rattle.std.specs.Prelude.{◌≡◌, ◌≤◌, ◌<◌, ◌+◌, ◌||◌, ◌∷◌, List, [], length, IfOk, IfSome, MatchOption};
 ghost use Rattle.tks_eval.specs.Outcome.{End};
-ghost use Rattle.tks_eval.specs.Branches.{Condition, BehindBody, is_keyword, with_last, with_test, branches, no_branches};
+ghost use Rattle.tks_eval.specs.Branches.{Test, Condition, BehindBody, is_keyword, with_last, with_test, branches, no_branches};
 ghost use Rattle.tks_eval.specs.Evaluation.{evaluate, branches_do, if_does};
 ghost use Rattle.tks_eval.specs.Machine.{resume, frame_weight, optional_weight, GoesSo, Falls};
 ghost use Rattle.tks_eval.specs.declared.frame.Frame.TheVariants as frame;
-ghost use Rattle.tks_eval.specs.declared.branches.Test.{Test};
 
 use crate::frame::{Ending, Frame, Now};
 use crate::halt::{Halt, error_about};
@@ -12,6 +11,7 @@ use crate::host::Host;
 use crate::machine::Machine;
 use crate::rest::Rest;
 use std::alloc::{AllocError, Global};
+use std::marker::Model;
 use tks_expr::truth_of;
 use tks_parse::parse;
 use tks_text::{ErrorNumber, Limits, Txt};
@@ -24,11 +24,27 @@ pub struct Test {
     pub body: Txt,
 }
 
+impl Model for Test {
+    ghost use Rattle.tks_eval.specs.Branches.{Test};
+
+    ghost Value = { Test };
+
+    ghost view = { λ t. record { condition = t.condition; body = t.body } };
+}
+
 /// What an `if` may yet run: its tests, and the body for where none holds.
 #[derive(Drop)]
 pub struct Branches {
     pub tests: Rest<Test>,
     pub otherwise: Option<Txt>,
+}
+
+impl Model for Branches {
+    ghost use Rattle.tks_eval.specs.Branches.{Branches};
+
+    ghost Value = { Branches };
+
+    ghost view = { λ b. record { tests = b.tests; otherwise = b.otherwise } };
 }
 
 // Whether a word is one of those that part the others.
@@ -150,7 +166,8 @@ impl Machine {
                 })),
                 Some(body) => Ok(Now::Open(parse(alloc, &body)?)),
             },
-            Some(Test { condition, body }) => {
+            Some(test) => {
+                let Test { condition, body } = test;
                 let expr = self.read_condition(alloc, &condition)?;
                 let rest = Branches { tests, otherwise };
                 self.stack.push(Frame::Branch { body, rest })?;

@@ -3,7 +3,7 @@ ghost use Rattle.std.specs.FinMap as map;
 ghost use Rattle.tks_tcl.specs.Meets.{GivesSo};
 ghost use Rattle.tks_eval.specs.Outcome.{End};
 ghost use Rattle.tks_eval.specs.Evaluation.{evaluate, call, procedure_does, control_does, catch_does, eval_does, foreach_does, proc_does, each, foreach_form};
-ghost use Rattle.tks_eval.specs.Machine.{resume, frame_weight, GoesSo, Falls};
+ghost use Rattle.tks_eval.specs.Machine.{control_of, resume, frame_weight, GoesSo, Falls};
 ghost use Rattle.tks_eval.specs.declared.frame.Frame.TheVariants as frame;
 
 use crate::control::Control;
@@ -131,7 +131,7 @@ impl Machine {
         limits: &Limits,
     ) -> Result<Now, Halt>
         ensures spends { self.new.fuel ≤ self.old.fuel }
-        ensures goes { GoesSo H.meaning limits.now (resume H.meaning limits.now self.old.left self.old.stack (control_does H.meaning limits.now (evaluate H.meaning limits.now self.old.left) control command.now words.now (H.state host.now) variables.old self.old.fuel)) result self.new (H.state host.now) variables.new }
+        ensures goes { GoesSo H.meaning limits.now (resume H.meaning limits.now self.old.left self.old.stack (control_does H.meaning limits.now (evaluate H.meaning limits.now self.old.left) (control_of control) command.now words.now (H.state host.now) variables.old self.old.fuel)) result self.new (H.state host.now) variables.new }
     {
         match control {
             Control::Catch => self.run_catch(alloc, host, variables, command, words, limits),

@@ -1,5 +1,6 @@
-ghost use Rattle.std.specs.Prelude.{◌≡◌};
+ghost use Rattle.std.specs.Prelude.{◌≡◌, option_map};
 ghost use Rattle.tks_eval.specs.Names.{control_named};
+ghost use Rattle.tks_eval.specs.Machine.{control_of};
 
 use tks_text::Txt;
 
@@ -19,7 +20,7 @@ pub enum Control {
 impl Control {
     /// The command of this name.
     pub fn named(name: &Txt) -> Option<Control>
-        ensures { result ≡ control_named name.now }
+        ensures { option_map control_of result ≡ control_named name.now }
     {
         let name = name.as_bytes();
         if name == b"catch".as_slice() {

@@ -10,6 +10,7 @@ use crate::halt::{Halt, error_about};
 use crate::host::Host;
 use crate::machine::Machine;
 use std::alloc::Global;
+use std::marker::Model;
 use tks_expr::truth_of;
 use tks_parse::parse;
 use tks_text::{ErrorNumber, Limits, Txt};
@@ -21,6 +22,14 @@ pub struct Loop {
     pub condition: Txt,
     pub body: Txt,
     pub next: Option<Txt>,
+}
+
+impl Model for Loop {
+    ghost use Rattle.tks_eval.specs.Evaluation.{Loop};
+
+    ghost Value = { Loop };
+
+    ghost view = { λ l. record { condition = l.condition; body = l.body; next = l.next } };
 }
 
 /// What a loop waits for.

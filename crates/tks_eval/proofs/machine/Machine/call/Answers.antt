@@ -1,8 +1,10 @@
-use Rattle.std.proofs.Common.{◌≡◌, suc, ◌∷◌, Some, None, Err, subst, sym, ◌∙◌, rules}
+use Rattle.std.proofs.Common.{◌≡◌, suc, ◌∷◌, Some, None, Err, subst, sym, ap, ◌∙◌, rules}
+use Rattle.std.specs.Prelude.{option_map}
 use Rattle.tks_tcl.specs.Plain.{plain}
 use Rattle.tks_eval.specs.Meets.{AnswersSo}
 use Rattle.tks_eval.specs.Names.{control_named}
 use Rattle.tks_eval.specs.Evaluation.{evaluate, command_does}
+use Rattle.tks_eval.specs.Machine.{control_of}
 use Rattle.tks_eval.proofs.Halts.{step_halts, plain_halts, host_halts}
 use Rattle.tks_eval.proofs.machine.Machine.call.Goals as goal
 
@@ -24,7 +26,7 @@ returns-in-Some-named-clause-goes g c =
     let first = c.in-Some.command.now in
     let whole : c.args.words.now ≡ first ∷ c.in-Some.rest.now = search rules in
     let step : c.args.self.now.fuel ≡ suc c.take_step.new.self.fuel = c.in_ok-take_step.ensures.step in
-    let control : control_named first ≡ Some c.in-Some-named.control = sym c.named.ensures ∙ c.in-Some-named.is in
+    let control : control_named first ≡ Some (control_of c.in-Some-named.control) = sym c.named.ensures ∙ ap (option_map control_of) c.in-Some-named.is in
     let goes = rw c.take_step.ensures.kept at c.run_control.ensures.goes in
     rw (whole, step, control) goes
 
