@@ -15,7 +15,7 @@ use crate::procedures::{enter, run_proc};
 use crate::rest::Rest;
 use std::alloc::Global;
 use tks_parse::{Command, parse};
-use tks_tcl::{Interrupt, concatenated, list_in, plain, store, within, wrong_words};
+use tks_tcl::{Interrupt, concatenated_within, list_in, plain, store, wrong_words};
 use tks_text::{ErrorNumber, Limits, ScriptFault, Seq, Txt, decimal_of};
 use tks_vars::Vars;
 
@@ -205,7 +205,7 @@ impl Machine {
         ensures spends { self.new.fuel ≤ self.old.fuel }
         ensures goes { GoesSo H.meaning limits.now (resume H.meaning limits.now self.old.left self.old.stack (eval_does limits.now (evaluate H.meaning limits.now self.old.left) words.now (H.state host.now) variables.now self.old.fuel)) result self.new (H.state host.now) variables.now }
     {
-        let text = within(concatenated(alloc, words)?, limits)?;
+        let text = concatenated_within(alloc, words, limits)?;
         Ok(Now::Open(parse(alloc, &text)?))
     }
 

@@ -19,7 +19,7 @@ use std::alloc::Global;
 use tks_expr::{
     Binary, Expr, Join, Link, Node, Unary, apply, apply_unary, parse_expr, result_of, truth_of,
 };
-use tks_tcl::{joined_by, within};
+use tks_tcl::joined_within;
 use tks_text::{ErrorNumber, Failure, Limits, Txt};
 use tks_vars::Vars;
 
@@ -82,7 +82,7 @@ impl Machine {
             return Err(error_about(ErrorNumber::WrongWords, command));
         }
         let space = Txt::from_text(alloc, b" ")?;
-        let text = within(joined_by(alloc, words, &space)?, limits)?;
+        let text = joined_within(alloc, words, &space, limits)?;
         let expr = parse_expr(alloc, &text)?;
         self.stack.push(Frame::Value(ValueFrame::Whole))?;
         Ok(Now::Value(expr))

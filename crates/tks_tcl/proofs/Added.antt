@@ -1,5 +1,6 @@
 -- A text behind a value is the value with the text behind it, stored anew.
-use Rattle.std.proofs.Common.{◌≡◌, ℕ, Bool, true, false, if◌then◌else◌, List, [], ◌++◌, Option, Some, None, Result, Ok, Err, refl, sym, subst, ap, ◌∙◌}
+use Rattle.std.proofs.Common.{◌≡◌, ℕ, ◌+◌, nat_le, Bool, true, false, ◌&&◌, if◌then◌else◌, List, [], ◌++◌, length-append, Option, Some, None, Result, Ok, Err, refl, sym, subst, ap, ◌∙◌, arith}
+use Rattle.std.proofs.lemmas.Bool.Decides.{nat_tests}
 use Rattle.tks_text.specs.declared.fault.ScriptFault.{ScriptFault}
 use Rattle.tks_text.specs.declared.limits.Limits.{Limits}
 use Rattle.tks_list.specs.Growing.{TakesElements, grown}
@@ -7,14 +8,16 @@ use Rattle.tks_list.specs.Quoting.{spaced, joined}
 use Rattle.tks_list.specs.Reading.{list_of}
 use Rattle.tks_vars.specs.Growth.{and_then, with_more}
 use Rattle.tks_vars.specs.Meets.{IsValue}
-use Rattle.tks_vars.specs.Variables.{Variables, value_of, with_value}
-use Rattle.tks_tcl.specs.Cause.{Cause, Fault, OverLimit, after, value_or_fault}
+use Rattle.tks_vars.specs.Variables.{Variables, value_of, with_value, grown_by_value}
+use Rattle.tks_tcl.specs.Cause.{Cause, OverLimit, after, value_or_fault, fits}
 use Rattle.tks_tcl.specs.declared.interrupt.Interrupt.{Interrupt}
 use Rattle.tks_tcl.specs.declared.interrupt.Interrupt.TheVariants as interrupt
 use Rattle.tks_tcl.specs.Meets.{FailsSo}
-use Rattle.tks_tcl.specs.Growing.{is_told, has_value, lengthened, lengthens, adds, adds_texts, adds_elements}
-use Rattle.tks_tcl.specs.Variables.{with_default, is_missing, value_or, flat, stores}
-use Rattle.tks_tcl.specs.Words.{list_read}
+use Rattle.tks_tcl.specs.Growing.{lengthened, lengthens, list_with, adds_elements}
+use Rattle.tks_tcl.specs.Room.{room_of}
+use Rattle.tks_tcl.specs.Variables.{with_default, value_or, may_grow, stores}
+use Rattle.tks_tcl.specs.Words.{list_read, list_in}
+use Rattle.tks_tcl.proofs.Lengths.{spaced_len, joined_len, room_of_both}
 
 -- with the value that was made of it, a name is given just this value
 with_it : {X : Type 0} (r : Result (List ℕ) ScriptFault) (more value : List ℕ) (next : List ℕ → Result X ScriptFault)
@@ -24,60 +27,6 @@ with_it (Err fault) more value next e = absurd cc
 
 pub given_more : (v : Variables) (name more value : List ℕ) → lengthened v name more ≡ Ok value → with_more v name more ≡ with_value v name value
 given_more v name more value e = with_it (value_of v name) more value (with_value v name) e
-
--- ---- a value that may be missing
-
-module _ {X : Type 0} (next : List ℕ → Result X Cause) where
-  there_by : (r : Result (List ℕ) ScriptFault) → is_told r ≡ Ok true → after (value_or_fault r) next ≡ after (with_default [] r) next
-  there_by (Ok value) e = refl
-  there_by (Err fault) e = by (is_missing fault.number) e where
-    by : (b : Bool) → (if b then Ok false else Err (Fault fault)) ≡ Ok true → Err (Fault fault) ≡ after (if b then Ok [] else Err (Fault fault)) next
-    by true e = absurd cc
-    by false e = refl
-
-  missing_by : (r : Result (List ℕ) ScriptFault) → is_told r ≡ Ok false → after (with_default [] r) next ≡ next []
-  missing_by (Ok value) e = absurd cc
-  missing_by (Err fault) e = by (is_missing fault.number) e where
-    by : (b : Bool) → (if b then Ok false else Err (Fault fault)) ≡ Ok false → after (if b then Ok [] else Err (Fault fault)) next ≡ next []
-    by true e = refl
-    by false e = absurd cc
-
-  fails_by : (r : Result (List ℕ) ScriptFault) (cause : Cause) → is_told r ≡ Err cause → after (with_default [] r) next ≡ Err cause
-  fails_by (Ok value) cause e = absurd cc
-  fails_by (Err fault) cause e = by (is_missing fault.number) e where
-    by : (b : Bool) → (if b then Ok false else Err (Fault fault)) ≡ Err cause → after (if b then Ok [] else Err (Fault fault)) next ≡ Err cause
-    by true e = absurd cc
-    by false e = cc
-
-after_put : {X : Type 0} (r : Result (List ℕ) Cause) (more : List ℕ) (next : List ℕ → Result X Cause)
-    → after (after r (λ value. Ok (value ++ more))) next ≡ after r (λ value. next (value ++ more))
-after_put (Ok value) more next = refl
-after_put (Err cause) more next = refl
-
-module _ (limits : Limits) (name more : List ℕ) (v : Variables) where
-  pub added_there : has_value v name ≡ Ok true → adds limits name more v ≡ lengthens limits name more v
-  added_there e =
-      sym (there_by (λ value. stores limits name v (value ++ more)) (value_of v name) e)
-      ∙ sym (after_put (value_or_fault (value_of v name)) more (stores limits name v))
-
-  pub added_missing : has_value v name ≡ Ok false → adds limits name more v ≡ stores limits name v more
-  added_missing e = missing_by (λ value. stores limits name v (value ++ more)) (value_of v name) e
-
-  pub added_fails : (cause : Cause) → has_value v name ≡ Err cause → adds limits name more v ≡ Err cause
-  added_fails cause e = fails_by (λ value. stores limits name v (value ++ more)) (value_of v name) cause e
-
-  pub added_err : (why : Interrupt) → FailsSo why (has_value v name) → FailsSo why (adds limits name more v)
-  added_err (interrupt.Script fault) e = added_fails (Fault fault) e
-  added_err interrupt.TooLarge e = added_fails OverLimit e
-  added_err interrupt.NoMemory e = tt
-
--- texts are added as one
-pub texts_added : (limits : Limits) (name : List ℕ) (texts : List (List ℕ)) (v : Variables) → adds_texts limits name texts v ≡ adds limits name (flat texts) v
-texts_added limits name texts v = after_put (value_or [] v name) (flat texts) (stores limits name v)
-
-pub texts_err : (limits : Limits) (v : Variables) (name more : List ℕ) (texts : List (List ℕ)) → more ≡ flat texts
-    → (why : Interrupt) → FailsSo why (adds limits name more v) → FailsSo why (adds_texts limits name texts v)
-texts_err limits v name more texts is why e = subst (FailsSo why) (ap (λ t. adds limits name t v) is ∙ sym (texts_added limits name texts v)) e
 
 -- ---- lists
 
@@ -99,3 +48,52 @@ pub elements_err : (limits : Limits) (v : Variables) (name more : List ℕ) (ele
     → (why : Interrupt) → FailsSo why (lengthens limits name more v) → FailsSo why (adds_elements limits name elements v)
 elements_err limits v name more elements takes is why e =
     subst (FailsSo why) (ap (λ t. lengthens limits name t v) is ∙ sym (elements_taken limits v name elements takes)) e
+
+-- ---- elements that pass a limit by themselves
+
+fails_on : {X Y : Type 0} (r : Result X Cause) (next : X → Result Y Cause) (why : Interrupt) → FailsSo why r → FailsSo why (after r next)
+fails_on r next (interrupt.Script fault) e = ap (λ r. after r next) e
+fails_on r next interrupt.TooLarge e = ap (λ r. after r next) e
+fails_on r next interrupt.NoMemory e = tt
+
+module _ (limits : Limits) (name : List ℕ) (v : Variables) where
+  too_long : (value : List ℕ) → fits limits value ≡ false → stores limits name v value ≡ Err OverLimit
+  too_long value over = ap (λ b. if b && may_grow limits (grown_by_value v name) then after (value_or_fault (with_value v name value)) (λ new. Ok (value, new)) else Err OverLimit) over
+
+  -- one behind a value
+  longer_by : (r : Result (List ℕ) ScriptFault) (more : List ℕ) → fits limits more ≡ false → IsValue TakesElements r → after (after (value_or_fault r) (λ value. Ok (value ++ more))) (stores limits name v) ≡ Err OverLimit
+  longer_by (Ok value) more over takes = let len = length-append value more in too_long (value ++ more) (grind (arith, nat_tests))
+  longer_by (Err fault) more over takes = absurd takes
+
+module _ (limits : Limits) (name : List ℕ) (v : Variables) (elements : List (List ℕ)) where
+  pub elements_too_long : IsValue TakesElements (value_of v name) → nat_le (room_of 1 elements) limits.text ≡ false → adds_elements limits name elements v ≡ Err OverLimit
+  elements_too_long takes over =
+      let least = spaced_len elements in
+      elements_taken limits v name elements takes ∙ longer_by limits name v (value_of v name) (spaced elements) (grind (arith, nat_tests)) takes
+
+  with_room : (l : List (List ℕ)) (b : Bool) → nat_le (room_of 1 elements) (limits.text + 1) ≡ b
+      → after (if b then Ok (joined (l ++ elements)) else Err OverLimit) (stores limits name v) ≡ stores limits name v (joined (l ++ elements))
+  with_room l true e = refl
+  with_room l false e =
+      let least = joined_len (l ++ elements) in
+      let all = room_of_both 1 l elements in
+      sym (too_long limits name v (joined (l ++ elements)) (grind (arith, nat_tests)))
+
+  list_by : (r : Result (List (List ℕ)) Cause)
+      → after (after r (λ l. if nat_le (room_of 1 elements) (limits.text + 1) then Ok (joined (l ++ elements)) else Err OverLimit)) (stores limits name v)
+      ≡ after (after r (λ l. Ok (joined (l ++ elements)))) (stores limits name v)
+  list_by (Ok l) = with_room l _ refl
+  list_by (Err cause) = refl
+
+  value_by : (r : Result (List ℕ) Cause)
+      → after (after r (λ value. after (list_in value) (λ l. if nat_le (room_of 1 elements) (limits.text + 1) then Ok (joined (l ++ elements)) else Err OverLimit))) (stores limits name v)
+      ≡ after (after r (λ value. after (list_in value) (λ l. Ok (joined (l ++ elements))))) (stores limits name v)
+  value_by (Ok value) = list_by (list_in value)
+  value_by (Err cause) = refl
+
+  -- elements that would pass the limit alone are refused as the list with them would be
+  pub list_stored : after (list_with limits v name elements) (stores limits name v) ≡ adds_elements limits name elements v
+  list_stored = value_by (value_or [] v name)
+
+  pub list_unmade : (why : Interrupt) → FailsSo why (list_with limits v name elements) → FailsSo why (adds_elements limits name elements v)
+  list_unmade why e = subst (FailsSo why) list_stored (fails_on (list_with limits v name elements) (stores limits name v) why e)

@@ -1,9 +1,12 @@
 -- Texts that are put behind values (append(n), lappend(n)), in the parts that the code has.
-use Rattle.std.specs.Prelude.{ℕ, Bool, true, false, if◌then◌else◌, List, [], ◌++◌, Result, Ok, Err}
+use Rattle.std.specs.Prelude.{ℕ, Bool, true, false, if◌then◌else◌, List, [], ◌++◌, ◌+◌, nat_le, Result, Ok, Err}
 use Rattle.tks_text.specs.declared.fault.ScriptFault.{ScriptFault}
 use Rattle.tks_text.specs.declared.limits.Limits.{Limits}
+use Rattle.tks_list.specs.Quoting.{joined}
 use Rattle.tks_vars.specs.Variables.{Variables, value_of}
-use Rattle.tks_tcl.specs.Cause.{Cause, Fault, after}
+use Rattle.tks_tcl.specs.Cause.{Cause, Fault, OverLimit, after}
+use Rattle.tks_tcl.specs.Room.{room_of}
+use Rattle.tks_tcl.specs.Words.{list_in}
 use Rattle.tks_tcl.specs.Variables.{Changed, value_in, value_or, is_missing, appended, list_appended, stores}
 
 -- whether there is a value; an error where it isn't just missing
@@ -23,13 +26,16 @@ module _ (limits : Limits) where
   abbrev pub lengthens : List ℕ → List ℕ → Variables → Result Changed Cause
   lengthens name more variables = after (lengthened variables name more) (stores limits name variables)
 
-  -- the same, where a missing one counts as empty
-  abbrev pub adds : List ℕ → List ℕ → Variables → Result Changed Cause
-  adds name more variables = after (value_or [] variables name) (λ value. stores limits name variables (value ++ more))
-
-  -- the same of texts one after the other
+  -- the same of texts one after the other, where a missing one counts as empty
   abbrev pub adds_texts : List ℕ → List (List ℕ) → Variables → Result Changed Cause
   adds_texts name texts variables = after (appended variables name texts) (stores limits name variables)
+
+  -- the list in a variable, where a missing one counts as empty, and these elements behind it; over the limit where these
+  -- alone pass it
+  abbrev pub list_with : Variables → List ℕ → List (List ℕ) → Result (List ℕ) Cause
+  list_with variables name elements =
+      after (value_or [] variables name) (λ value. after (list_in value) (λ l.
+      if nat_le (room_of 1 elements) (limits.text + 1) then Ok (joined (l ++ elements)) else Err OverLimit))
 
   -- the same of the elements of a list
   abbrev pub adds_elements : List ℕ → List (List ℕ) → Variables → Result Changed Cause

@@ -1,4 +1,5 @@
 pub mod Cause
+pub mod Room
 pub mod Words
 pub mod Index
 pub mod Variables

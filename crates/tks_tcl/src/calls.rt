@@ -28,7 +28,7 @@ fn run_command(
             Ok(ended)
         }
         Command::OfLists(command) => {
-            let text = within(command.run(alloc, name, words)?, limits)?;
+            let text = command.run(alloc, name, words, limits)?;
             Ok((0, text))
         }
         Command::OfStrings => {

@@ -1,10 +1,12 @@
 //! Values that grow: texts and elements are put behind them.
 ghost use Rattle.std.specs.Prelude.{◌≡◌, ◌++◌, IfOk, OnOk, OnErr};
+ghost use Rattle.tks_tcl.specs.Cause.{within};
 ghost use Rattle.tks_tcl.specs.Meets.{GivesSo};
-ghost use Rattle.tks_tcl.specs.Variables.{flat, list_appended};
-ghost use Rattle.tks_tcl.specs.Growing.{has_value, lengthened, lengthens, adds, adds_texts, adds_elements};
+ghost use Rattle.tks_tcl.specs.Variables.{flat};
+ghost use Rattle.tks_tcl.specs.Growing.{has_value, lengthened, lengthens, adds_texts, list_with, adds_elements};
 
 use crate::interrupt::{Interrupt, fits};
+use crate::room::have_room;
 use crate::variables::{is_missing, may_grow, store, store_list, value_in, value_or};
 use crate::words::list_in;
 use std::alloc::{AllocError, Global};
@@ -59,20 +61,6 @@ fn lengthen(
     Ok(value)
 }
 
-// The same, where a missing one counts as empty.
-fn add(variables: &mut Vars, name: &Txt, more: Txt, limits: &Limits) -> Result<Txt, Interrupt>
-    ensures value { GivesSo (λ t. (t, variables.new)) result (adds limits.now name.now more variables.old) }
-    ensures err { OnErr result (variables.new ≡ variables.old) }
-{
-    if has_value(variables, name)? {
-        let more = Suffix::of(more);
-        let value = lengthen(variables, name, &more, limits)?;
-        return Ok(value);
-    }
-    let value = store(variables, name, more, limits)?;
-    Ok(value)
-}
-
 // Adds texts at the end of a text.
 fn push_all(text: &mut Txt, more: &[Txt]) -> Result<(), AllocError>
     ensures { OnOk result (text.new ≡ text.old ++ flat more.now) }
@@ -92,6 +80,17 @@ fn flat(alloc: Global, texts: &[Txt]) -> Result<Txt, AllocError>
     Ok(text)
 }
 
+// The same, where they pass no limit. Where they would, nothing is made.
+#[tactic(auto, using(crate::proofs::Lengths::flat_room))]
+fn flat_within(alloc: Global, texts: &[Txt], limits: &Limits) -> Result<Txt, Interrupt>
+    ensures { GivesSo (λ t. t) result (within limits.now (flat texts.now)) }
+{
+    if !have_room(texts, 0, limits.text as usize) {
+        return Err(Interrupt::TooLarge);
+    }
+    Ok(flat(alloc, texts)?)
+}
+
 /// Puts texts behind the value of a variable or an element, where a missing one counts as empty. The new value is answered.
 pub fn add_texts(
     alloc: Global,
@@ -103,8 +102,14 @@ pub fn add_texts(
     ensures value { GivesSo (λ t. (t, variables.new)) result (adds_texts limits.now name.now texts.now variables.old) }
     ensures err { OnErr result (variables.new ≡ variables.old) }
 {
-    let more = flat(alloc, texts)?;
-    let value = add(variables, name, more, limits)?;
+    let is_there = has_value(variables, name)?;
+    let more = flat_within(alloc, texts, limits)?;
+    if is_there {
+        let more = Suffix::of(more);
+        let value = lengthen(variables, name, &more, limits)?;
+        return Ok(value);
+    }
+    let value = store(variables, name, more, limits)?;
     Ok(value)
 }
 
@@ -118,16 +123,20 @@ fn push_elements(list: &mut Seq<Txt>, elements: &[Txt]) -> Result<(), AllocError
     Ok(())
 }
 
-// The list in a variable or an element, and elements behind it.
-fn list_appended(
+// The list in a variable or an element, and elements behind it, where these alone pass no limit.
+fn list_with(
     alloc: Global,
     variables: &Vars,
     name: &Txt,
     elements: &[Txt],
+    limits: &Limits,
 ) -> Result<ListText, Interrupt>
-    ensures { GivesSo (λ t. t) result (list_appended variables.now name.now elements.now) }
+    ensures { GivesSo (λ t. t) result (list_with limits.now variables.now name.now elements.now) }
 {
     let mut list = list_in(alloc, &value_or(Txt::new(alloc), variables, name)?)?;
+    if !have_room(elements, 1, limits.text as usize + 1) {
+        return Err(Interrupt::TooLarge);
+    }
     push_elements(&mut list, elements)?;
     Ok(ListText::of_list(alloc, list.as_slice())?)
 }
@@ -144,11 +153,14 @@ pub fn add_elements(
     ensures err { OnErr result (variables.new ≡ variables.old) }
 {
     if variables.takes_elements(name) {
+        if !have_room(elements, 1, limits.text as usize) {
+            return Err(Interrupt::TooLarge);
+        }
         let more = Suffix::of_elements(alloc, elements)?;
         let value = lengthen(variables, name, &more, limits)?;
         return Ok(value);
     }
-    let list = list_appended(alloc, variables, name, elements)?;
+    let list = list_with(alloc, variables, name, elements, limits)?;
     let value = store_list(variables, name, list, limits)?;
     Ok(value)
 }

@@ -9,6 +9,7 @@ mod index;
 mod interrupt;
 mod laws;
 mod lists;
+mod room;
 mod stop;
 mod strings;
 mod variables;
@@ -21,7 +22,7 @@ pub use laws::{
     a_range_goes_place_by_place, a_search_finds_the_first, commands_leave_frames,
     errors_change_nothing, fields_join_back, wider_limits_keep_answers,
 };
-pub use lists::{concatenated, joined_by};
+pub use lists::{concatenated, concatenated_within, joined_within};
 pub use stop::Stop;
 pub use variables::{is_missing, store, store_global};
 pub use words::{integer_in, list_in};

@@ -2,15 +2,18 @@ ghost use Rattle.std.specs.Prelude.{◌≡◌, ◌==◌, ◌<◌, ◌≤◌, ◌
 ghost use Rattle.std.specs.List.{prefix_len};
 ghost use Rattle.tks_text.specs.Text.{same_text, IsText};
 ghost use Rattle.tks_text.specs.Integer.{is_space};
+ghost use Rattle.tks_tcl.specs.Cause.{after, fits, within};
 ghost use Rattle.tks_tcl.specs.Meets.{GivesSo};
+ghost use Rattle.tks_list.specs.Quoting.{joined};
 ghost use Rattle.tks_tcl.specs.Lists.{first_or_empty, place_text, separated, joined_by, without_end, trimmed, concatenated, is_among, fields, split_at, llength_does, lindex_does, lrange_does, searched, lsearch_does, join_does, split_does, list_does};
 
 use crate::index::{index_in, range};
-use crate::interrupt::{Interrupt, error_about, wrong_words};
+use crate::interrupt::{Interrupt, error_about, within, wrong_words};
+use crate::room::have_room;
 use crate::words::{count_text, list_in};
 use std::alloc::{AllocError, Global};
 use tks_list::join;
-use tks_text::{ErrorNumber, Seq, Txt, is_space, space_len};
+use tks_text::{ErrorNumber, Limits, Seq, Txt, is_space, space_len};
 
 /// The commands on lists.
 #[derive(Clone, Copy)]
@@ -26,21 +29,37 @@ pub enum ListCommand {
 }
 
 impl ListCommand {
-    /// What the command answers, given its first word and the others.
-    pub fn run(self, alloc: Global, command: &Txt, words: &[Txt]) -> Result<Txt, Interrupt>
-        ensures { GivesSo (λ t. t) result (list_does self command.now words.now) }
+    /// What the command answers, given its first word and the others, where that passes no limit.
+    pub fn run(
+        self,
+        alloc: Global,
+        command: &Txt,
+        words: &[Txt],
+        limits: &Limits,
+    ) -> Result<Txt, Interrupt>
+        ensures { GivesSo (λ t. t) result (after (list_does self command.now words.now) (within limits.now)) }
     {
         match self {
-            ListCommand::Concat => Ok(concatenated(alloc, words)?),
-            ListCommand::Join => run_join(alloc, command, words),
-            ListCommand::Lindex => run_lindex(alloc, command, words),
-            ListCommand::List => Ok(join(alloc, words)?),
-            ListCommand::Llength => run_llength(alloc, command, words),
-            ListCommand::Lrange => run_lrange(alloc, command, words),
-            ListCommand::Lsearch => run_lsearch(alloc, command, words),
-            ListCommand::Split => run_split(alloc, command, words),
+            ListCommand::Concat => concatenated_within(alloc, words, limits),
+            ListCommand::Join => run_join(alloc, command, words, limits),
+            ListCommand::Lindex => within(run_lindex(alloc, command, words)?, limits),
+            ListCommand::List => list_within(alloc, words, limits),
+            ListCommand::Llength => within(run_llength(alloc, command, words)?, limits),
+            ListCommand::Lrange => within(run_lrange(alloc, command, words)?, limits),
+            ListCommand::Lsearch => within(run_lsearch(alloc, command, words)?, limits),
+            ListCommand::Split => within(run_split(alloc, command, words)?, limits),
         }
     }
+}
+
+// The text of a list, where it passes no limit. One that is too long by its elements alone isn't made.
+fn list_within(alloc: Global, elements: &[Txt], limits: &Limits) -> Result<Txt, Interrupt>
+    ensures { GivesSo (λ t. t) result (within limits.now (joined elements.now)) }
+{
+    if !have_room(elements, 1, limits.text as usize + 1) {
+        return Err(Interrupt::TooLarge);
+    }
+    within(join(alloc, elements)?, limits)
 }
 
 // llength l
@@ -155,8 +174,8 @@ fn push_separated(text: &mut Txt, more: &[Txt], separator: &Txt) -> Result<(), A
     Ok(())
 }
 
-/// Texts with a separator between them.
-pub fn joined_by(alloc: Global, texts: &[Txt], separator: &Txt) -> Result<Txt, AllocError>
+// Texts with a separator between them.
+fn joined_by(alloc: Global, texts: &[Txt], separator: &Txt) -> Result<Txt, AllocError>
     ensures { IfOk result (λ t. t ≡ joined_by separator.now texts.now) }
 {
     let mut text = Txt::new(alloc);
@@ -167,20 +186,45 @@ pub fn joined_by(alloc: Global, texts: &[Txt], separator: &Txt) -> Result<Txt, A
     Ok(text)
 }
 
+// Whether texts with a separator between them pass no limit.
+fn joined_fits(texts: &[Txt], separator: &Txt, limits: &Limits) -> bool
+    ensures { result ≡ fits limits.now (joined_by separator.now texts.now) }
+{
+    let between = separator.as_bytes().len();
+    have_room(texts, between, limits.text as usize + between)
+}
+
+/// Texts with a separator between them, where they pass no limit. Where they would, nothing is made.
+pub fn joined_within(
+    alloc: Global,
+    texts: &[Txt],
+    separator: &Txt,
+    limits: &Limits,
+) -> Result<Txt, Interrupt>
+    ensures { GivesSo (λ t. t) result (within limits.now (joined_by separator.now texts.now)) }
+{
+    if !joined_fits(texts, separator, limits) {
+        return Err(Interrupt::TooLarge);
+    }
+    Ok(joined_by(alloc, texts, separator)?)
+}
+
 // join l ?sep?
 #[tactic(auto, using(crate::proofs::Causes::tells))]
-fn run_join(alloc: Global, command: &Txt, words: &[Txt]) -> Result<Txt, Interrupt>
-    ensures { GivesSo (λ t. t) result (join_does command.now words.now) }
+fn run_join(alloc: Global, command: &Txt, words: &[Txt], limits: &Limits) -> Result<Txt, Interrupt>
+    ensures { GivesSo (λ t. t) result (after (join_does command.now words.now) (within limits.now)) }
 {
     match words {
         [list] => {
             let list = list_in(alloc, list)?;
             let space = Txt::from_text(alloc, b" ")?;
-            Ok(joined_by(alloc, list.as_slice(), &space)?)
+            let text = joined_within(alloc, list.as_slice(), &space, limits)?;
+            Ok(text)
         }
         [list, separator] => {
             let list = list_in(alloc, list)?;
-            Ok(joined_by(alloc, list.as_slice(), separator)?)
+            let text = joined_within(alloc, list.as_slice(), separator, limits)?;
+            Ok(text)
         }
         _ => Err(wrong_words(command)),
     }
@@ -205,11 +249,12 @@ fn without_end(text: &[u8]) -> &[u8]
 
 // A text without the white space around it.
 #[tactic(auto, using(tks_text::proofs::Texts::text_drop))]
-fn trimmed(alloc: Global, text: &Txt) -> Result<Txt, AllocError>
-    ensures { IfOk result (λ t. t ≡ trimmed text.now) }
+fn trimmed(text: &Txt) -> &[u8]
+    ensures value { result.now ≡ trimmed text.now }
+    ensures text { IsText result.now }
 {
     let bytes = text.as_bytes();
-    Txt::from_text(alloc, without_end(bytes.split_at(space_len(bytes)).1))
+    without_end(bytes.split_at(space_len(bytes)).1)
 }
 
 // Adds a text that isn't empty.
@@ -228,10 +273,37 @@ pub fn concatenated(alloc: Global, words: &[Txt]) -> Result<Txt, AllocError>
 {
     let mut kept = Seq::new(alloc);
     for word in words {
-        push_some(&mut kept, trimmed(alloc, word)?)?;
+        push_some(&mut kept, Txt::from_text(alloc, trimmed(word))?)?;
     }
     let space = Txt::from_text(alloc, b" ")?;
     joined_by(alloc, kept.as_slice(), &space)
+}
+
+// Whether these texts pass no limit as `concatenated` joins them.
+fn concatenated_fits(words: &[Txt], limits: &Limits) -> bool
+    ensures { result ≡ fits limits.now (concatenated words.now) }
+{
+    let mut left = limits.text as usize + 1;
+    for word in words {
+        let len = trimmed(word).len();
+        if len > 0 {
+            if len >= left {
+                return false;
+            }
+            left -= len + 1;
+        }
+    }
+    true
+}
+
+/// The same as `concatenated`, where it passes no limit. Where it would, nothing is made.
+pub fn concatenated_within(alloc: Global, words: &[Txt], limits: &Limits) -> Result<Txt, Interrupt>
+    ensures { GivesSo (λ t. t) result (within limits.now (concatenated words.now)) }
+{
+    if !concatenated_fits(words, limits) {
+        return Err(Interrupt::TooLarge);
+    }
+    Ok(concatenated(alloc, words)?)
 }
 
 // How many bytes stand before the first separator.
