@@ -2,6 +2,7 @@ use crate::dice::Dice;
 use crate::plain_queue::{PlainQueue, has_letter, letter_event, queue_call_agrees};
 use std::alloc::Global;
 use tks_queue::{Place, Queue};
+use tks_share::Copied;
 
 #[test]
 fn the_queue_does_what_a_plain_list_does(rt: HostRuntime) {
@@ -41,7 +42,7 @@ fn five_places(alloc: Global) -> Option<bool> {
     put(alloc, &mut queue, Place::Mark, b'2')?;
     put(alloc, &mut queue, Place::Head, b'h')?;
     put(alloc, &mut queue, Place::Mark, b'3')?;
-    let mut copy = queue.try_clone().ok()?;
+    let mut copy = queue.copied(alloc).ok()?;
     queue.drop_window(1);
     Some(copy.len() == 5 && take_all(&mut queue, b"h123t")? && take_all(&mut copy, b"h123t")?)
 }

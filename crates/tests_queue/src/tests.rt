@@ -2,6 +2,7 @@ use crate::dice::Dice;
 use crate::plain::Plain;
 use crate::trial::call_agrees;
 use std::alloc::Global;
+use tks_share::Copied;
 use tks_text::{ErrorNumber, Failure, Txt};
 use tks_timer::{Timers, Waiting};
 
@@ -77,13 +78,13 @@ fn after_info_tells_what_waits(rt: HostRuntime) {
     assert!(rt; told);
 }
 
-// Of those that are due, the first due, then that of the least id; a copy tells the same, with no mark.
+// Of those that are due, the first due, then that of the least id; a copy tells the same.
 fn runs_in_order(alloc: Global) -> Option<bool> {
     let mut timers = Timers::new(alloc);
     timers.after(5, text(alloc, b"a")?).ok()?;
     timers.after(3, text(alloc, b"b")?).ok()?;
     timers.after(3, text(alloc, b"c")?).ok()?;
-    let mut copy = timers.try_clone().ok()?;
+    let mut copy = timers.copied(alloc).ok()?;
     let first = copy.due(2).is_none() && copy.due(9) == Some(1);
     copy.cancel(1);
     let second = copy.due(9) == Some(2);

@@ -8,6 +8,8 @@ mod nothing;
 #[cfg(test)]
 mod places;
 #[cfg(test)]
+mod refusals;
+#[cfg(test)]
 mod tree;
 #[cfg(test)]
 mod turns;

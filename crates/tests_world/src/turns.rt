@@ -26,8 +26,8 @@ fn next_press(words: &mut Split<'_, char>) -> Option<(u8, u16, u16)> {
     Some((button, x, y))
 }
 
-// The input that a row tells by words with a space between them; one that names no other kind is a script.
-fn input_of(alloc: Global, row: &str) -> Option<Input> {
+/// The input that a row tells by words with a space between them; one that names no other kind is a script.
+pub fn input_of(alloc: Global, row: &str) -> Option<Input> {
     let mut words = row.split(' ');
     let kind = words.next()?;
     if kind == "key" {

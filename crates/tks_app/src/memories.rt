@@ -4,6 +4,7 @@ ghost use Rattle.tks_app.specs.Memories.{first_memories, kept_under, place_under
 
 use std::alloc::{AllocError, Global};
 use std::marker::Model;
+use tks_share::{Copied, copies_of};
 use tks_text::Txt;
 
 /// What a command keeps from one call to the next.
@@ -12,6 +13,15 @@ pub struct Memory {
     /// The command's name.
     pub name: Txt,
     pub text: Txt,
+}
+
+impl Copied for Memory {
+    fn copied(&self, _alloc: Global) -> Result<Memory, AllocError> {
+        Ok(Memory {
+            name: self.name.try_clone()?,
+            text: self.text.try_clone()?,
+        })
+    }
 }
 
 /// The memories of an application's commands, a name each.
@@ -108,18 +118,12 @@ impl Memories {
             self.items[place].text = text;
         }
     }
+}
 
-    /// Equal memories.
-    pub fn try_clone(&self, alloc: Global) -> Result<Memories, AllocError>
-        ensures { IfOk result (λ m. m ≡ self.now) }
-    {
-        let mut items = Vec::with_capacity(alloc, self.items.len())?;
-        for memory in &self.items {
-            items.push(Memory {
-                name: memory.name.try_clone()?,
-                text: memory.text.try_clone()?,
-            })?;
-        }
-        Ok(Memories { items })
+impl Copied for Memories {
+    fn copied(&self, alloc: Global) -> Result<Memories, AllocError> {
+        Ok(Memories {
+            items: copies_of(alloc, &self.items)?,
+        })
     }
 }

@@ -1,8 +1,9 @@
-ghost use Rattle.std.specs.Prelude.{◌≡◌, IfOk};
+ghost use Rattle.std.specs.Prelude.{◌≡◌};
 ghost use Rattle.tks_bind.specs.Binding.{is_for};
 
 use std::alloc::{AllocError, Global};
 use tks_event::{Sequence, are_equal};
+use tks_share::Copied;
 use tks_text::Txt;
 
 /// A script that a tag has for a sequence of events.
@@ -22,11 +23,10 @@ impl Binding {
     {
         self.tag == *tag && are_equal(self.sequence.as_slice(), sequence.as_slice())
     }
+}
 
-    /// An equal one.
-    pub fn try_clone(&self, alloc: Global) -> Result<Binding, AllocError>
-        ensures { IfOk result (λ b. b ≡ self.now) }
-    {
+impl Copied for Binding {
+    fn copied(&self, alloc: Global) -> Result<Binding, AllocError> {
         Ok(Binding {
             number: self.number,
             tag: self.tag.try_clone()?,

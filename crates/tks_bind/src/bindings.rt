@@ -18,6 +18,7 @@ use std::alloc::{AllocError, Global};
 use std::marker::Model;
 use tks_event::{Event, Sequence};
 use tks_mark::{Items, Marked};
+use tks_share::Copied;
 use tks_text::{Seq, Txt};
 
 /// The number that none reaches.
@@ -79,6 +80,13 @@ impl Bindings {
         ensures formed { WellFormedBindings self.now }
     {
         self.next
+    }
+
+    /// Whether all numbers were given out.
+    pub fn is_full(&self) -> bool
+        ensures { (result ≡ true) ↔ (2 ^ 62 ≤ self.now.present.next) }
+    {
+        self.next >= MAX_NUMBER
     }
 
     /// The bindings, in the order in which they were made.
@@ -146,7 +154,7 @@ impl Bindings {
             self.unset(&tag, &sequence);
             return Ok(());
         }
-        if self.next >= MAX_NUMBER {
+        if self.is_full() {
             return Err(BindFault::OutOfNumbers);
         }
         let script = made(self.alloc, self.script(&tag, &sequence), script)?;
@@ -237,16 +245,16 @@ impl Bindings {
     {
         self.bindings.forget();
     }
+}
 
-    /// The same bindings and the same next number, with no mark.
-    pub fn try_clone(&self) -> Result<Bindings, AllocError>
-        ensures { IfOk result (λ copy. copy ≡ record self.now { at_mark = None }) }
-    {
+impl Copied for Bindings {
+    // What they were at a mark is copied too.
+    fn copied(&self, alloc: Global) -> Result<Bindings, AllocError> {
         Ok(Bindings {
-            alloc: self.alloc,
-            bindings: copied(self.alloc, &self.bindings)?,
+            alloc,
+            bindings: self.bindings.copied(alloc)?,
             next: self.next,
-            next_at_mark: 0,
+            next_at_mark: self.next_at_mark,
         })
     }
 }
@@ -373,15 +381,4 @@ fn spelled(alloc: Global, bindings: &Marked<Binding>, tag: &Txt) -> Result<Seq<T
         }
     }
     Ok(found)
-}
-
-// The same bindings, with no mark.
-fn copied(alloc: Global, bindings: &Marked<Binding>) -> Result<Marked<Binding>, AllocError>
-    ensures { IfOk result (λ copy. copy ≡ record bindings.now { at_mark = None }) }
-{
-    let mut copy = Marked::new(alloc);
-    for binding in bindings.items() {
-        copy.push(binding.try_clone(alloc)?)?;
-    }
-    Ok(copy)
 }

@@ -6,6 +6,7 @@ ghost use Rattle.tks_bind.specs.Log.{trimmed, cut_at};
 use std::alloc::{AllocError, AllocFailed, Global};
 use std::marker::Model;
 use tks_event::Event;
+use tks_share::Copied;
 
 /// How many events a history holds at most.
 pub const MAX_HISTORY: usize = 32;
@@ -113,15 +114,15 @@ impl History {
         self.mark = None;
         trim(&mut self.log, false);
     }
+}
 
-    /// The same events, with no mark.
-    pub fn try_clone(&self) -> Result<History, AllocError>
-        ensures { IfOk result (λ copy. copy ≡ record self.now { at_mark = None }) }
-    {
+impl Copied for History {
+    // What it was at a mark is copied too.
+    fn copied(&self, alloc: Global) -> Result<History, AllocError> {
         Ok(History {
-            alloc: self.alloc,
-            log: copied(self.alloc, self.events())?,
-            mark: None,
+            alloc,
+            log: copied(alloc, &self.log)?,
+            mark: self.mark,
         })
     }
 }

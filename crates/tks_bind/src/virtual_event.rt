@@ -4,6 +4,7 @@ ghost use Rattle.tks_bind.specs.VirtualEvents.{has_sequence, is_of_name, other_s
 use crate::field::is_virtual;
 use std::alloc::{AllocError, Global};
 use tks_event::{Sequence, are_equal};
+use tks_share::Copied;
 use tks_text::{Seq, Txt};
 
 /// An event that scripts make up, and the sequences by which it is met as well.
@@ -31,11 +32,10 @@ impl VirtualEvent {
             sequences: kept,
         })
     }
+}
 
-    /// An equal one.
-    pub fn try_clone(&self, alloc: Global) -> Result<VirtualEvent, AllocError>
-        ensures { IfOk result (λ v. v ≡ self.now) }
-    {
+impl Copied for VirtualEvent {
+    fn copied(&self, alloc: Global) -> Result<VirtualEvent, AllocError> {
         Ok(VirtualEvent {
             name: self.name.try_clone()?,
             sequences: copied(alloc, self.sequences.as_slice())?,

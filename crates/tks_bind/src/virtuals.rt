@@ -10,6 +10,7 @@ use std::alloc::{AllocError, Global};
 use std::marker::Model;
 use tks_event::Sequence;
 use tks_mark::{Items, Marked};
+use tks_share::Copied;
 use tks_text::{Seq, Txt};
 
 /// The virtual events that have sequences, in the order in which they were added. They know what they were at a mark.
@@ -169,14 +170,14 @@ impl Virtuals {
     {
         self.events.forget();
     }
+}
 
-    /// The same virtual events, with no mark.
-    pub fn try_clone(&self) -> Result<Virtuals, AllocError>
-        ensures { IfOk result (λ copy. copy ≡ record self.now { at_mark = None }) }
-    {
+impl Copied for Virtuals {
+    // What they were at a mark is copied too.
+    fn copied(&self, alloc: Global) -> Result<Virtuals, AllocError> {
         Ok(Virtuals {
-            alloc: self.alloc,
-            events: copied(self.alloc, &self.events)?,
+            alloc,
+            events: self.events.copied(alloc)?,
         })
     }
 }
@@ -217,15 +218,4 @@ fn found<'a>(events: &'a Marked<VirtualEvent>, name: &Txt) -> Option<&'a Virtual
         }
     }
     None
-}
-
-// The same virtual events, with no mark.
-fn copied(alloc: Global, events: &Marked<VirtualEvent>) -> Result<Marked<VirtualEvent>, AllocError>
-    ensures { IfOk result (λ copy. copy ≡ record events.now { at_mark = None }) }
-{
-    let mut copy = Marked::new(alloc);
-    for event in events.items() {
-        copy.push(event.try_clone(alloc)?)?;
-    }
-    Ok(copy)
 }

@@ -1,5 +1,4 @@
 pub mod Each
-pub mod Destroys
 pub mod Errors
 pub mod Packs
 pub mod Pairs

@@ -1,5 +1,5 @@
 //! `after`.
-ghost use Rattle.std.specs.Prelude.{◌≡◌, ◌+◌, [], ◌∷◌, decimal, map, IfOk};
+ghost use Rattle.std.specs.Prelude.{◌≡◌, ◌+◌, [], ◌∷◌, decimal, map, IfOk, OnOk};
 ghost use Rattle.tks_text.specs.Integer.{integer_of};
 ghost use Rattle.tks_tcl.specs.Cause.{bare};
 ghost use Rattle.tks_tcl.specs.Meets.{GivesSo, TellsSo};
@@ -13,7 +13,7 @@ use itoa::Buffer;
 use std::alloc::{AllocError, Global};
 use tks_list::join;
 use tks_state::World;
-use tks_tcl::{Interrupt, concatenated, error_about, integer_in, within, wrong_words};
+use tks_tcl::{Interrupt, concatenated, concatenated_within, error_about, integer_in, wrong_words};
 use tks_text::{ErrorNumber, Limits, ScriptFault, Seq, Txt, decimal_of, integer_of};
 use tks_timer::{AfterFault, Timers, Waiting};
 
@@ -109,8 +109,7 @@ fn due_after(time: u64, delay: u64) -> u64
 fn script_read(alloc: Global, words: &[Txt], limits: &Limits) -> Result<Txt, Interrupt>
     ensures { GivesSo (λ t. t) result (script_read limits.now words.now) }
 {
-    let script = concatenated(alloc, words)?;
-    within(script, limits)
+    concatenated_within(alloc, words, limits)
 }
 
 // Whether the list of timers passes no limit.
@@ -221,12 +220,13 @@ fn cancelled_id(alloc: Global, words: &[Txt], timers: &Timers) -> Result<Option<
 }
 
 // Takes out the script of an id, where there is one.
-fn cancel(world: &mut World, id: Option<u64>)
-    ensures { world.new ≡ cancelled id world.old }
+fn cancel(world: &mut World, id: Option<u64>) -> Result<(), AllocError>
+    ensures { OnOk result (world.new ≡ cancelled id world.old) }
 {
     if let Some(id) = id {
-        world.cancel(id);
+        world.cancel(id)?;
     }
+    Ok(())
 }
 
 // after cancel id, after cancel script ..
@@ -235,7 +235,7 @@ fn run_cancel(alloc: Global, words: &[Txt], world: &mut World) -> Result<Txt, In
     ensures kept { KeepsSo result world.old world.new }
 {
     let id = cancelled_id(alloc, words, world.timers())?;
-    cancel(world, id);
+    cancel(world, id)?;
     Ok(Txt::new(alloc))
 }
 

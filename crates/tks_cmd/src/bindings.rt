@@ -183,7 +183,7 @@ pub fn run_bindtags(
         [path, list] => {
             let window = window_of(world, path)?;
             let tags = tags_in(alloc, list, limits)?;
-            world.set_tags(window, given_tags(tags));
+            world.set_tags(window, given_tags(tags))?;
             Ok(Txt::new(alloc))
         }
         _ => Err(wrong_words(command)),

@@ -154,7 +154,7 @@ fn takes_at(world: &World, window: WindowId) -> bool
     ensures { result ≡ takes_at world.now window }
 {
     match world.kept(window) {
-        Some(kept) => takes_focus(kept.widget.options()),
+        Some(kept) => takes_focus(kept.widget.get().options()),
         None => false,
     }
 }

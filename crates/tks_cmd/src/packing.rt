@@ -136,12 +136,13 @@ fn run_configure(
 }
 
 // Takes windows out of those that they are packed in.
-fn unpack_all(world: &mut World, windows: &[WindowId])
-    ensures { world.new ≡ unpacked_all windows.now world.old }
+fn unpack_all(world: &mut World, windows: &[WindowId]) -> Result<(), AllocError>
+    ensures { OnOk result (world.new ≡ unpacked_all windows.now world.old) }
 {
     for window in windows {
-        world.forget(*window);
+        world.forget(*window)?;
     }
+    Ok(())
 }
 
 // pack forget window ..
@@ -159,7 +160,7 @@ fn run_forget(
         return Err(wrong_words(command));
     }
     let windows = windows_of(alloc, world, words)?;
-    unpack_all(world, windows.as_slice());
+    unpack_all(world, windows.as_slice())?;
     Ok(Txt::new(alloc))
 }
 
@@ -191,7 +192,7 @@ fn slaves_text(alloc: Global, world: &World, window: WindowId) -> Result<Txt, Al
     let Some(kept) = world.kept(window) else {
         return Ok(Txt::new(alloc));
     };
-    let paths = paths_of(alloc, world.tree(), kept.packing.contents())?;
+    let paths = paths_of(alloc, world.tree(), kept.packing.get().contents())?;
     let text = join(alloc, paths.as_slice())?;
     Ok(text)
 }
@@ -215,7 +216,7 @@ fn propagates(world: &World, window: WindowId) -> bool
     ensures { result ≡ (packing_of world.now window).propagates }
 {
     match world.kept(window) {
-        Some(kept) => kept.packing.propagates(),
+        Some(kept) => kept.packing.get().propagates(),
         None => true,
     }
 }
@@ -250,7 +251,7 @@ fn run_propagate(
         [path, value] => {
             let window = window_of(world, path)?;
             let truth = truth_of(value)?;
-            world.set_propagates(window, truth);
+            world.set_propagates(window, truth)?;
             Ok(Txt::new(alloc))
         }
         _ => Err(wrong_words(command)),

@@ -144,7 +144,7 @@ fn delete(alloc: Global, name: &Txt, texts: &[Txt], world: &mut World) -> Result
 {
     let name = name_read(alloc, name)?;
     if texts.is_empty() {
-        world.remove_virtual(&name);
+        world.remove_virtual(&name)?;
         return Ok(());
     }
     let sequences = all_read(alloc, texts)?;

@@ -41,7 +41,7 @@ pub fn run_window(
     let Some(kept) = world.kept(window) else {
         return Ok(Plan::Answer(0, Txt::new(alloc)));
     };
-    let told = call(alloc, words, &kept.widget, variables, limits)?;
-    world.set_widget(window, told.widget);
+    let told = call(alloc, words, kept.widget.get(), variables, limits)?;
+    world.set_widget(window, told.widget)?;
     Ok(plan_of(told.said))
 }

@@ -1,5 +1,5 @@
 //! Making and destroying windows.
-ghost use Rattle.std.specs.Prelude.{◌≡◌, true, IfOk};
+ghost use Rattle.std.specs.Prelude.{◌≡◌, true, IfOk, OnOk};
 ghost use Rattle.std.specs.List.{list_all};
 ghost use Rattle.tks_tcl.specs.Cause.{after};
 ghost use Rattle.tks_tcl.specs.Meets.{GivesSo};
@@ -218,26 +218,31 @@ fn are_others(paths: &[Txt]) -> bool
     paths.iter().all(|path| path.as_bytes() != b".".as_slice())
 }
 
-// Destroys the window of a path, with all that stand in it, where there is one. Only `.` would be refused.
-fn destroy(world: &mut World, path: &Txt)
+// Destroys the window of a path, with all that stand in it, where there is one.
+fn destroy(world: &mut World, path: &Txt) -> Result<(), AllocError>
     requires { is_other path.now ≡ true }
-    ensures { world.new ≡ without_path world.old path.now }
+    ensures { OnOk result (world.new ≡ without_path world.old path.now) }
 {
     let Some(window) = world.tree().find(path) else {
-        return;
+        return Ok(());
     };
     let id = window.id;
-    let _ = world.remove_window(id);
+    match world.remove_window(id) {
+        Ok(()) => Ok(()),
+        // `.` alone would be an error.
+        Err(_) => Err(AllocError),
+    }
 }
 
 // Destroys the windows of paths, one after the other.
-fn destroy_all(world: &mut World, paths: &[Txt])
+fn destroy_all(world: &mut World, paths: &[Txt]) -> Result<(), AllocError>
     requires { list_all is_other paths.now ≡ true }
-    ensures { world.new ≡ without_all world.old paths.now }
+    ensures { OnOk result (world.new ≡ without_all world.old paths.now) }
 {
     for path in paths {
-        destroy(world, path);
+        destroy(world, path)?;
     }
+    Ok(())
 }
 
 /// destroy path .. Paths that no window has are passed over.
@@ -257,6 +262,6 @@ pub fn run_destroy(
     if !are_others(words) {
         return Err(not_on_root());
     }
-    destroy_all(world, words);
+    destroy_all(world, words)?;
     Ok(Txt::new(alloc))
 }

@@ -8,6 +8,7 @@ ghost use Rattle.tks_codec_world.specs.Storable.{PackingFits, KeptFits};
 use crate::content::is_content;
 use tks_codec_windows::{are_short, has_paddings, has_short_values};
 use tks_pack::{Content, Packing};
+use tks_share::SharedList;
 use tks_state::Kept;
 use tks_text::{Seq, Txt};
 
@@ -45,17 +46,17 @@ fn packing_fits(packing: &Packing) -> bool
 fn kept_fits(kept: &Kept) -> bool
     ensures { (result ≡ true) ↔ KeptFits kept.now }
 {
-    has_short_values(kept.widget.options())
+    has_short_values(kept.widget.get().options())
         && tags_fit(kept.tags.as_ref())
-        && packing_fits(&kept.packing)
-        && is_content(&kept.widget)
+        && packing_fits(kept.packing.get())
+        && is_content(kept.widget.get())
 }
 
 /// Whether what is kept of each window has a spelling.
-pub fn all_kept_fit(kept: &[Kept]) -> bool
+pub fn all_kept_fit(kept: &SharedList<Kept>) -> bool
     ensures { (result ≡ true) ↔ AllByRecursion KeptFits kept.now }
 {
-    for one in kept {
+    for one in kept.iter() {
         if !kept_fits(one) {
             return false;
         }

@@ -111,10 +111,10 @@ fn put_rest(
     ensures legal { OnOk result (RestIsLegal kept.now packing) }
 {
     put_tags(out, kept.tags.as_ref().map(Seq::as_slice))?;
-    put_flag(out, kept.packing.propagates())?;
-    put_contents(out, &kept.packing)?;
+    put_flag(out, kept.packing.get().propagates())?;
+    put_contents(out, kept.packing.get())?;
     put_packing(out, packing)?;
-    put_content(alloc, out, &kept.widget)
+    put_content(alloc, out, kept.widget.get())
 }
 
 // Adds the parts of a window.
@@ -136,7 +136,7 @@ fn put_parts(
     put_u64(out, window.id.number())?;
     put_text(out, window.path)?;
     put_class(out, window.class)?;
-    put_options(out, kept.widget.options())?;
+    put_options(out, kept.widget.get().options())?;
     put_rest(alloc, out, kept, packing)
 }
 

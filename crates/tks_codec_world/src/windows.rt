@@ -21,6 +21,7 @@ use tks_codec::writing::put_u32;
 use tks_codec_windows::{Place, placed, settings_in};
 use tks_opt::class_number;
 use tks_pack::{Packing, Settings};
+use tks_share::SharedList;
 use tks_state::{Kept, Widget, WindowParts, World};
 use tks_text::{Class, Seq, Txt};
 use tks_tree::{Tree, Window, WindowId};
@@ -111,11 +112,11 @@ pub fn windows_of(alloc: Global, next: u64, bytes: &[u8]) -> Result<(WindowsRead
 }
 
 // How a window is packed, in the first of these that holds it.
-fn packed_as(kept: &[Kept], window: WindowId) -> Option<Settings>
+fn packed_as(kept: &SharedList<Kept>, window: WindowId) -> Option<Settings>
     ensures { result ≡ packed_as (packings_of kept.now) window }
 {
-    for one in kept {
-        let settings = settings_in(one.packing.contents(), window);
+    for one in kept.iter() {
+        let settings = settings_in(one.packing.get().contents(), window);
         if settings.is_some() {
             return settings;
         }
@@ -124,7 +125,12 @@ fn packed_as(kept: &[Kept], window: WindowId) -> Option<Settings>
 }
 
 // Adds a line for each window.
-fn put_each(alloc: Global, out: &mut Vec<u8>, tree: &Tree, kept: &[Kept]) -> Result<(), AllocError>
+fn put_each(
+    alloc: Global,
+    out: &mut Vec<u8>,
+    tree: &Tree,
+    kept: &SharedList<Kept>,
+) -> Result<(), AllocError>
     requires in_step { InStep tree.now.windows kept.now }
     requires paths { AllByRecursion HasShortPath tree.now.windows }
     requires short { AllByRecursion KeptFits kept.now }
@@ -135,8 +141,11 @@ fn put_each(alloc: Global, out: &mut Vec<u8>, tree: &Tree, kept: &[Kept]) -> Res
         let Some(window) = tree.nth(index) else {
             unreachable!()
         };
+        let Some(one) = kept.get(index) else {
+            unreachable!()
+        };
         let packing = packed_as(kept, window.id);
-        put_line(alloc, out, &window, &kept[index], packing)?;
+        put_line(alloc, out, &window, one, packing)?;
     }
     Ok(())
 }

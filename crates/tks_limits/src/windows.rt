@@ -8,6 +8,7 @@ use crate::texts::{fits, may_hold, texts_fit};
 use tks_lines::{Mark, Tag, TextWidget};
 use tks_listbox::{Item, ListWidget};
 use tks_opt::Options;
+use tks_share::SharedList;
 use tks_state::{Kept, Widget};
 use tks_text::{Limits, Seq, Txt};
 use tks_tree::Tree;
@@ -132,16 +133,16 @@ fn content_fits(widget: &Widget, limits: &Limits) -> bool
 fn kept_fits(kept: &Kept, limits: &Limits) -> bool
     ensures { result ≡ kinds.kept_fits limits.now kept.now }
 {
-    values_fit(kept.widget.options(), limits)
+    values_fit(kept.widget.get().options(), limits)
         && tags_fit(kept.tags.as_ref(), limits)
-        && content_fits(&kept.widget, limits)
+        && content_fits(kept.widget.get(), limits)
 }
 
 /// Whether what is kept of each window fits.
-pub fn all_kept_fit(kept: &[Kept], limits: &Limits) -> bool
+pub fn all_kept_fit(kept: &SharedList<Kept>, limits: &Limits) -> bool
     ensures { result ≡ list_all (kinds.kept_fits limits.now) kept.now }
 {
-    for one in kept {
+    for one in kept.iter() {
         if !kept_fits(one, limits) {
             return false;
         }

@@ -6,4 +6,5 @@ mod list;
 mod slot;
 
 pub use items::Items;
-pub use list::{Marked, Numbered};
+pub use list::Marked;
+pub use tks_share::Numbered;

@@ -7,17 +7,7 @@ use crate::items::Items;
 use crate::slot::Slot;
 use std::alloc::{AllocError, AllocFailed, Global};
 use std::marker::Model;
-
-/// What has a number, by which items are taken out of a list.
-pub trait Numbered: Drop {
-    ghost use Rattle.std.specs.Prelude.{◌≡◌, ℕ};
-
-    ghost number_of: { Self → ℕ };
-
-    /// The number.
-    fn number(&self) -> u64
-        ensures { result ≡ number_of self.now };
-}
+use tks_share::{Copied, Numbered, copies_of};
 
 /// A list that knows what it was at a mark. Contracts see what it is now, and, where a mark stands, what it was
 /// at the mark.
@@ -178,6 +168,17 @@ impl<T: Numbered> Marked<T> {
     {
         strike(&mut self.slots, self.is_marked, number);
         self.is_changed = self.is_marked;
+    }
+}
+
+impl<T: Copied> Copied for Marked<T> {
+    // What it was at a mark is copied too.
+    fn copied(&self, alloc: Global) -> Result<Marked<T>, AllocError> {
+        Ok(Marked {
+            slots: copies_of(alloc, &self.slots)?,
+            is_marked: self.is_marked,
+            is_changed: self.is_changed,
+        })
     }
 }
 

@@ -1,12 +1,12 @@
 -- Where events are put.
-use Rattle.std.specs.List.{insert, remove, list_all}
-use Rattle.std.proofs.Common.{◌≡◌, ◌≤◌, ◌+◌, ◌-◌, if◌then◌else◌, ◌||◌, ◌⊎◌, inl, inr, ℕ, zero, suc, not, Bool, true, false, List, [], ◌∷◌, ◌++◌, length, refl, ap, ◌∙◌, sym, arith}
+use Rattle.std.specs.List.{insert, list_all}
+use Rattle.std.proofs.Common.{◌≡◌, ◌≤◌, ◌+◌, ◌-◌, if◌then◌else◌, ◌⊎◌, inl, inr, ℕ, suc, not, Bool, true, false, List, [], ◌∷◌, length, refl, ap, arith}
 use Rattle.tks_event.specs.declared.event.Event.{Event}
 use Rattle.tks_queue.specs.declared.queued.Queued.{Queued}
 use Rattle.std.proofs.lemmas.List.Edits.{insert_end}
 use Rattle.tks_queue.specs.declared.place.Place.{Place}
 use Rattle.tks_queue.specs.declared.place.Place.TheVariants as place
-use Rattle.tks_queue.specs.EventQueue.{put, queued, some_with_mark, put_with_mark, without_first, BehindTheLast, First}
+use Rattle.tks_queue.specs.EventQueue.{put, queued, some_with_mark, put_with_mark, BehindTheLast, First}
 use Rattle.tks_queue.specs.Index.{up_to_mark, is_mark, index_for}
 
 put_by_index : (e : Event) (queue : List Queued) → insert queue (up_to_mark queue) (queued true e) ≡ put_with_mark e queue

@@ -9,6 +9,7 @@ use std::alloc::{AllocError, AllocFailed, Global};
 use std::marker::Model;
 use tks_event::Event;
 use tks_mark::{Items, Marked};
+use tks_share::Copied;
 
 /// The events that wait to be delivered, the next one first. They know what they were at a mark.
 #[derive(Drop)]
@@ -139,14 +140,14 @@ impl Queue {
     {
         self.events.forget();
     }
+}
 
-    /// The same events, with no mark.
-    pub fn try_clone(&self) -> Result<Queue, AllocError>
-        ensures { IfOk result (λ copy. copy ≡ record self.now { at_mark = None }) }
-    {
+impl Copied for Queue {
+    // What it was at a mark is copied too.
+    fn copied(&self, alloc: Global) -> Result<Queue, AllocError> {
         Ok(Queue {
-            alloc: self.alloc,
-            events: copied(self.alloc, &self.events)?,
+            alloc,
+            events: self.events.copied(alloc)?,
         })
     }
 }
@@ -183,15 +184,4 @@ fn up_to_mark(events: &Marked<Queued>) -> usize
         }
     }
     count
-}
-
-// The same events, with no mark.
-fn copied(alloc: Global, events: &Marked<Queued>) -> Result<Marked<Queued>, AllocError>
-    ensures { IfOk result (λ copy. copy ≡ record events.now { at_mark = None }) }
-{
-    let mut copy = Marked::new(alloc);
-    for queued in events.items() {
-        copy.push(queued.try_clone()?)?;
-    }
-    Ok(copy)
 }

@@ -1,8 +1,7 @@
-ghost use Rattle.std.specs.Prelude.{◌≡◌, IfOk};
-
-use std::alloc::AllocError;
+use std::alloc::{AllocError, Global};
 use tks_event::Event;
 use tks_mark::Numbered;
+use tks_share::Copied;
 
 /// An event that waits to be delivered.
 #[derive(Debug, Drop)]
@@ -12,11 +11,8 @@ pub struct Queued {
     pub with_mark: bool,
 }
 
-impl Queued {
-    /// An equal one.
-    pub fn try_clone(&self) -> Result<Queued, AllocError>
-        ensures { IfOk result (λ q. q ≡ self.now) }
-    {
+impl Copied for Queued {
+    fn copied(&self, _alloc: Global) -> Result<Queued, AllocError> {
         Ok(Queued {
             event: self.event.try_clone()?,
             with_mark: self.with_mark,

@@ -41,6 +41,7 @@ fn rows_of(alloc: Global, world: &World, placed: &Placed) -> Result<Seq<Seq<u8>>
     let height = placed.area.height as usize;
     let cells = kept
         .widget
+        .get()
         .shown_as_seen(alloc, world.variables(), width, height)?;
     Ok(cells)
 }

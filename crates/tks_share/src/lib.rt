@@ -16,7 +16,7 @@ mod shared;
 mod tree;
 
 pub use change::Change;
-pub use copied::Copied;
+pub use copied::{Copied, copies_of};
 pub use items::Items;
 pub use iter::Iter;
 pub use list::SharedList;

@@ -13,8 +13,9 @@ use Rattle.tks_pack.specs.Settings as settings
 use Rattle.tks_pack.specs.declared.settings.Settings.{Settings}
 use Rattle.tks_pack.specs.declared.packing.Content.{Content}
 use Rattle.tks_tree.specs.Windows.{Window, Windows, of_number, parent, destroyed, first_windows}
+use Rattle.tks_share.specs.Lists.{Rises}
 use Rattle.tks_tree.specs.WellFormed as trees
-use Rattle.tks_tree.specs.WellFormed.{Rise, Rises}
+use Rattle.tks_tree.specs.WellFormed.{Rise}
 use Rattle.tks_tree.proofs.Parents.{Destroyed, destroyed_so, turned}
 use Rattle.tks_state.specs.declared.kept.Kept.{Kept}
 use Rattle.tks_state.specs.declared.widget.Widget.{Widget}

@@ -1,10 +1,10 @@
 -- Sizes and places, found one after the other.
-use Rattle.std.proofs.Common.{◌≡◌, ℕ, suc, ◌+◌, ◌<◌, ◌^◌, length, get_or, drop, drop-cons, add-one, subst, sym, append_assoc, Bool, true, false, cond, if◌then◌else◌, List, [], ◌∷◌, ◌++◌, Option, Some, None, refl, ap, ◌∙◌, arith}
+use Rattle.std.proofs.Common.{◌≡◌, ℕ, zero, suc, ◌+◌, ◌<◌, ◌^◌, length, get_or, drop, drop-cons, add-one, subst, sym, append_assoc, Bool, true, false, cond, if◌then◌else◌, List, [], ◌∷◌, ◌++◌, Option, Some, None, refl, ap, ◌∙◌, arith}
 use Rattle.std.specs.List.{AllByRecursion}
 use Rattle.std.specs.Ordering.{nat_cmp, eq_by_cmp}
 use Rattle.std.specs.Cmp.{nat_cmp_total}
 use Rattle.std.specs.FinMap as map
-use Rattle.std.specs.Prelude.{IfSome}
+use Rattle.std.specs.Prelude.{IfSome, slice_get, take}
 use Rattle.tks_text.specs.Size as grid
 use Rattle.tks_pack.specs.Laws.{LiesInside}
 use Rattle.tks_pack.specs.Packing.{places}
@@ -18,14 +18,16 @@ use Rattle.tks_vars.specs.Variables.{Variables}
 use Rattle.tks_state.specs.ByWindow.{ByWindow}
 use Rattle.tks_state.specs.Layout.{size_in, with_size, sizes_before, placed_after, on_grid, extent_of, grid_area, with_content, with_contents, with_contents_of, with_area, shown_of, LiesOn, AllInside, AllLieOn, covers, or_this, last_over}
 
--- the last one goes first
-pub sizes_last : (variables : Variables) (kept rest : List Kept) (k : Kept) (known : ByWindow Extent) → rest ≡ kept ++ k ∷ []
-    → sizes_before variables rest known ≡ sizes_before variables kept (with_size variables k known)
-sizes_last variables kept rest k known h = ap (λ ks. sizes_before variables ks known) h ∙ by kept
-  where
-    by : (ks : List Kept) → sizes_before variables (ks ++ k ∷ []) known ≡ sizes_before variables ks (with_size variables k known)
-    by [] = refl
-    by (l ∷ ks) = ap (with_size variables l) (by ks)
+abbrev kept_or : Kept → Option Kept → Kept
+kept_or d None = d
+kept_or d (Some k) = k
+
+-- of windows up to one, it goes first
+pub sizes_up_to : (variables : Variables) (kept : List Kept) (n : ℕ) (k : Kept) (known : ByWindow Extent) → slice_get kept n ≡ Some k
+    → sizes_before variables (take n kept) (with_size variables k known) ≡ sizes_before variables (take (suc n) kept) known
+sizes_up_to variables [] n k known h = absurd cc
+sizes_up_to variables (l ∷ kept) zero k known h = ap (λ o. with_size variables (kept_or k o) known) (sym h)
+sizes_up_to variables (l ∷ kept) (suc n) k known h = ap (with_size variables l) (sizes_up_to variables kept n k known h)
 
 -- ---- all cells lie on the grid
 
@@ -75,11 +77,11 @@ area_fits g (Some a) w h lies = (omega (arith, w, lies.0), omega (arith, h, lies
 next_one : {X : Type 0} (xs : List X) (i : ℕ) (x : X) → i < length xs → x ≡ get_or xs i x → drop i xs ≡ x ∷ drop (i + 1) xs
 next_one xs i x h e = rw (add-one) (drop-cons xs i x h ∙ ap (λ y. y ∷ drop (suc i) xs) (sym e))
 
-pub placed_more : (known : ByWindow Extent) (old new : ByWindow Area) (kept : List Kept) (i : ℕ) (k : Kept) (area : Option Area) → i < length kept → k ≡ get_or kept i k
-    → area ≡ map.get old k.window → new ≡ with_contents_of known k area old → placed_after known new (drop (i + 1) kept) ≡ placed_after known old (drop i kept)
-placed_more known old new kept i k area h e a n =
-    ap (λ ps. placed_after known ps (drop (i + 1) kept)) (n ∙ ap (λ o. with_contents_of known k o old) a)
-    ∙ sym (ap (placed_after known old) (next_one kept i k h e))
+pub placed_more : (known : ByWindow Extent) (old new : ByWindow Area) (all rest : List Kept) (k : Kept) (area : Option Area) → all ≡ k ∷ rest
+    → area ≡ map.get old k.window → new ≡ with_contents_of known k area old → placed_after known new rest ≡ placed_after known old all
+placed_more known old new all rest k area e a n =
+    ap (λ ps. placed_after known ps rest) (n ∙ ap (λ o. with_contents_of known k o old) a)
+    ∙ sym (ap (placed_after known old) e)
 
 with_rest : (number : ℕ) (area : Option Area) (rest : List Placed) → with_area number area [] ++ rest ≡ with_area number area rest
 with_rest number None rest = refl

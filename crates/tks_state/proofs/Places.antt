@@ -1,5 +1,7 @@
 -- What is kept of a window, by its place.
-use Rattle.std.proofs.Common.{◌≡◌, ◌<◌, ℕ, zero, suc, ◌==◌, Bool, true, false, List, [], ◌∷◌, length, set, get_or, Some, None, position, refl, sym, ap, ◌∙◌, Result, Ok, Err, arith}
+use Rattle.std.proofs.Common.{◌≡◌, ◌<◌, ℕ, zero, suc, ◌==◌, Bool, true, false, cond, if◌then◌else◌, List, [], ◌∷◌, length, set, get_or, Option, Some, None, is_some, position, refl, sym, ap, ◌∙◌, true≢false, Result, Ok, Err, arith}
+use Rattle.std.specs.Prelude.{map, slice_get, IfSome}
+use Rattle.std.proofs.lemmas.Option.{slice_get-get_or}
 use Rattle.std.specs.Result.{IsErrAnd}
 use Rattle.std.proofs.lemmas.List.Quantifiers.{position-Some}
 use Rattle.tks_text.specs.Fault.{Gives}
@@ -11,9 +13,10 @@ use Rattle.tks_pack.specs.Meets.{PacksSo}
 use Rattle.tks_tree.proofs.Removals.{found_nowhere}
 use Rattle.tks_state.specs.declared.kept.Kept.{Kept}
 use Rattle.tks_state.specs.Windows.{kept_of, replaced}
+use Rattle.tks_state.specs.WellFormed.{mark_of}
 
 module _ (w : ℕ) where
-  abbrev is : Kept → Bool
+  abbrev pub is : Kept → Bool
   is k = k.window == w
 
   -- the first of the window is the one at i
@@ -36,24 +39,39 @@ module _ (w : ℕ) where
   replaced_first new (k ∷ ks) zero d h = rw h.1 refl
   replaced_first new (k ∷ ks) (suc i) d h = rw (first_other k ks i d h) (ap {B = List Kept} (λ r. k ∷ r) (replaced_first new ks i d (behind k ks i d h)))
 
-  pub kept_at : (ks : List Kept) (i : ℕ) (d : Kept) → Some i ≡ position is ks → kept_of ks w ≡ Some (get_or ks i d)
-  kept_at ks i d e = kept_first ks i d (position-Some is ks i d (sym e))
+  -- what stands at the place that was found is what is kept of the window
+  pub got : (ks : List Kept) (i : ℕ) → Some i ≡ position is ks → slice_get ks i ≡ kept_of ks w
+  got [] i p = absurd (true≢false (ap is_some p))
+  got (k ∷ ks) i p =
+      let first : First (k ∷ ks) i k = position-Some is (k ∷ ks) i k (sym p) in
+      slice_get-get_or (k ∷ ks) i k first.0 ∙ sym (kept_first (k ∷ ks) i k first)
 
-  pub set_at : (new : Kept) (ks : List Kept) (i : ℕ) (d : Kept) → Some i ≡ position is ks → set ks i new ≡ replaced w new ks
-  set_at new ks i d e = replaced_first new ks i d (position-Some is ks i d (sym e))
+  -- another put there stands in the place of what is kept of the window
+  pub put_there : (new : Kept) (ks : List Kept) (i : ℕ) → Some i ≡ position is ks → set ks i new ≡ replaced w new ks
+  put_there new ks i p = replaced_first new ks i new (position-Some is ks i new (sym p))
 
--- what is kept of a window stands at a place, and may be replaced there
-pub record At (w i : ℕ) (ks : List Kept) (k : Kept) : Type 0 where
-  pub there : kept_of ks w ≡ Some k
-  pub put : (new : Kept) → set ks i new ≡ replaced w new ks
+  -- where nothing is kept of the window, nothing is replaced
+  pub none_replaced : (new : Kept) (ks : List Kept) → kept_of ks w ≡ None → replaced w new ks ≡ ks
+  none_replaced new [] h = refl
+  none_replaced new (k ∷ ks) h = by (is k) h (none_replaced new ks)
+    where
+      by : (b : Bool) → cond b (Some k) (kept_of ks w) ≡ None → (kept_of ks w ≡ None → replaced w new ks ≡ ks) → (if b then new ∷ ks else k ∷ replaced w new ks) ≡ k ∷ ks
+      by true h rest = absurd (true≢false (ap is_some h))
+      by false h rest = ap (λ r. k ∷ r) (rest h)
 
-pub at : (w i : ℕ) (ks seen : List Kept) (k : Kept) → seen ≡ ks → Some i ≡ position (is w) seen → k ≡ get_or ks i k → At w i ks k
-at w i ks seen k same p e =
-    let q : Some i ≡ position (is w) ks = p ∙ ap (position (is w)) same in
-    record { there = kept_at w ks i k q ∙ ap Some (sym e); put = λ new. set_at w new ks i k q }
+  -- where the mark of a window stays, all marks do
+  pub same_marks : (new : Kept) (ks : List Kept) → IfSome (kept_of ks w) (λ k. mark_of new ≡ mark_of k) → map mark_of (replaced w new ks) ≡ map mark_of ks
+  same_marks new [] h = refl
+  same_marks new (k ∷ ks) h = by (is k) h (same_marks new ks)
+    where
+      by : (b : Bool) → IfSome (cond b (Some k) (kept_of ks w)) (λ k. mark_of new ≡ mark_of k)
+          → (IfSome (kept_of ks w) (λ k. mark_of new ≡ mark_of k) → map mark_of (replaced w new ks) ≡ map mark_of ks)
+          → map mark_of (if b then new ∷ ks else k ∷ replaced w new ks) ≡ map mark_of (k ∷ ks)
+      by true h rest = ap (λ m. m ∷ map mark_of ks) h
+      by false h rest = ap (λ ms. mark_of k ∷ ms) (rest h)
 
-pub nowhere : (w : ℕ) (ks seen : List Kept) → seen ≡ ks → None ≡ position (is w) seen → kept_of ks w ≡ None
-nowhere w ks seen same p = found_nowhere (is w) ks (p ∙ ap (position (is w)) same)
+pub nowhere : (w : ℕ) (ks : List Kept) → None ≡ position (is w) ks → kept_of ks w ≡ None
+nowhere w ks p = found_nowhere (is w) ks p
 
 -- ---- errors
 

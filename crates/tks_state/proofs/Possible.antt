@@ -70,4 +70,5 @@ possible w h =
     let each = packs w.tree w.kept h.windows.packs in
     let remembered : nat_le (length w.history) max_history ≡ true = le-leb (length w.history) max_history h.events.history in
     let faults : nat_le (length w.faults) max_faults ≡ true = le-leb (length w.faults) max_faults h.events.faults in
-    rw (counted, step, each, remembered, faults, h.there) refl
+    let rests : (length w.variables.locals == 0) ≡ true = eq-eqb (length w.variables.locals) 0 (ap length h.rests) in
+    rw (counted, rests, step, each, remembered, faults, h.there) refl

@@ -2,7 +2,7 @@
 use Rattle.std.proofs.Common.{◌≡◌, ℕ, zero, suc, ◌+◌, Bool, true, false, ◌&&◌, ◌||◌, not, true≢false, map, List, [], ◌∷◌, length, ◌<◌, slice_index_or, Option, Some, None, refl, sym, ap, ◌∙◌, drop, arith}
 use Rattle.std.specs.Prelude.{slice_get, ◌≢◌, ◌==◌, ◌≤◌, ◌^◌, nat_le, if◌then◌else◌}
 use Rattle.std.specs.List.{AllByRecursion, IsDistinct, list_all}
-use Rattle.std.proofs.lemmas.Bool.{eqb-true, le-leb, lt-leb}
+use Rattle.std.proofs.lemmas.Bool.{eqb-true, eq-eqb, le-leb, lt-leb}
 use Rattle.tks_text.specs.declared.class.Class.{Class}
 use Rattle.tks_text.specs.declared.class.Class.TheVariants as class
 use Rattle.tks_opt.specs.Numbers.{class_number, class_numbered}
@@ -30,14 +30,14 @@ unfolding or_this
 some_same x y e = ap (or_this x) e
 
 -- what is behind the index of both
-pub in_step_at : (ws : List tree.Window) (ks : List Kept) (i : ℕ) (w : tree.Window) (k : Kept) → slice_get ws i ≡ Some w → k ≡ slice_index_or ks i k → i < length ks
+pub in_step_at : (ws : List tree.Window) (ks : List Kept) (i : ℕ) (w : tree.Window) (k : Kept) → slice_get ws i ≡ Some w → slice_get ks i ≡ Some k
     → are_in_step (drop i ws) (drop i ks) ≡ (is_kept_of w k && are_in_step (drop (i + 1) ws) (drop (i + 1) ks))
-in_step_at [] ks i w k e h lt = absurd cc
-in_step_at (v ∷ ws) [] i w k e h lt = absurd (omega (arith, lt))
-in_step_at (v ∷ ws) (l ∷ ks) zero w k e h lt = rw (some_same v w e, sym h) refl
-in_step_at (v ∷ ws) (l ∷ ks) (suc i) w k e h lt =
+in_step_at [] ks i w k e h = absurd cc
+in_step_at (v ∷ ws) [] i w k e h = absurd cc
+in_step_at (v ∷ ws) (l ∷ ks) zero w k e h = rw (some_same v w e, some_same l k h) refl
+in_step_at (v ∷ ws) (l ∷ ks) (suc i) w k e h =
     let same : suc (i + 1) ≡ suc i + 1 = omega arith in
-    in_step_at ws ks i w k e h (omega (arith, lt)) ∙ ap (λ n. is_kept_of w k && are_in_step (drop n (v ∷ ws)) (drop n (l ∷ ks))) same
+    in_step_at ws ks i w k e h ∙ ap (λ n. is_kept_of w k && are_in_step (drop n (v ∷ ws)) (drop n (l ∷ ks))) same
 
 -- of other lengths they are not in step
 pub not_in_step : (ws : List tree.Window) (ks : List Kept) → length ws ≢ length ks → are_in_step ws ks ≡ false
@@ -158,18 +158,19 @@ told false y x h = absurd (some_is_none (sym h))
 abbrev made : WorldParts → Windows → Events → World
 made p x e = record (world_of p) { tree = x.tree; kept = x.kept; bindings = e.bindings; virtuals = e.virtuals; history = e.history; faults = e.faults }
 
-pub possible : (p : WorldParts) (x : Windows) (e : Events) → p.accepted ≤ 2 ^ 62 → all_in p.tree.windows (loop_of (world_of p)) ≡ true → length p.history.present ≤ max_history
+pub possible : (p : WorldParts) (x : Windows) (e : Events) → p.accepted ≤ 2 ^ 62 → length p.variables.locals ≡ 0 → all_in p.tree.windows (loop_of (world_of p)) ≡ true → length p.history.present ≤ max_history
     → (if are_windows (windows_of (world_of p)) then Some (windows_of (world_of p)) else None) ≡ Some x
     → (if nat_le (length p.faults) max_faults then Some (events_of (world_of p)) else None) ≡ Some e
     → Some (made p x e) ≡ restored p
 unfolding is_possible
-possible p x e few there short windows events =
+possible p x e few none there short windows events =
     let w = world_of p in
     let a = told (are_windows (windows_of w)) (windows_of w) x windows in
     let b = told (nat_le (length p.faults) max_faults) (events_of w) e events in
     let counted : nat_le w.accepted (2 ^ 62) ≡ true = le-leb w.accepted (2 ^ 62) few in
     let remembered : nat_le (length w.history) max_history ≡ true = le-leb (length w.history) max_history short in
-    let all : is_possible w ≡ true = rw (counted, a.0, remembered, b.0, there) refl in
+    let rests : (length w.variables.locals == 0) ≡ true = eq-eqb (length w.variables.locals) 0 none in
+    let all : is_possible w ≡ true = rw (counted, rests, a.0, remembered, b.0, there) refl in
     ap (λ (v : Windows). Some (made p v e)) (sym a.1) ∙ ap (λ (v : Events). Some (made p (windows_of w) v)) (sym b.1) ∙ ap (λ (t : Bool). if t then Some w else None) (sym all)
 
 -- what is of windows that are there is of those that are made again
@@ -196,20 +197,43 @@ untold false x h = refl
 lost : (w : World) → is_possible w ≡ false → None ≡ (if is_possible w then Some w else None)
 lost w h = rw h refl
 
+-- what is asked for behind the count, and behind the frames
+rest_of : World → Bool
+rest_of w = are_windows (windows_of w) && (nat_le (length w.history) max_history && (nat_le (length w.faults) max_faults && all_in w.tree.windows (loop_of w)))
+
 pub too_many : (p : WorldParts) → 2 ^ 62 < p.accepted → None ≡ restored p
-unfolding is_possible
+unfolding is_possible rest_of
 too_many p many =
     let w = world_of p in
-    let others = are_windows (windows_of w) && (nat_le (length w.history) max_history && (nat_le (length w.faults) max_faults && all_in w.tree.windows (loop_of w))) in
-    lost w (no_first (nat_le w.accepted (2 ^ 62)) others (lt-leb w.accepted (2 ^ 62) many))
+    lost w (no_first (nat_le w.accepted (2 ^ 62)) ((length w.variables.locals == 0) && rest_of w) (lt-leb w.accepted (2 ^ 62) many))
+
+-- where no frame may stand, but one does
+pub frames_stand : (p : WorldParts) → 0 < length p.variables.locals → None ≡ restored p
+unfolding is_possible rest_of
+frames_stand p some =
+    let w = world_of p in
+    let none = length w.variables.locals == 0 in
+    lost w (no_second (nat_le w.accepted (2 ^ 62)) (none && rest_of w) (no_first none (rest_of w) (other (length w.variables.locals) some)))
+  where
+    other : (n : ℕ) → 0 < n → (n == 0) ≡ false
+    other n l = by (n == 0) refl
+      where
+        by : (b : Bool) → (n == 0) ≡ b → b ≡ false
+        by true e = absurd (omega (arith, l, eqb-true n 0 e))
+        by false e = refl
+
+lost_behind : (w : World) → rest_of w ≡ false → is_possible w ≡ false
+unfolding is_possible rest_of
+lost_behind w h =
+    let none = length w.variables.locals == 0 in
+    no_second (nat_le w.accepted (2 ^ 62)) (none && rest_of w) (no_second none (rest_of w) h)
 
 -- where the windows fit but what stands behind them doesn't
 no_others : (w : World) → (nat_le (length w.history) max_history && (nat_le (length w.faults) max_faults && all_in w.tree.windows (loop_of w))) ≡ false → is_possible w ≡ false
-unfolding is_possible
+unfolding rest_of
 no_others w h =
-    let windows = are_windows (windows_of w) in
     let others = nat_le (length w.history) max_history && (nat_le (length w.faults) max_faults && all_in w.tree.windows (loop_of w)) in
-    no_second (nat_le w.accepted (2 ^ 62)) (windows && others) (no_second windows others h)
+    lost_behind w (no_second (are_windows (windows_of w)) others h)
 
 pub not_there : (p : WorldParts) → all_in p.tree.windows (loop_of (world_of p)) ≡ false → None ≡ restored p
 not_there p h =
@@ -219,12 +243,12 @@ not_there p h =
     lost w (no_others w (no_second (nat_le (length w.history) max_history) (faults && there) (no_second faults there h)))
 
 pub no_windows : (p : WorldParts) → (if are_windows (windows_of (world_of p)) then Some (windows_of (world_of p)) else None) ≡ None → None ≡ restored p
-unfolding is_possible
+unfolding rest_of
 no_windows p h =
     let w = world_of p in
     let windows = are_windows (windows_of w) in
     let others = nat_le (length w.history) max_history && (nat_le (length w.faults) max_faults && all_in w.tree.windows (loop_of w)) in
-    lost w (no_second (nat_le w.accepted (2 ^ 62)) (windows && others) (no_first windows others (untold windows (windows_of w) h)))
+    lost w (lost_behind w (no_first windows others (untold windows (windows_of w) h)))
 
 pub no_events : (p : WorldParts) → (if nat_le (length p.faults) max_faults then Some (events_of (world_of p)) else None) ≡ None → None ≡ restored p
 no_events p h =

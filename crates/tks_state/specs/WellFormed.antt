@@ -1,5 +1,5 @@
 -- What holds of all worlds (this project's own rules; that what is packed stands in its container, pack(n)).
-use Rattle.std.specs.Prelude.{ℕ, ◌≡◌, ◌==◌, ◌≤◌, ◌^◌, true, List, length, map, Some}
+use Rattle.std.specs.Prelude.{ℕ, ◌≡◌, ◌==◌, ◌≤◌, ◌^◌, true, List, [], length, map, Some}
 use Rattle.std.specs.List.{AllByRecursion, IsDistinct}
 use Rattle.tks_text.specs.declared.class.Class.{Class}
 use Rattle.tks_tree.specs.Windows as tree
@@ -55,6 +55,8 @@ pub record WellFormedEvents (x : Events) : Type 0 where
 
 pub record WellFormed (w : World) : Type 0 where
   pub counted : w.accepted ≤ 2 ^ 62
+  -- no frame of variables stands
+  pub rests : w.variables.locals ≡ []
   pub windows : WellFormedWindows (windows_of w)
   pub events : WellFormedEvents (events_of w)
   -- the focus, the events that wait and the last press are of windows that are there, and what waits has ids that rise and

@@ -1,5 +1,5 @@
 //! What turns work on: the clock, what waits to be delivered or run, the focus, and what is held down.
-ghost use Rattle.std.specs.Prelude.{◌≡◌, ◌↔◌, ◌≤◌, ◌^◌, Err, is_some, IfOk, IfErr, OnOk, OnErr};
+ghost use Rattle.std.specs.Prelude.{◌≡◌, true, ◌↔◌, ◌≤◌, ◌^◌, Err, is_some, IfOk, IfErr, OnOk, OnErr};
 ghost use Rattle.std.specs.List.{list_all};
 ghost use Rattle.tks_queue.specs.EventQueue.{put, first, without_first};
 ghost use Rattle.tks_timer.specs.After as after;
@@ -14,16 +14,18 @@ use std::marker::Model;
 use tks_event::{Event, Held};
 use tks_mark::Items;
 use tks_queue::{Place, Queue, Queued};
+use tks_share::Shared;
 use tks_text::Txt;
 use tks_timer::{AfterFault, Timers};
 use tks_tree::{Tree, WindowId};
 
-/// What turns work on.
+/// What turns work on. Copies share the events and scripts that wait, as long as none of them changes them.
 #[derive(Drop)]
 pub struct EventLoop {
+    alloc: Global,
     clock: u64,
-    queue: Queue,
-    timers: Timers,
+    queue: Shared<Queue>,
+    timers: Shared<Timers>,
     focus: WindowId,
     held: Held,
     pressed: Option<WindowId>,
@@ -39,38 +41,41 @@ impl Model for EventLoop {
 
 impl EventLoop {
     /// The clock stands at 0, nothing waits, `.` has the focus, and nothing is held.
-    pub fn new(alloc: Global) -> EventLoop
-        ensures { result ≡ first_loop }
+    pub fn new(alloc: Global) -> Result<EventLoop, AllocError>
+        ensures { IfOk result (λ x. x ≡ first_loop) }
     {
-        EventLoop {
+        Ok(EventLoop {
+            alloc,
             clock: 0,
-            queue: Queue::new(alloc),
-            timers: Timers::new(alloc),
+            queue: Shared::new(alloc, Queue::new(alloc))?,
+            timers: Shared::new(alloc, Timers::new(alloc))?,
             focus: WindowId::root(),
             held: Held::nothing(),
             pressed: None,
-        }
+        })
     }
 
     /// The one with these parts.
     pub fn restore(
+        alloc: Global,
         clock: u64,
         queue: Queue,
         timers: Timers,
         focus: WindowId,
         held: Held,
         pressed: Option<WindowId>,
-    ) -> EventLoop
-        ensures { result ≡ record { clock = clock; queue = queue.present; timers = timers.present; focus = focus; held = held; pressed = pressed } }
+    ) -> Result<EventLoop, AllocError>
+        ensures { IfOk result (λ x. x ≡ record { clock = clock; queue = queue.present; timers = timers.present; focus = focus; held = held; pressed = pressed }) }
     {
-        EventLoop {
+        Ok(EventLoop {
+            alloc,
             clock,
-            queue,
-            timers,
+            queue: Shared::new(alloc, queue)?,
+            timers: Shared::new(alloc, timers)?,
             focus,
             held,
             pressed,
-        }
+        })
     }
 
     /// Whether the focus, the events that wait and the last press are of windows that are there.
@@ -78,7 +83,7 @@ impl EventLoop {
         ensures { result ≡ all_in tree.now.windows self.now }
     {
         is_there(tree, self.focus)
-            && are_for(tree, self.queue.events())
+            && are_for(tree, self.queue.get().events())
             && is_press(tree, self.pressed)
     }
 
@@ -100,7 +105,7 @@ impl EventLoop {
     pub fn queue(&self) -> &Queue
         ensures { result.now.present ≡ self.now.queue }
     {
-        &self.queue
+        self.queue.get()
     }
 
     /// Puts an event into its place. Where memory is refused, it hands the event back.
@@ -109,7 +114,10 @@ impl EventLoop {
         ensures err { OnErr result (self.new ≡ self.old) }
         ensures handed_back { IfErr result (λ refused. refused.value ≡ event) }
     {
-        self.queue.put(place, event)
+        match self.queue.get_mut(self.alloc) {
+            Ok(queue) => queue.put(place, event),
+            Err(_) => Err(AllocFailed { value: event }),
+        }
     }
 
     /// Takes out the first event.
@@ -118,7 +126,7 @@ impl EventLoop {
         ensures ok { OnOk result (self.new ≡ record self.old { queue = without_first self.old.queue }) }
         ensures err { OnErr result (self.new ≡ self.old) }
     {
-        self.queue.take()
+        self.queue.get_mut(self.alloc)?.take()
     }
 
     /// The scripts that wait to be run.
@@ -127,8 +135,8 @@ impl EventLoop {
         ensures formed { AreWaiting self.now.timers }
     {
         // What holds of all timers is asked for here.
-        let _ = self.timers.next();
-        &self.timers
+        let _ = self.timers.get().next();
+        self.timers.get()
     }
 
     /// Keeps a script that is due at a time. It answers the script's id.
@@ -138,7 +146,10 @@ impl EventLoop {
         ensures full { (result ≡ Err AfterFault.OutOfNumbers) ↔ (2 ^ 62 ≤ self.old.timers.next) }
         ensures err { OnErr result (self.new ≡ self.old) }
     {
-        self.timers.after(due, script)
+        if self.timers.get().is_full() {
+            return Err(AfterFault::OutOfNumbers);
+        }
+        self.timers.get_mut(self.alloc)?.after(due, script)
     }
 
     /// Keeps a script that runs when nothing else is to be done. It answers the script's id.
@@ -148,21 +159,28 @@ impl EventLoop {
         ensures full { (result ≡ Err AfterFault.OutOfNumbers) ↔ (2 ^ 62 ≤ self.old.timers.next) }
         ensures err { OnErr result (self.new ≡ self.old) }
     {
-        self.timers.idle(script)
+        if self.timers.get().is_full() {
+            return Err(AfterFault::OutOfNumbers);
+        }
+        self.timers.get_mut(self.alloc)?.idle(script)
     }
 
     /// Takes out the script of an id; where there is none, nothing is done.
-    pub fn cancel(&mut self, id: u64)
-        ensures { self.new ≡ record self.old { timers = after.without id self.old.timers } }
+    pub fn cancel(&mut self, id: u64) -> Result<(), AllocError>
+        ensures ok { OnOk result (self.new ≡ record self.old { timers = after.without id self.old.timers }) }
+        ensures err { OnErr result (self.new ≡ self.old) }
     {
-        self.timers.cancel(id);
+        self.timers.get_mut(self.alloc)?.cancel(id);
+        Ok(())
     }
 
     /// Takes out the script with the least id of those that are equal to this one; where there is none, nothing is done.
-    pub fn cancel_script(&mut self, script: &Txt)
-        ensures { self.new ≡ record self.old { timers = after.without_found (with_script script.now self.old.timers) self.old.timers } }
+    pub fn cancel_script(&mut self, script: &Txt) -> Result<(), AllocError>
+        ensures ok { OnOk result (self.new ≡ record self.old { timers = after.without_found (with_script script.now self.old.timers) self.old.timers }) }
+        ensures err { OnErr result (self.new ≡ self.old) }
     {
-        self.timers.cancel_script(script);
+        self.timers.get_mut(self.alloc)?.cancel_script(script);
+        Ok(())
     }
 
     /// Takes out the script of an id, to be run.
@@ -171,7 +189,7 @@ impl EventLoop {
         ensures ok { OnOk result (self.new ≡ record self.old { timers = after.without id self.old.timers }) }
         ensures err { OnErr result (self.new ≡ self.old) }
     {
-        self.timers.take(id)
+        self.timers.get_mut(self.alloc)?.take(id)
     }
 
     /// The window that has the focus.
@@ -216,23 +234,26 @@ impl EventLoop {
         self.pressed = window;
     }
 
-    /// Takes away what is of windows that are not there.
-    pub fn drop_lost(&mut self, tree: &Tree)
-        ensures { self.new ≡ left tree.now.windows self.old }
+    /// The same without what is of windows that are not there.
+    pub fn left(&self, tree: &Tree) -> Result<EventLoop, AllocError>
+        ensures { IfOk result (λ x. x ≡ left tree.now.windows self.now) }
     {
-        drop_events(&mut self.queue, tree);
-        self.focus = left_focus(tree, self.focus);
-        self.pressed = left_pressed(tree, self.pressed);
+        let mut left = self.try_clone()?;
+        leave(self.alloc, &mut left.queue, tree)?;
+        left.focus = left_focus(tree, left.focus);
+        left.pressed = left_pressed(tree, left.pressed);
+        Ok(left)
     }
 
-    /// The same, with no mark.
+    /// The same, held once more. Nothing of it is copied.
     pub fn try_clone(&self) -> Result<EventLoop, AllocError>
         ensures { IfOk result (λ x. x ≡ self.now) }
     {
         Ok(EventLoop {
+            alloc: self.alloc,
             clock: self.clock,
-            queue: self.queue.try_clone()?,
-            timers: self.timers.try_clone()?,
+            queue: self.queue.share()?,
+            timers: self.timers.share()?,
             focus: self.focus,
             held: self.held,
             pressed: self.pressed,
@@ -310,6 +331,24 @@ fn first_lost(queue: &Queue, tree: &Tree) -> usize
         left -= 1;
     }
     len
+}
+
+// Whether no event is of a window that is not there.
+fn all_stay(queue: &Queue, tree: &Tree) -> bool
+    ensures { result ≡ true → left_queue tree.now.windows queue.now.present ≡ queue.now.present }
+{
+    first_lost(queue, tree) >= queue.len()
+}
+
+// Takes out the events of windows that are not there. Where there are none, nothing is copied.
+fn leave(alloc: Global, queue: &mut Shared<Queue>, tree: &Tree) -> Result<(), AllocError>
+    ensures { OnOk result (queue.new ≡ record queue.old { present = left_queue tree.now.windows queue.old.present }) }
+{
+    if all_stay(queue.get(), tree) {
+        return Ok(());
+    }
+    drop_events(queue.get_mut(alloc)?, tree);
+    Ok(())
 }
 
 // Takes out the events of windows that are not there.

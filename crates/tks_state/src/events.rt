@@ -1,47 +1,43 @@
 //! What scripts bound to events rest on: the bindings, virtual events, the history, and the faults of such scripts.
-ghost use Rattle.std.specs.Prelude.{◌≡◌, ◌≢◌, ◌↔◌, ◌≤◌, ◌^◌, ◌-◌, [], Some, None, if◌then◌else◌, nat_le, Err, length, drop, option_copied, IfOk, IfErr, OnOk, OnErr};
+ghost use Rattle.std.specs.Prelude.{◌≡◌, true, ◌≢◌, ◌↔◌, ◌≤◌, ◌^◌, [], Some, None, if◌then◌else◌, nat_le, Err, length, option_copied, IfOk, IfErr, OnOk, OnErr};
 ghost use Rattle.tks_bind.specs.Binding.{bound};
 ghost use Rattle.tks_bind.specs.Choosing.{chosen};
 ghost use Rattle.tks_bind.specs.History as history;
 ghost use Rattle.tks_bind.specs.VirtualEvents.{added, deleted, deleted_sequence};
 ghost use Rattle.tks_tree.specs.Path.{begins_dot};
-ghost use Rattle.tks_state.specs.Events.{max_faults, first_events, last_faults, with_fault, is_held, held, all_held};
+ghost use Rattle.tks_state.specs.Events.{max_faults, first_events, with_fault, is_held, held};
 ghost use Rattle.tks_state.specs.Lost.{first_lost};
 ghost use Rattle.tks_state.specs.WellFormed.{WellFormedEvents};
 
 use crate::class_bindings::first_bindings;
+use crate::faults::Faults;
 use std::alloc::{AllocError, AllocFailed, Global};
 use std::marker::Model;
 use tks_bind::{BindFault, Binding, Bindings, History, Virtuals};
 use tks_event::{Event, Sequence};
+use tks_share::Shared;
 use tks_text::Txt;
 use tks_tree::Tree;
 
-/// How many faults are kept.
-const MAX_FAULTS: usize = 32;
-
-/// What scripts bound to events rest on.
+/// What scripts bound to events rest on. Copies share the parts that none of them has changed.
 #[derive(Drop)]
 pub struct Events {
     alloc: Global,
-    bindings: Bindings,
-    virtuals: Virtuals,
-    history: History,
-    faults: Vec<Txt>,
+    bindings: Shared<Bindings>,
+    virtuals: Shared<Virtuals>,
+    history: Shared<History>,
+    faults: Shared<Faults>,
 }
 
 impl Model for Events {
-    ghost use Rattle.std.specs.Prelude.{◌≤◌, length};
     ghost use Rattle.std.specs.Coded.{codes};
-    ghost use Rattle.tks_state.specs.Events.{Events, max_faults};
+    ghost use Rattle.tks_state.specs.Events.{Events};
 
     ghost Value = { Events };
 
     ghost coded = { Prim.hlevel codes };
 
-    ghost view = { λ x. record { bindings = x.bindings.present; virtuals = x.virtuals.present; history = x.history.present; faults = x.faults.items } };
-
-    ghost invariant = { λ x. length x.faults.items ≤ max_faults };
+    ghost view = { λ x. record { bindings = x.bindings.present; virtuals = x.virtuals.present; history = x.history.present; faults = x.faults } };
 }
 
 impl Events {
@@ -51,10 +47,10 @@ impl Events {
     {
         Ok(Events {
             alloc,
-            bindings: first_bindings(alloc)?,
-            virtuals: Virtuals::new(alloc),
-            history: History::new(alloc),
-            faults: Vec::new(alloc),
+            bindings: Shared::new(alloc, first_bindings(alloc)?)?,
+            virtuals: Shared::new(alloc, Virtuals::new(alloc))?,
+            history: Shared::new(alloc, History::new(alloc))?,
+            faults: Shared::new(alloc, Faults::none(alloc))?,
         })
     }
 
@@ -65,26 +61,26 @@ impl Events {
         virtuals: Virtuals,
         history: History,
         faults: Vec<Txt>,
-    ) -> Option<Events>
-        ensures { result ≡ (if nat_le (length faults.items) max_faults then Some (record { bindings = bindings.present; virtuals = virtuals.present; history = history.present; faults = faults.items }) else None) }
+    ) -> Result<Option<Events>, AllocError>
+        ensures { IfOk result (λ made. made ≡ (if nat_le (length faults.items) max_faults then Some (record { bindings = bindings.present; virtuals = virtuals.present; history = history.present; faults = faults.items }) else None)) }
     {
-        if faults.len() > MAX_FAULTS {
-            return None;
-        }
-        Some(Events {
+        let Some(faults) = Faults::restore(faults) else {
+            return Ok(None);
+        };
+        Ok(Some(Events {
             alloc,
-            bindings,
-            virtuals,
-            history,
-            faults,
-        })
+            bindings: Shared::new(alloc, bindings)?,
+            virtuals: Shared::new(alloc, virtuals)?,
+            history: Shared::new(alloc, history)?,
+            faults: Shared::new(alloc, faults)?,
+        }))
     }
 
     /// The bindings.
     pub fn bindings(&self) -> &Bindings
         ensures { result.now.present ≡ self.now.bindings }
     {
-        &self.bindings
+        self.bindings.get()
     }
 
     /// The texts of the last errors, the oldest first.
@@ -92,10 +88,10 @@ impl Events {
         ensures value { result.now ≡ self.now.faults }
         ensures formed { WellFormedEvents self.now }
     {
-        let _ = self.bindings.next();
-        let _ = self.virtuals.is_marked();
-        let _ = self.history.events();
-        self.faults.as_slice()
+        let _ = self.bindings.get().next();
+        let _ = self.virtuals.get().is_marked();
+        let _ = self.history.get().events();
+        self.faults.get().texts()
     }
 
     /// The binding of a tag that an event fires.
@@ -103,7 +99,8 @@ impl Events {
         ensures { option_copied result ≡ chosen (record { bindings = self.now.bindings.bindings; tag = tag.now; event = event.now; history = self.now.history; virtuals = self.now.virtuals }) }
     {
         self.bindings
-            .chosen(tag, event, &self.history, &self.virtuals)
+            .get()
+            .chosen(tag, event, self.history.get(), self.virtuals.get())
     }
 
     /// Sets the script that a tag has for a sequence.
@@ -112,21 +109,26 @@ impl Events {
         ensures full { (result ≡ Err BindFault.OutOfNumbers) ↔ ((script.now ≢ []) × (2 ^ 62 ≤ self.old.bindings.next)) }
         ensures err { OnErr result (self.new ≡ self.old) }
     {
-        self.bindings.bind(tag, sequence, script)
+        if !script.as_bytes().is_empty() && self.bindings.get().is_full() {
+            return Err(BindFault::OutOfNumbers);
+        }
+        self.bindings
+            .get_mut(self.alloc)?
+            .bind(tag, sequence, script)
     }
 
     /// The events that scripts were chosen for, the oldest first.
     pub fn history(&self) -> &History
         ensures { result.now.present ≡ self.now.history }
     {
-        &self.history
+        self.history.get()
     }
 
     /// The virtual events.
     pub fn virtuals(&self) -> &Virtuals
         ensures { result.now.present ≡ self.now.virtuals }
     {
-        &self.virtuals
+        self.virtuals.get()
     }
 
     /// Adds a sequence to a virtual event. One that is there stays where it is.
@@ -134,14 +136,16 @@ impl Events {
         ensures ok { OnOk result (self.new ≡ record self.old { virtuals = added name.now sequence.now self.old.virtuals }) }
         ensures err { OnErr result (self.new ≡ self.old) }
     {
-        self.virtuals.event_add(name, sequence)
+        self.virtuals.get_mut(self.alloc)?.event_add(name, sequence)
     }
 
     /// Takes a virtual event's sequences away.
-    pub fn remove_virtual(&mut self, name: &Txt)
-        ensures { self.new ≡ record self.old { virtuals = deleted name.now self.old.virtuals } }
+    pub fn remove_virtual(&mut self, name: &Txt) -> Result<(), AllocError>
+        ensures ok { OnOk result (self.new ≡ record self.old { virtuals = deleted name.now self.old.virtuals }) }
+        ensures err { OnErr result (self.new ≡ self.old) }
     {
-        self.virtuals.event_delete(name);
+        self.virtuals.get_mut(self.alloc)?.event_delete(name);
+        Ok(())
     }
 
     /// Takes a sequence of a virtual event away. Where none is left, the name goes too.
@@ -153,14 +157,18 @@ impl Events {
         ensures ok { OnOk result (self.new ≡ record self.old { virtuals = deleted_sequence name.now sequence.now self.old.virtuals }) }
         ensures err { OnErr result (self.new ≡ self.old) }
     {
-        self.virtuals.event_delete_sequence(name, sequence)
+        self.virtuals
+            .get_mut(self.alloc)?
+            .event_delete_sequence(name, sequence)
     }
 
-    /// Takes away the bindings of windows that are not there.
-    pub fn drop_lost(&mut self, tree: &Tree)
-        ensures { self.new ≡ record self.old { bindings = held tree.now.windows self.old.bindings } }
+    /// The same without the bindings of windows that are not there.
+    pub fn left(&self, tree: &Tree) -> Result<Events, AllocError>
+        ensures { IfOk result (λ x. x ≡ record self.now { bindings = held tree.now.windows self.now.bindings }) }
     {
-        drop_lost(&mut self.bindings, tree);
+        let mut left = self.try_clone()?;
+        hold(self.alloc, &mut left.bindings, tree)?;
+        Ok(left)
     }
 
     /// Adds an event to the history. Where memory is refused, it hands the event back.
@@ -169,7 +177,10 @@ impl Events {
         ensures err { OnErr result (self.new ≡ self.old) }
         ensures handed_back { IfErr result (λ refused. refused.value ≡ event) }
     {
-        self.history.add(event)
+        match self.history.get_mut(self.alloc) {
+            Ok(history) => history.add(event),
+            Err(_) => Err(AllocFailed { value: event }),
+        }
     }
 
     /// Adds an error's text to the faults; where there were 32, the oldest goes.
@@ -177,43 +188,21 @@ impl Events {
         ensures ok { OnOk result (self.new ≡ record self.old { faults = with_fault text self.old.faults }) }
         ensures err { OnErr result (self.new ≡ self.old) }
     {
-        self.faults.push(text)?;
-        keep_last(&mut self.faults);
-        Ok(())
+        self.faults.get_mut(self.alloc)?.add(text)
     }
 
-    /// The same, with no mark.
+    /// The same, held once more. Nothing of it is copied.
     pub fn try_clone(&self) -> Result<Events, AllocError>
         ensures { IfOk result (λ x. x ≡ self.now) }
     {
         Ok(Events {
             alloc: self.alloc,
-            bindings: self.bindings.try_clone()?,
-            virtuals: self.virtuals.try_clone()?,
-            history: self.history.try_clone()?,
-            faults: texts_again(self.alloc, &self.faults)?,
+            bindings: self.bindings.share()?,
+            virtuals: self.virtuals.share()?,
+            history: self.history.share()?,
+            faults: self.faults.share()?,
         })
     }
-}
-
-// Drops the oldest faults, where there are too many.
-fn keep_last(faults: &mut Vec<Txt>)
-    ensures value { faults.new.items ≡ last_faults faults.old.items }
-    ensures within { length faults.new.items ≤ 32 }
-{
-    let old = faults.len().saturating_sub(MAX_FAULTS);
-    faults.drain(..old);
-}
-
-// Equal texts.
-fn texts_again(alloc: Global, texts: &[Txt]) -> Result<Vec<Txt>, AllocError>
-    ensures { IfOk result (λ copies. copies.items ≡ texts.now) }
-{
-    let mut copies = Vec::with_capacity(alloc, texts.len())?;
-    for text in texts {
-        copies.push(text.try_clone()?)?;
-    }
-    Ok(copies)
 }
 
 // Whether a tag begins as paths do.
@@ -243,6 +232,24 @@ fn first_lost(bindings: &Bindings, tree: &Tree) -> usize
         left -= 1;
     }
     len
+}
+
+// Whether no binding is of a window that is not there.
+fn all_stay(bindings: &Bindings, tree: &Tree) -> bool
+    ensures { result ≡ true → held tree.now.windows bindings.now.present ≡ bindings.now.present }
+{
+    first_lost(bindings, tree) >= bindings.len()
+}
+
+// Takes away the bindings of windows that are not there. Where there are none, nothing is copied.
+fn hold(alloc: Global, bindings: &mut Shared<Bindings>, tree: &Tree) -> Result<(), AllocError>
+    ensures { OnOk result (bindings.new ≡ record bindings.old { present = held tree.now.windows bindings.old.present }) }
+{
+    if all_stay(bindings.get(), tree) {
+        return Ok(());
+    }
+    drop_lost(bindings.get_mut(alloc)?, tree);
+    Ok(())
 }
 
 // Takes away the bindings of windows that are not there.

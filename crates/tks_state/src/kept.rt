@@ -1,32 +1,117 @@
-ghost use Rattle.std.specs.Prelude.{◌≡◌, IfOk, option_copied};
+ghost use Rattle.std.specs.Prelude.{◌≡◌, IfOk, Ok, option_copied};
+ghost use Rattle.tks_text.specs.Fault.{Gives};
+ghost use Rattle.tks_opt.specs.Options.{after};
+ghost use Rattle.tks_pack.specs.Packing.{packed, forgotten};
+ghost use Rattle.tks_state.specs.WellFormed.{mark_of};
+ghost use Rattle.tks_state.specs.Windows.{new_kept, with_widget, with_tags, with_packing};
 
 use crate::widget::Widget;
 use std::alloc::{AllocError, Global};
 use tks_pack::Packing;
-use tks_text::{Seq, Txt};
+use tks_share::{Numbered, Shared};
+use tks_text::{Failure, Seq, Txt};
 use tks_tree::WindowId;
 
-/// What is kept of a window beside its place in the tree: what it is, its tags, and what is packed in it.
+/// What is kept of a window beside its place in the tree: what it is, its tags, and what is packed in it. Each change makes
+/// another, which shares the widget and what is packed with it where the change leaves them.
 #[derive(Drop)]
 pub struct Kept {
     pub window: WindowId,
-    pub widget: Widget,
+    pub widget: Shared<Widget>,
     /// The tags that were set, if any were.
     pub tags: Option<Seq<Txt>>,
-    pub packing: Packing,
+    pub packing: Shared<Packing>,
+}
+
+impl Numbered for Kept {
+    ghost number_of = { λ k. k.window };
+
+    fn number(&self) -> u64 {
+        self.window.number()
+    }
 }
 
 impl Kept {
-    /// The same of an equal window.
-    pub fn try_clone(&self, alloc: Global) -> Result<Kept, AllocError>
-        ensures { IfOk result (λ k. k ≡ self.now) }
+    /// What is kept of a new window: nothing is packed in it, and no tags were set.
+    pub(crate) fn new(alloc: Global, window: WindowId, widget: Widget) -> Result<Kept, AllocError>
+        ensures { IfOk result (λ k. k ≡ new_kept window widget) }
+    {
+        Ok(Kept {
+            window,
+            widget: Shared::new(alloc, widget)?,
+            tags: None,
+            packing: Shared::new(alloc, Packing::new(alloc))?,
+        })
+    }
+
+    /// The same with another widget.
+    pub(crate) fn with_widget(&self, alloc: Global, widget: Widget) -> Result<Kept, AllocError>
+        ensures { IfOk result (λ k. k ≡ with_widget self.now widget) }
     {
         Ok(Kept {
             window: self.window,
-            widget: self.widget.try_clone()?,
+            widget: Shared::new(alloc, widget)?,
             tags: tags_again(alloc, self.tags.as_ref())?,
-            packing: self.packing.try_clone()?,
+            packing: self.packing.share()?,
         })
+    }
+
+    /// The same with other tags, or with those that windows have where none were set.
+    pub(crate) fn with_tags(&self, tags: Option<Seq<Txt>>) -> Result<Kept, AllocError>
+        ensures { IfOk result (λ k. k ≡ with_tags self.now tags) }
+    {
+        Ok(Kept {
+            window: self.window,
+            widget: self.widget.share()?,
+            tags,
+            packing: self.packing.share()?,
+        })
+    }
+
+    // The same with other contents.
+    fn with_packing(&self, alloc: Global, packing: Packing) -> Result<Kept, AllocError>
+        ensures { IfOk result (λ k. k ≡ with_packing self.now packing) }
+    {
+        Ok(Kept {
+            window: self.window,
+            widget: self.widget.share()?,
+            tags: tags_again(alloc, self.tags.as_ref())?,
+            packing: Shared::new(alloc, packing)?,
+        })
+    }
+
+    /// The same with a window packed in it, with options and values in turn.
+    pub(crate) fn packed(
+        &self,
+        alloc: Global,
+        window: WindowId,
+        options: &[Txt],
+    ) -> Result<Kept, Failure>
+        ensures value { Gives (λ k. k) result (after (packed window options.now self.now.packing) (λ p. Ok (with_packing self.now p))) }
+        ensures mark { IfOk result (λ k. mark_of k ≡ mark_of self.now) }
+    {
+        let mut packing = self.packing.get().try_clone()?;
+        packing.pack(window, options)?;
+        let kept = self.with_packing(alloc, packing)?;
+        Ok(kept)
+    }
+
+    /// The same without a window that is packed in it, if it is.
+    pub(crate) fn forgotten(&self, alloc: Global, window: WindowId) -> Result<Kept, AllocError>
+        ensures { IfOk result (λ k. k ≡ with_packing self.now (forgotten window self.now.packing)) }
+    {
+        let mut packing = self.packing.get().try_clone()?;
+        packing.forget(window);
+        self.with_packing(alloc, packing)
+    }
+
+    /// The same where it asks to be as large as its contents need, or doesn't.
+    pub(crate) fn propagating(&self, alloc: Global, propagates: bool) -> Result<Kept, AllocError>
+        ensures { IfOk result (λ k. k ≡ with_packing self.now (record self.now.packing { propagates = propagates })) }
+    {
+        let mut packing = self.packing.get().try_clone()?;
+        packing.set_propagates(propagates);
+        self.with_packing(alloc, packing)
     }
 }
 

@@ -9,6 +9,7 @@ use crate::kept::Kept;
 use crate::world::World;
 use std::alloc::{AllocError, Global};
 use tks_pack::{Area, Content, Extent, Requests, windows_lie_inside};
+use tks_share::SharedList;
 use tks_text::Size;
 use tks_tree::WindowId;
 use tks_vars::Vars;
@@ -45,25 +46,32 @@ fn size_of(
 ) -> Result<Extent, AllocError>
     ensures { IfOk result (λ e. e ≡ size_of variables.now kept.now sizes.now) }
 {
-    match kept.packing.requested(sizes) {
+    match kept.packing.get().requested(sizes) {
         Some(size) => Ok(size),
         None => {
-            let size = kept.widget.requested_as_seen(alloc, variables)?;
+            let size = kept.widget.get().requested_as_seen(alloc, variables)?;
             Ok(size)
         }
     }
 }
 
 // How large windows ask to be.
-fn sizes_of(alloc: Global, variables: &Vars, kept: &[Kept]) -> Result<ByWindow<Extent>, AllocError>
+fn sizes_of(
+    alloc: Global,
+    variables: &Vars,
+    kept: &SharedList<Kept>,
+) -> Result<ByWindow<Extent>, AllocError>
     ensures { IfOk result (λ s. s ≡ sizes variables.now kept.now) }
 {
     let mut sizes = ByWindow::new(alloc);
-    let mut rest = kept;
-    while let Some((one, before)) = rest.split_last() {
+    let mut left = kept.len();
+    while left > 0 {
+        left -= 1;
+        let Some(one) = kept.get(left) else {
+            unreachable!()
+        };
         let size = size_of(alloc, variables, one, &sizes)?;
         sizes.insert(one.window, size)?;
-        rest = before;
     }
     Ok(sizes)
 }
@@ -138,9 +146,10 @@ fn place_in(
         width: area.width,
         height: area.height,
     };
-    let places = kept.packing.place(sizes, extent)?;
+    let packing = kept.packing.get();
+    let places = packing.place(sizes, extent)?;
     windows_lie_inside();
-    place_contents(placed, area, kept.packing.contents(), &places)?;
+    place_contents(placed, area, packing.contents(), &places)?;
     Ok(())
 }
 
@@ -171,7 +180,7 @@ fn grid_area(grid: Size) -> Area
 fn place_all(
     alloc: Global,
     variables: &Vars,
-    kept: &[Kept],
+    kept: &SharedList<Kept>,
     grid: Size,
 ) -> Result<ByWindow<Area>, AllocError>
     ensures inside { IfOk result (AllInside grid) }
@@ -180,7 +189,7 @@ fn place_all(
     let sizes = sizes_of(alloc, variables, kept)?;
     let mut placed = ByWindow::new(alloc);
     placed.insert(WindowId::root(), grid_area(grid))?;
-    for one in kept {
+    for one in kept.iter() {
         let area = placed.get(one.window);
         place_in(&mut placed, area, one, &sizes)?;
     }

@@ -5,6 +5,7 @@ mod by_window;
 mod class_bindings;
 mod event_loop;
 mod events;
+mod faults;
 mod kept;
 mod laws;
 mod layout;

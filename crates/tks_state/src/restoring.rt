@@ -14,6 +14,7 @@ use tks_event::Held;
 use tks_opt::class_number;
 use tks_pack::{Content, Packing};
 use tks_queue::Queue;
+use tks_share::{Shared, SharedList};
 use tks_text::{Seq, Size, Txt};
 use tks_timer::Timers;
 use tks_tree::{Tree, Window, WindowId};
@@ -52,16 +53,33 @@ pub struct WorldParts {
     pub grid: Size,
 }
 
+// What is kept of a window, of its parts.
+fn kept_with(alloc: Global, window: WindowId, part: WindowParts) -> Result<Kept, AllocError>
+    ensures { IfOk result (λ k. k ≡ record { window = window; widget = part.widget; tags = part.tags; packing = part.packing }) }
+{
+    let WindowParts {
+        widget,
+        tags,
+        packing,
+    } = part;
+    Ok(Kept {
+        window,
+        widget: Shared::new(alloc, widget)?,
+        tags,
+        packing: Shared::new(alloc, packing)?,
+    })
+}
+
 /// What is kept of each window of a tree, as long as there are parts.
 #[tactic(auto, using(crate::proofs::Restored::kept_at, crate::proofs::Restored::none_kept))]
 pub fn kept_of_parts(
     alloc: Global,
     tree: &Tree,
     parts: Vec<WindowParts>,
-) -> Result<Vec<Kept>, AllocError>
-    ensures { IfOk result (λ kept. kept.items ≡ kept_of_parts tree.now.windows parts.items) }
+) -> Result<SharedList<Kept>, AllocError>
+    ensures { IfOk result (λ kept. kept ≡ kept_of_parts tree.now.windows parts.items) }
 {
-    let mut kept = Vec::with_capacity(alloc, tree.len())?;
+    let mut kept = SharedList::new(alloc);
     let mut parts = parts.into_iter();
     for index in 0..tree.len() {
         let Some(window) = tree.nth(index) else {
@@ -70,17 +88,7 @@ pub fn kept_of_parts(
         let Some(part) = parts.next() else {
             return Ok(kept);
         };
-        let WindowParts {
-            widget,
-            tags,
-            packing,
-        } = part;
-        kept.push(Kept {
-            window: window.id,
-            widget,
-            tags,
-            packing,
-        })?;
+        kept.push(kept_with(alloc, window.id, part)?)?;
     }
     Ok(kept)
 }
@@ -90,12 +98,12 @@ fn is_kept_of(window: &Window<'_>, kept: &Kept) -> bool
     ensures { result ≡ is_kept_of (window_seen window.now) kept.now }
 {
     kept.window == window.id
-        && class_number(kept.widget.options().class()) == class_number(window.class)
+        && class_number(kept.widget.get().options().class()) == class_number(window.class)
 }
 
 /// Whether one is kept of each window, in the same order.
 #[tactic(auto, using(crate::proofs::Restored::in_step_at, crate::proofs::Restored::not_in_step))]
-pub fn are_in_step(tree: &Tree, kept: &[Kept]) -> bool
+pub fn are_in_step(tree: &Tree, kept: &SharedList<Kept>) -> bool
     ensures { result ≡ are_in_step tree.now.windows kept.now }
 {
     if tree.len() != kept.len() {
@@ -105,7 +113,10 @@ pub fn are_in_step(tree: &Tree, kept: &[Kept]) -> bool
         let Some(window) = tree.nth(index) else {
             unreachable!()
         };
-        if !is_kept_of(&window, &kept[index]) {
+        let Some(one) = kept.get(index) else {
+            unreachable!()
+        };
+        if !is_kept_of(&window, one) {
             return false;
         }
     }
@@ -151,11 +162,11 @@ fn are_children(tree: &Tree, container: WindowId, contents: &[Content]) -> bool
 }
 
 /// Whether the windows that are packed in each differ, and stand right in it.
-pub fn all_pack_children(tree: &Tree, kept: &[Kept]) -> bool
+pub fn all_pack_children(tree: &Tree, kept: &SharedList<Kept>) -> bool
     ensures { result ≡ list_all (packs_children tree.now) kept.now }
 {
-    for one in kept {
-        let contents = one.packing.contents();
+    for one in kept.iter() {
+        let contents = one.packing.get().contents();
         if !are_distinct(contents) || !are_children(tree, one.window, contents) {
             return false;
         }

@@ -1,12 +1,11 @@
 //! The windows: the tree of their numbers, paths and classes, and what is kept of each.
-ghost use Rattle.std.specs.Prelude.{◌≡◌, ◌==◌, position, option_map, if◌then◌else◌, Some, None, IfOk, IfSome, OnErr, is_some, map};
+ghost use Rattle.std.specs.Prelude.{◌≡◌, option_map, if◌then◌else◌, Some, None, IfOk, IfSome, OnOk, OnErr, is_some, map};
 ghost use Rattle.tks_text.specs.Fault.{Gives};
 ghost use Rattle.tks_tree.specs.Windows.{of_number};
-ghost use Rattle.tks_tree.specs.Meets.{MakesSo, AnswersSo};
-ghost use Rattle.tks_tree.specs.WellFormed as trees;
-ghost use Rattle.tks_tree.specs.WellFormed.{Rises};
+ghost use Rattle.tks_tree.specs.Meets.{MakesSo};
+ghost use Rattle.tks_share.specs.Lists.{Rises};
 ghost use Rattle.tks_state.specs.Widget.{class_of};
-ghost use Rattle.tks_state.specs.Windows.{kept_of, with_widget_at, with_tags_at, packed_at, forgotten_at, propagating, still_there, first_windows, created, destroyed, changed, tagged, packed, unpacked, with_propagation};
+ghost use Rattle.tks_state.specs.Windows.{kept_of, replaced, with_widget_at, with_tags_at, packed_at, forgotten_at, propagating, still_there, first_windows, created, destroyed, changed, tagged, packed, unpacked, with_propagation};
 ghost use Rattle.tks_state.specs.EventLoop.{Stay};
 ghost use Rattle.tks_state.specs.WellFormed.{WellFormedWindows, mark_of};
 ghost use Rattle.tks_state.specs.Restoring.{are_windows};
@@ -17,16 +16,16 @@ use crate::widget::Widget;
 use std::alloc::{AllocError, Global};
 use std::marker::Model;
 use tks_button::Frame;
-use tks_pack::Packing;
+use tks_share::{Copied, SharedList};
 use tks_text::{ErrorNumber, Failure, ScriptFault, Seq, Txt};
 use tks_tree::{CreateFault, Tree, WindowId};
 
-/// The windows of a world.
+/// The windows of a world. Copies share what none of them has changed.
 #[derive(Drop)]
 pub struct Windows {
     alloc: Global,
     tree: Tree,
-    kept: Vec<Kept>,
+    kept: SharedList<Kept>,
 }
 
 impl Model for Windows {
@@ -38,56 +37,89 @@ impl Model for Windows {
 
     ghost coded = { Prim.hlevel codes };
 
-    ghost view = { λ x. record { tree = x.tree; kept = x.kept.items } };
+    ghost view = { λ x. record { tree = x.tree; kept = x.kept } };
 
-    ghost invariant = { λ x. WellFormedWindows (record { tree = x.tree; kept = x.kept.items }) };
+    ghost invariant = { λ x. WellFormedWindows (record { tree = x.tree; kept = x.kept }) };
 }
 
-// The place of what is kept of a window. Windows' numbers rise.
-fn place_of(kept: &[Kept], window: WindowId) -> Option<usize>
+// What is kept of a window. Windows' numbers rise.
+fn find(kept: &SharedList<Kept>, window: WindowId) -> Option<&Kept>
     requires { Rises (λ k. k.window) 0 kept.now }
-    ensures { result ≡ position (λ k. k.window == window) kept.now }
+    ensures { option_map (λ k. k.now) result ≡ kept_of kept.now window }
 {
-    kept.binary_search_by_key(&window.number(), |one| one.window.number())
-        .ok()
+    match kept.place_of(window.number()) {
+        Some(place) => kept.get(place),
+        None => None,
+    }
+}
+
+// Puts other things that are kept of a window in the place of those that are. It is the same window, of the same class.
+fn replace(kept: &mut SharedList<Kept>, window: WindowId, one: Kept) -> Result<(), AllocError>
+    requires rises { Rises (λ k. k.window) 0 kept.old }
+    requires mark { IfSome (kept_of kept.old window) (λ k. mark_of one ≡ mark_of k) }
+    ensures value { OnOk result (kept.new ≡ replaced window one kept.old) }
+    ensures marks { OnOk result (map mark_of kept.new ≡ map mark_of kept.old) }
+    ensures err { OnErr result (kept.new ≡ kept.old) }
+{
+    let Some(place) = kept.place_of(window.number()) else {
+        return Ok(());
+    };
+    kept.set(place, one)?;
+    Ok(())
 }
 
 // Puts another widget of its class in the place of a window's.
-fn set_widget_at(kept: &mut Vec<Kept>, window: WindowId, widget: Widget)
-    requires rises { Rises (λ k. k.window) 0 kept.old.items }
-    requires class { IfSome (kept_of kept.old.items window) (λ k. class_of k.widget ≡ class_of widget) }
-    ensures value { kept.new.items ≡ with_widget_at kept.old.items window widget }
-    ensures marks { map mark_of kept.new.items ≡ map mark_of kept.old.items }
+fn set_widget_at(
+    alloc: Global,
+    kept: &mut SharedList<Kept>,
+    window: WindowId,
+    widget: Widget,
+) -> Result<(), AllocError>
+    requires rises { Rises (λ k. k.window) 0 kept.old }
+    requires class { IfSome (kept_of kept.old window) (λ k. class_of k.widget ≡ class_of widget) }
+    ensures value { OnOk result (kept.new ≡ with_widget_at kept.old window widget) }
+    ensures marks { OnOk result (map mark_of kept.new ≡ map mark_of kept.old) }
+    ensures err { OnErr result (kept.new ≡ kept.old) }
 {
-    let Some(place) = place_of(kept, window) else {
-        return;
+    let Some(one) = find(kept, window) else {
+        return Ok(());
     };
-    kept[place].widget = widget;
+    let one = one.with_widget(alloc, widget)?;
+    replace(kept, window, one)?;
+    Ok(())
 }
 
 // Sets the tags of a window, or takes away those that were set.
-fn set_tags_at(kept: &mut Vec<Kept>, window: WindowId, tags: Option<Seq<Txt>>)
-    requires { Rises (λ k. k.window) 0 kept.old.items }
-    ensures value { kept.new.items ≡ with_tags_at kept.old.items window tags }
-    ensures marks { map mark_of kept.new.items ≡ map mark_of kept.old.items }
+fn set_tags_at(
+    kept: &mut SharedList<Kept>,
+    window: WindowId,
+    tags: Option<Seq<Txt>>,
+) -> Result<(), AllocError>
+    requires { Rises (λ k. k.window) 0 kept.old }
+    ensures value { OnOk result (kept.new ≡ with_tags_at kept.old window tags) }
+    ensures marks { OnOk result (map mark_of kept.new ≡ map mark_of kept.old) }
+    ensures err { OnErr result (kept.new ≡ kept.old) }
 {
-    let Some(place) = place_of(kept, window) else {
-        return;
+    let Some(one) = find(kept, window) else {
+        return Ok(());
     };
-    kept[place].tags = tags;
+    let one = one.with_tags(tags)?;
+    replace(kept, window, one)?;
+    Ok(())
 }
 
 // Packs a window in a container.
 fn pack_at(
-    kept: &mut Vec<Kept>,
+    alloc: Global,
+    kept: &mut SharedList<Kept>,
     container: Option<WindowId>,
     window: WindowId,
     options: &[Txt],
 ) -> Result<(), Failure>
-    requires { Rises (λ k. k.window) 0 kept.old.items }
-    ensures value { Gives (λ _. kept.new.items) result (packed_at kept.old.items container window options.now) }
-    ensures err { OnErr result (kept.new.items ≡ kept.old.items) }
-    ensures marks { map mark_of kept.new.items ≡ map mark_of kept.old.items }
+    requires { Rises (λ k. k.window) 0 kept.old }
+    ensures value { Gives (λ _. kept.new) result (packed_at kept.old container window options.now) }
+    ensures marks { OnOk result (map mark_of kept.new ≡ map mark_of kept.old) }
+    ensures err { OnErr result (kept.new ≡ kept.old) }
 {
     let Some(container) = container else {
         return Err(Failure::Script(ScriptFault {
@@ -95,60 +127,67 @@ fn pack_at(
             subject: None,
         }));
     };
-    let Some(place) = place_of(kept, container) else {
+    let Some(one) = find(kept, container) else {
         return Ok(());
     };
-    kept[place].packing.pack(window, options)?;
+    let one = one.packed(alloc, window, options)?;
+    replace(kept, container, one)?;
     Ok(())
 }
 
 // Takes a window out of a container.
-fn forget_at(kept: &mut Vec<Kept>, container: Option<WindowId>, window: WindowId)
-    requires { Rises (λ k. k.window) 0 kept.old.items }
-    ensures value { kept.new.items ≡ forgotten_at kept.old.items container window }
-    ensures marks { map mark_of kept.new.items ≡ map mark_of kept.old.items }
+fn forget_at(
+    alloc: Global,
+    kept: &mut SharedList<Kept>,
+    container: Option<WindowId>,
+    window: WindowId,
+) -> Result<(), AllocError>
+    requires { Rises (λ k. k.window) 0 kept.old }
+    ensures value { OnOk result (kept.new ≡ forgotten_at kept.old container window) }
+    ensures marks { OnOk result (map mark_of kept.new ≡ map mark_of kept.old) }
+    ensures err { OnErr result (kept.new ≡ kept.old) }
 {
     let Some(container) = container else {
-        return;
+        return Ok(());
     };
-    let Some(place) = place_of(kept, container) else {
-        return;
+    let Some(one) = find(kept, container) else {
+        return Ok(());
     };
-    kept[place].packing.forget(window);
+    let one = one.forgotten(alloc, window)?;
+    replace(kept, container, one)?;
+    Ok(())
 }
 
 // Says whether a container asks for its contents.
-fn set_propagates_at(kept: &mut Vec<Kept>, container: WindowId, propagates: bool)
-    requires { Rises (λ k. k.window) 0 kept.old.items }
-    ensures value { kept.new.items ≡ propagating kept.old.items container propagates }
-    ensures marks { map mark_of kept.new.items ≡ map mark_of kept.old.items }
+fn set_propagates_at(
+    alloc: Global,
+    kept: &mut SharedList<Kept>,
+    container: WindowId,
+    propagates: bool,
+) -> Result<(), AllocError>
+    requires { Rises (λ k. k.window) 0 kept.old }
+    ensures value { OnOk result (kept.new ≡ propagating kept.old container propagates) }
+    ensures marks { OnOk result (map mark_of kept.new ≡ map mark_of kept.old) }
+    ensures err { OnErr result (kept.new ≡ kept.old) }
 {
-    let Some(place) = place_of(kept, container) else {
-        return;
+    let Some(one) = find(kept, container) else {
+        return Ok(());
     };
-    kept[place].packing.set_propagates(propagates);
+    let one = one.propagating(alloc, propagates)?;
+    replace(kept, container, one)?;
+    Ok(())
 }
 
 // Keeps what is kept of windows that are there.
-fn keep_those_in(kept: &mut Vec<Kept>, tree: &Tree)
-    ensures { kept.new.items ≡ still_there tree.now.windows kept.old.items }
+fn keep_those_in(kept: &mut SharedList<Kept>, tree: &Tree) -> Result<(), AllocError>
+    ensures { OnOk result (kept.new ≡ still_there tree.now.windows kept.old) }
 {
     kept.retain(
         |one: &Kept| -> bool
             ensures { result ≡ is_some (of_number tree.entry.now.windows one.now.window) }
         { tree.window(one.window).is_some() },
-    );
-}
-
-// What is kept of equal windows.
-fn copies_of(alloc: Global, kept: &[Kept]) -> Result<Vec<Kept>, AllocError>
-    ensures { IfOk result (λ copies. copies.items ≡ kept.now) }
-{
-    let mut copies = Vec::with_capacity(alloc, kept.len())?;
-    for one in kept {
-        copies.push(one.try_clone(alloc)?)?;
-    }
-    Ok(copies)
+    )?;
+    Ok(())
 }
 
 impl Windows {
@@ -158,13 +197,8 @@ impl Windows {
     {
         let path = Txt::from_text(alloc, b".")?;
         let widget = Widget::Frame(Frame::root(alloc, &path)?);
-        let mut kept = Vec::new(alloc);
-        kept.push(Kept {
-            window: WindowId::root(),
-            widget,
-            tags: None,
-            packing: Packing::new(alloc),
-        })?;
+        let mut kept = SharedList::new(alloc);
+        kept.push(Kept::new(alloc, WindowId::root(), widget)?)?;
         Ok(Windows {
             alloc,
             tree: Tree::new(alloc)?,
@@ -173,8 +207,8 @@ impl Windows {
     }
 
     /// Those with this tree, where this is what is kept of each of its windows.
-    pub fn restore(alloc: Global, tree: Tree, kept: Vec<Kept>) -> Option<Windows>
-        ensures { result ≡ (if are_windows (record { tree = tree; kept = kept.items }) then Some (record { tree = tree; kept = kept.items }) else None) }
+    pub fn restore(alloc: Global, tree: Tree, kept: SharedList<Kept>) -> Option<Windows>
+        ensures { result ≡ (if are_windows (record { tree = tree; kept = kept }) then Some (record { tree = tree; kept = kept }) else None) }
     {
         if are_in_step(&tree, &kept) && all_pack_children(&tree, &kept) {
             Some(Windows { alloc, tree, kept })
@@ -192,20 +226,17 @@ impl Windows {
     }
 
     /// What is kept of each, in the order in which they were made.
-    pub fn all(&self) -> &[Kept]
+    pub fn all(&self) -> &SharedList<Kept>
         ensures { result.now ≡ self.now.kept }
     {
-        self.kept.as_slice()
+        &self.kept
     }
 
     /// What is kept of the window of a number.
     pub fn get(&self, window: WindowId) -> Option<&Kept>
         ensures { option_map (λ k. k.now) result ≡ kept_of self.now.kept window }
     {
-        match place_of(&self.kept, window) {
-            Some(place) => Some(&self.kept[place]),
-            None => None,
-        }
+        find(&self.kept, window)
     }
 
     /// Makes a window, which is this widget. The path has to be one that no window has, in a window that is there.
@@ -215,45 +246,50 @@ impl Windows {
         ensures stay { Stay self.old.tree.windows self.new.tree.windows }
     {
         let class = widget.options().class();
-        self.kept.reserve(1)?;
-        let window = self.tree.create(path, class)?;
-        self.kept.push(Kept {
-            window,
-            widget,
-            tags: None,
-            packing: Packing::new(self.alloc),
-        })?;
+        let mut tree = self.tree.try_clone()?;
+        let window = tree.create(path, class)?;
+        self.kept.push(Kept::new(self.alloc, window, widget)?)?;
+        self.tree = tree;
         Ok(window)
     }
 
-    /// Destroys a window, with all that stand in it. `.` stays: that is an error. Where no window has the number,
-    /// nothing is done.
-    pub fn remove(&mut self, window: WindowId) -> Result<(), ScriptFault>
-        ensures value { AnswersSo (λ _. self.new) result (destroyed self.old window) }
-        ensures err { OnErr result (self.new ≡ self.old) }
+    /// The same without a window, and without all that stand in it. `.` stays: that is an error. Where no window has the
+    /// number, none goes.
+    pub fn without(&self, window: WindowId) -> Result<Windows, Failure>
+        ensures { Gives (λ x. x) result (destroyed self.now window) }
     {
         let container = self.tree.parent(window);
-        self.tree.destroy(window)?;
-        forget_at(&mut self.kept, container, window);
-        keep_those_in(&mut self.kept, &self.tree);
-        Ok(())
+        let mut tree = self.tree.try_clone()?;
+        tree.destroy(window)?;
+        let mut kept = self.kept.share()?;
+        forget_at(self.alloc, &mut kept, container, window)?;
+        keep_those_in(&mut kept, &tree)?;
+        Ok(Windows {
+            alloc: self.alloc,
+            tree,
+            kept,
+        })
     }
 
     /// Puts another widget of its class in the place of a window's. Where no window has the number, nothing is done.
-    pub fn set_widget(&mut self, window: WindowId, widget: Widget)
+    pub fn set_widget(&mut self, window: WindowId, widget: Widget) -> Result<(), AllocError>
         requires { IfSome (kept_of self.old.kept window) (λ k. class_of k.widget ≡ class_of widget) }
-        ensures value { self.new ≡ changed self.old window widget }
+        ensures ok { OnOk result (self.new ≡ changed self.old window widget) }
+        ensures err { OnErr result (self.new ≡ self.old) }
         ensures tree { self.new.tree ≡ self.old.tree }
     {
-        set_widget_at(&mut self.kept, window, widget);
+        set_widget_at(self.alloc, &mut self.kept, window, widget)?;
+        Ok(())
     }
 
     /// Sets the tags of a window, or takes away those that were set. Where no window has the number, nothing is done.
-    pub fn set_tags(&mut self, window: WindowId, tags: Option<Seq<Txt>>)
-        ensures value { self.new ≡ tagged self.old window tags }
+    pub fn set_tags(&mut self, window: WindowId, tags: Option<Seq<Txt>>) -> Result<(), AllocError>
+        ensures ok { OnOk result (self.new ≡ tagged self.old window tags) }
+        ensures err { OnErr result (self.new ≡ self.old) }
         ensures tree { self.new.tree ≡ self.old.tree }
     {
-        set_tags_at(&mut self.kept, window, tags);
+        set_tags_at(&mut self.kept, window, tags)?;
+        Ok(())
     }
 
     /// Packs a window in the one that it stands in, with options and values in turn. `.` is never packed.
@@ -263,35 +299,39 @@ impl Windows {
         ensures tree { self.new.tree ≡ self.old.tree }
     {
         let container = self.tree.parent(window);
-        pack_at(&mut self.kept, container, window, options)?;
+        pack_at(self.alloc, &mut self.kept, container, window, options)?;
         Ok(())
     }
 
     /// Takes a window out of the container that it is packed in, if it is.
-    pub fn forget(&mut self, window: WindowId)
-        ensures value { self.new ≡ unpacked self.old window }
+    pub fn forget(&mut self, window: WindowId) -> Result<(), AllocError>
+        ensures ok { OnOk result (self.new ≡ unpacked self.old window) }
+        ensures err { OnErr result (self.new ≡ self.old) }
         ensures tree { self.new.tree ≡ self.old.tree }
     {
         let container = self.tree.parent(window);
-        forget_at(&mut self.kept, container, window);
+        forget_at(self.alloc, &mut self.kept, container, window)?;
+        Ok(())
     }
 
     /// Says whether a container asks to be as large as its contents need.
-    pub fn set_propagates(&mut self, window: WindowId, propagates: bool)
-        ensures value { self.new ≡ with_propagation self.old window propagates }
+    pub fn set_propagates(&mut self, window: WindowId, propagates: bool) -> Result<(), AllocError>
+        ensures ok { OnOk result (self.new ≡ with_propagation self.old window propagates) }
+        ensures err { OnErr result (self.new ≡ self.old) }
         ensures tree { self.new.tree ≡ self.old.tree }
     {
-        set_propagates_at(&mut self.kept, window, propagates);
+        set_propagates_at(self.alloc, &mut self.kept, window, propagates)?;
+        Ok(())
     }
+}
 
-    /// Equal windows.
-    pub fn try_clone(&self) -> Result<Windows, AllocError>
-        ensures { IfOk result (λ x. x ≡ self.now) }
-    {
+impl Copied for Windows {
+    // The two share what they hold, so this costs the same however many windows there are.
+    fn copied(&self, alloc: Global) -> Result<Windows, AllocError> {
         Ok(Windows {
-            alloc: self.alloc,
+            alloc,
             tree: self.tree.try_clone()?,
-            kept: copies_of(self.alloc, &self.kept)?,
+            kept: self.kept.share()?,
         })
     }
 }

@@ -1,12 +1,13 @@
-ghost use Rattle.std.specs.Prelude.{◌≡◌, ◌≢◌, ◌↔◌, ◌≤◌, ◌+◌, ◌<◌, ◌^◌, [], Err, option_map, option_copied, IfOk, IfErr, IfSome, OnOk, OnErr};
+ghost use Rattle.std.specs.Prelude.{◌≡◌, true, ◌≢◌, ◌↔◌, ◌≤◌, ◌+◌, ◌<◌, ◌^◌, [], Err, option_map, option_copied, IfOk, IfErr, IfSome, OnOk, OnErr};
 ghost use Rattle.tks_text.specs.Fault.{Gives};
 ghost use Rattle.tks_bind.specs.Choosing.{chosen};
-ghost use Rattle.tks_tree.specs.Meets.{MakesSo, AnswersSo};
+ghost use Rattle.tks_tree.specs.Meets.{MakesSo};
 ghost use Rattle.tks_tree.specs.WellFormed as trees;
 ghost use Rattle.tks_state.specs.Widget.{class_of};
 ghost use Rattle.tks_state.specs.Windows.{kept_of};
+ghost use Rattle.tks_state.specs.EventLoop.{all_in};
 ghost use Rattle.tks_state.specs.WellFormed.{WellFormed};
-ghost use Rattle.tks_state.specs.Restoring.{is_possible, restored};
+ghost use Rattle.tks_state.specs.Restoring.{is_possible, restored, world_with};
 ghost use Rattle.tks_queue.specs.EventQueue.{first};
 ghost use Rattle.tks_timer.specs.After.{script_in, kept_under};
 ghost use Rattle.tks_state.specs.World.{with_virtual, without_virtual, without_virtual_sequence, with_clock, queued, without_event, with_timer, with_idle, without_id, without_script, focused, holding, pressed_in};
@@ -25,7 +26,8 @@ use tks_app::Memories;
 use tks_bind::{BindFault, Binding, Bindings, History, Virtuals};
 use tks_event::{Event, Held, Sequence};
 use tks_queue::{Place, Queue};
-use tks_text::{Failure, ScriptFault, Seq, Size, Txt};
+use tks_share::{Shared, SharedList};
+use tks_text::{Failure, Seq, Size, Txt};
 use tks_timer::{AfterFault, Timers};
 use tks_tree::{CreateFault, Tree, WindowId};
 use tks_vars::Vars;
@@ -33,16 +35,16 @@ use tks_vars::Vars;
 /// No more inputs are accepted.
 const MAX_ACCEPTED: u64 = 1 << 62;
 
-/// What is kept between inputs.
+/// What is kept between inputs. Copies share what none of them has changed.
 #[derive(Drop)]
 pub struct World {
     alloc: Global,
     accepted: u64,
-    windows: Windows,
-    variables: Vars,
+    windows: Shared<Windows>,
+    variables: Shared<Vars>,
     events: Events,
     event_loop: EventLoop,
-    memories: Memories,
+    memories: Shared<Memories>,
     grid: Size,
 }
 
@@ -58,10 +60,10 @@ impl Model for World {
 
     ghost view = { λ w. record { accepted = w.accepted; clock = w.event_loop.clock; tree = w.windows.tree; kept = w.windows.kept; variables = w.variables; bindings = w.events.bindings; virtuals = w.events.virtuals; history = w.events.history; queue = w.event_loop.queue; timers = w.event_loop.timers; focus = w.event_loop.focus; held = w.event_loop.held; pressed = w.event_loop.pressed; memories = w.memories; faults = w.events.faults; grid = w.grid } };
 
-    ghost use Rattle.std.specs.Prelude.{◌≡◌, true};
+    ghost use Rattle.std.specs.Prelude.{◌≡◌, true, []};
     ghost use Rattle.tks_state.specs.EventLoop.{all_in};
 
-    ghost invariant = { λ w. (w.accepted ≤ 2 ^ 62) × (all_in w.windows.tree.windows w.event_loop ≡ true) };
+    ghost invariant = { λ w. (w.accepted ≤ 2 ^ 62) × (all_in w.windows.tree.windows w.event_loop ≡ true) × (w.variables.locals ≡ []) };
 }
 
 impl World {
@@ -72,18 +74,19 @@ impl World {
         Ok(World {
             alloc,
             accepted: 0,
-            windows: Windows::first(alloc)?,
-            variables: Vars::new(alloc),
+            windows: Shared::new(alloc, Windows::first(alloc)?)?,
+            variables: Shared::new(alloc, Vars::new(alloc))?,
             events: Events::first(alloc)?,
-            event_loop: EventLoop::new(alloc),
-            memories: Memories::first(alloc, names)?,
+            event_loop: EventLoop::new(alloc)?,
+            memories: Shared::new(alloc, Memories::first(alloc, names)?)?,
             grid,
         })
     }
 
     /// The world of these parts, where there may be such a world: one of these is kept of each window, of its class; what is
     /// packed in a window are distinct windows that stand right in it; no more inputs were accepted than may be, and no more
-    /// faults are kept; and the focus, the events that wait and the last press are of windows that are there.
+    /// faults are kept; no frame of variables stands; and the focus, the events that wait and the last press are of windows
+    /// that are there.
     #[tactic(auto, unfolding(crate::specs::Restoring::is_possible))]
     pub fn restore(alloc: Global, parts: WorldParts) -> Result<Option<World>, AllocError>
         ensures { IfOk result (λ world. world ≡ restored parts) }
@@ -108,28 +111,51 @@ impl World {
         } = parts;
         // What holds of all histories is asked for here.
         let _ = history.events();
+        let variables = Shared::new(alloc, variables)?;
         let kept = kept_of_parts(alloc, &tree, windows)?;
-        let event_loop = EventLoop::restore(clock, queue, timers, focus, held, pressed);
-        if accepted > MAX_ACCEPTED || !event_loop.is_in(&tree) {
+        let event_loop = EventLoop::restore(alloc, clock, queue, timers, focus, held, pressed)?;
+        if accepted > MAX_ACCEPTED || variables.get().depth() > 0 || !event_loop.is_in(&tree) {
             return Ok(None);
         }
         let Some(windows) = Windows::restore(alloc, tree, kept) else {
             return Ok(None);
         };
-        let Some(events) = Events::restore(alloc, bindings, virtuals, history, faults.into_items())
+        let Some(events) = Events::restore(alloc, bindings, virtuals, history, faults.into_items())?
         else {
             return Ok(None);
         };
-        Ok(Some(World {
+        let world = World::of(
+            alloc, accepted, windows, variables, events, event_loop, memories, grid,
+        )?;
+        Ok(Some(world))
+    }
+
+    // The world of parts that fit together.
+    fn of(
+        alloc: Global,
+        accepted: u64,
+        windows: Windows,
+        variables: Shared<Vars>,
+        events: Events,
+        event_loop: EventLoop,
+        memories: Memories,
+        grid: Size,
+    ) -> Result<World, AllocError>
+        requires counted { accepted ≤ 2 ^ 62 }
+        requires there { all_in windows.tree.windows event_loop ≡ true }
+        requires rests { variables.locals ≡ [] }
+        ensures { IfOk result (λ w. w ≡ world_with accepted windows variables events event_loop memories grid) }
+    {
+        Ok(World {
             alloc,
             accepted,
-            windows,
+            windows: Shared::new(alloc, windows)?,
             variables,
             events,
             event_loop,
-            memories,
+            memories: Shared::new(alloc, memories)?,
             grid,
-        }))
+        })
     }
 
     // Where the world's memory comes from.
@@ -142,7 +168,7 @@ impl World {
         ensures value { result ≡ self.now.accepted }
         ensures formed { WellFormed self.now }
     {
-        let _ = self.windows.tree();
+        let _ = self.windows.get().tree();
         let _ = self.events.faults();
         let _ = self.event_loop.timers();
         self.accepted
@@ -160,32 +186,33 @@ impl World {
         ensures value { result.now ≡ self.now.tree }
         ensures formed { trees.WellFormed self.now.tree }
     {
-        self.windows.tree()
+        self.windows.get().tree()
     }
 
     /// What is kept of each window, in the order in which the windows were made.
-    pub fn all_kept(&self) -> &[Kept]
+    pub fn all_kept(&self) -> &SharedList<Kept>
         ensures { result.now ≡ self.now.kept }
     {
-        self.windows.all()
+        self.windows.get().all()
     }
 
     /// What is kept of the window of a number.
     pub fn kept(&self, window: WindowId) -> Option<&Kept>
         ensures { option_map (λ k. k.now) result ≡ kept_of self.now.kept window }
     {
-        self.windows.get(window)
+        self.windows.get().get(window)
     }
 
-    /// The variables and procedures.
+    /// The variables and procedures. No frame of variables stands.
     pub fn variables(&self) -> &Vars
         ensures { result.now ≡ self.now.variables }
     {
-        &self.variables
+        self.variables.get()
     }
 
-    /// Puts other variables in the place of the present ones, which it returns.
-    pub fn replace_variables(&mut self, variables: Vars) -> Vars
+    /// Puts other variables, of which no frame stands, in the place of the present ones, which it returns.
+    pub fn replace_variables(&mut self, variables: Shared<Vars>) -> Shared<Vars>
+        requires { variables.locals ≡ [] }
         ensures before { result ≡ self.old.variables }
         ensures after { self.new ≡ record self.old { variables = variables } }
     {
@@ -205,35 +232,41 @@ impl World {
         ensures value { MakesSo (λ id. (id, self.new)) result (with_window self.old path.now widget) }
         ensures err { OnErr result (self.new ≡ self.old) }
     {
-        let window = self.windows.add(path, widget)?;
+        let window = self.windows.get_mut(self.alloc)?.add(path, widget)?;
         Ok(window)
     }
 
     /// Destroys a window, with all that stand in it, the bindings of their paths and the events that wait for them. `.`
     /// stays, that is an error, and gets the focus of one that is gone. Where no window has the number, none is destroyed.
-    pub fn remove_window(&mut self, window: WindowId) -> Result<(), ScriptFault>
-        ensures value { AnswersSo (λ _. self.new) result (destroyed self.old window) }
+    pub fn remove_window(&mut self, window: WindowId) -> Result<(), Failure>
+        ensures value { Gives (λ _. self.new) result (destroyed self.old window) }
         ensures err { OnErr result (self.new ≡ self.old) }
     {
-        self.windows.remove(window)?;
-        self.events.drop_lost(self.windows.tree());
-        self.event_loop.drop_lost(self.windows.tree());
+        let windows = Shared::new(self.alloc, self.windows.get().without(window)?)?;
+        let tree = windows.get().tree();
+        let events = self.events.left(tree)?;
+        let event_loop = self.event_loop.left(tree)?;
+        self.windows = windows;
+        self.events = events;
+        self.event_loop = event_loop;
         Ok(())
     }
 
     /// Puts another widget of its class in the place of a window's. Where no window has the number, nothing is done.
-    pub fn set_widget(&mut self, window: WindowId, widget: Widget)
+    pub fn set_widget(&mut self, window: WindowId, widget: Widget) -> Result<(), AllocError>
         requires { IfSome (kept_of self.old.kept window) (λ k. class_of k.widget ≡ class_of widget) }
-        ensures { self.new ≡ with_widget self.old window widget }
+        ensures ok { OnOk result (self.new ≡ with_widget self.old window widget) }
+        ensures err { OnErr result (self.new ≡ self.old) }
     {
-        self.windows.set_widget(window, widget);
+        self.windows.get_mut(self.alloc)?.set_widget(window, widget)
     }
 
     /// Sets the tags of a window, or takes away those that were set. Where no window has the number, nothing is done.
-    pub fn set_tags(&mut self, window: WindowId, tags: Option<Seq<Txt>>)
-        ensures { self.new ≡ tagged self.old window tags }
+    pub fn set_tags(&mut self, window: WindowId, tags: Option<Seq<Txt>>) -> Result<(), AllocError>
+        ensures ok { OnOk result (self.new ≡ tagged self.old window tags) }
+        ensures err { OnErr result (self.new ≡ self.old) }
     {
-        self.windows.set_tags(window, tags);
+        self.windows.get_mut(self.alloc)?.set_tags(window, tags)
     }
 
     /// Packs a window in the one that it stands in, with options and values in turn. `.` is never packed.
@@ -241,22 +274,26 @@ impl World {
         ensures value { Gives (λ _. self.new) result (packed self.old window options.now) }
         ensures err { OnErr result (self.new ≡ self.old) }
     {
-        self.windows.pack(window, options)?;
+        self.windows.get_mut(self.alloc)?.pack(window, options)?;
         Ok(())
     }
 
     /// Takes a window out of the container that it is packed in, if it is.
-    pub fn forget(&mut self, window: WindowId)
-        ensures { self.new ≡ unpacked self.old window }
+    pub fn forget(&mut self, window: WindowId) -> Result<(), AllocError>
+        ensures ok { OnOk result (self.new ≡ unpacked self.old window) }
+        ensures err { OnErr result (self.new ≡ self.old) }
     {
-        self.windows.forget(window);
+        self.windows.get_mut(self.alloc)?.forget(window)
     }
 
     /// Says whether a container asks to be as large as its contents need.
-    pub fn set_propagates(&mut self, window: WindowId, propagates: bool)
-        ensures { self.new ≡ with_propagation self.old window propagates }
+    pub fn set_propagates(&mut self, window: WindowId, propagates: bool) -> Result<(), AllocError>
+        ensures ok { OnOk result (self.new ≡ with_propagation self.old window propagates) }
+        ensures err { OnErr result (self.new ≡ self.old) }
     {
-        self.windows.set_propagates(window, propagates);
+        self.windows
+            .get_mut(self.alloc)?
+            .set_propagates(window, propagates)
     }
 
     /// The bindings, in the order in which they were made.
@@ -312,10 +349,11 @@ impl World {
     }
 
     /// Takes a virtual event's sequences away.
-    pub fn remove_virtual(&mut self, name: &Txt)
-        ensures { self.new ≡ without_virtual name.now self.old }
+    pub fn remove_virtual(&mut self, name: &Txt) -> Result<(), AllocError>
+        ensures ok { OnOk result (self.new ≡ without_virtual name.now self.old) }
+        ensures err { OnErr result (self.new ≡ self.old) }
     {
-        self.events.remove_virtual(name);
+        self.events.remove_virtual(name)
     }
 
     /// Takes a sequence of a virtual event away. Where none is left, the name goes too.
@@ -373,7 +411,7 @@ impl World {
         ensures ok { OnOk result (self.new ≡ queued place event self.old) }
         ensures err { OnErr result (self.new ≡ self.old) }
     {
-        if is_there(self.windows.tree(), WindowId::of(event.window)) {
+        if is_there(self.windows.get().tree(), WindowId::of(event.window)) {
             self.event_loop.put_event(place, event)?;
         }
         Ok(())
@@ -416,17 +454,19 @@ impl World {
     }
 
     /// Takes out the script of an id; where there is none, nothing is done.
-    pub fn cancel(&mut self, id: u64)
-        ensures { self.new ≡ without_id id self.old }
+    pub fn cancel(&mut self, id: u64) -> Result<(), AllocError>
+        ensures ok { OnOk result (self.new ≡ without_id id self.old) }
+        ensures err { OnErr result (self.new ≡ self.old) }
     {
-        self.event_loop.cancel(id);
+        self.event_loop.cancel(id)
     }
 
     /// Takes out the script with the least id of those that are equal to this one; where there is none, nothing is done.
-    pub fn cancel_script(&mut self, script: &Txt)
-        ensures { self.new ≡ without_script script.now self.old }
+    pub fn cancel_script(&mut self, script: &Txt) -> Result<(), AllocError>
+        ensures ok { OnOk result (self.new ≡ without_script script.now self.old) }
+        ensures err { OnErr result (self.new ≡ self.old) }
     {
-        self.event_loop.cancel_script(script);
+        self.event_loop.cancel_script(script)
     }
 
     /// Takes out the script of an id, to be run.
@@ -449,7 +489,7 @@ impl World {
     pub fn set_focus(&mut self, window: WindowId)
         ensures { self.new ≡ focused window self.old }
     {
-        if is_there(self.windows.tree(), window) {
+        if is_there(self.windows.get().tree(), window) {
             self.event_loop.set_focus(window);
         }
     }
@@ -480,36 +520,37 @@ impl World {
         ensures { self.new ≡ pressed_in window self.old }
     {
         self.event_loop
-            .set_pressed(left_pressed(self.windows.tree(), window));
+            .set_pressed(left_pressed(self.windows.get().tree(), window));
     }
 
     /// What the commands of an application keep.
     pub fn memories(&self) -> &Memories
         ensures { result.now ≡ self.now.memories }
     {
-        &self.memories
+        self.memories.get()
     }
 
     /// Puts other memories in the place of the present ones, which it returns.
-    pub fn replace_memories(&mut self, memories: Memories) -> Memories
+    pub fn replace_memories(&mut self, memories: Shared<Memories>) -> Shared<Memories>
         ensures before { result ≡ self.old.memories }
         ensures after { self.new ≡ record self.old { memories = memories } }
     {
         mem::replace(&mut self.memories, memories)
     }
 
-    /// An equal world.
+    /// An equal world. The two share all that they hold, so this takes next to no time, whatever the world holds; what one of
+    /// them changes is copied first.
     pub fn try_clone(&self) -> Result<World, AllocError>
         ensures { IfOk result (λ w. w ≡ self.now) }
     {
         Ok(World {
             alloc: self.alloc,
             accepted: self.accepted,
-            windows: self.windows.try_clone()?,
-            variables: self.variables.try_clone()?,
+            windows: self.windows.share()?,
+            variables: self.variables.share()?,
             events: self.events.try_clone()?,
             event_loop: self.event_loop.try_clone()?,
-            memories: self.memories.try_clone(self.alloc)?,
+            memories: self.memories.share()?,
             grid: self.grid,
         })
     }

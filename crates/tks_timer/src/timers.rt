@@ -11,6 +11,7 @@ use crate::fault::AfterFault;
 use std::alloc::{AllocError, Global};
 use std::marker::Model;
 use tks_mark::{Items, Marked};
+use tks_share::Copied;
 use tks_text::{ErrorNumber, Failure, Txt};
 
 /// The id that none reaches.
@@ -108,6 +109,13 @@ impl Timers {
         ensures formed { WellFormedTimers self.now }
     {
         self.next
+    }
+
+    /// Whether all ids were given out.
+    pub fn is_full(&self) -> bool
+        ensures { (result ≡ true) ↔ (2 ^ 62 ≤ self.now.present.next) }
+    {
+        self.next >= MAX_ID
     }
 
     /// How many timers there are.
@@ -290,17 +298,17 @@ impl Timers {
         self.timers.forget();
         self.idles.forget();
     }
+}
 
-    /// The same scripts and the same next id, with no mark.
-    pub fn try_clone(&self) -> Result<Timers, AllocError>
-        ensures { IfOk result (λ copy. copy ≡ record self.now { at_mark = None }) }
-    {
+impl Copied for Timers {
+    // What they were at a mark is copied too.
+    fn copied(&self, alloc: Global) -> Result<Timers, AllocError> {
         Ok(Timers {
-            alloc: self.alloc,
-            timers: copy_timers(self.alloc, &self.timers)?,
-            idles: copy_idles(self.alloc, &self.idles)?,
+            alloc,
+            timers: self.timers.copied(alloc)?,
+            idles: self.idles.copied(alloc)?,
             next: self.next,
-            next_at_mark: 0,
+            next_at_mark: self.next_at_mark,
         })
     }
 }
@@ -398,33 +406,4 @@ fn idle_with(idles: &Marked<Idle>, script: &Txt) -> Option<u64>
         }
     }
     least
-}
-
-// The same timers, with no mark.
-fn copy_timers(alloc: Global, timers: &Marked<Timer>) -> Result<Marked<Timer>, AllocError>
-    ensures { IfOk result (λ copy. copy ≡ record timers.now { at_mark = None }) }
-{
-    let mut copy = Marked::new(alloc);
-    for timer in timers.items() {
-        copy.push(Timer {
-            id: timer.id,
-            due: timer.due,
-            script: timer.script.try_clone()?,
-        })?;
-    }
-    Ok(copy)
-}
-
-// The same idle scripts, with no mark.
-fn copy_idles(alloc: Global, idles: &Marked<Idle>) -> Result<Marked<Idle>, AllocError>
-    ensures { IfOk result (λ copy. copy ≡ record idles.now { at_mark = None }) }
-{
-    let mut copy = Marked::new(alloc);
-    for idle in idles.items() {
-        copy.push(Idle {
-            id: idle.id,
-            script: idle.script.try_clone()?,
-        })?;
-    }
-    Ok(copy)
 }

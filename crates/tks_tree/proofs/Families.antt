@@ -11,8 +11,6 @@ use Rattle.tks_tree.specs.Path.{parent_of, is_text, is_child}
 use Rattle.tks_tree.specs.Windows.{Window, on_window, numbers, has_path}
 use Rattle.tks_tree.specs.WellFormed.{AllFollow}
 use Rattle.tks_tree.specs.Families.{children_among, families, with_child, childless}
-use Rattle.tks_tree.specs.View.{windows_kept}
-use Rattle.tks_tree.specs.declared.window.Entry.{Entry}
 use Rattle.tks_tree.proofs.Trees.{some_is_none, has_more, true_or, or_true}
 use Rattle.tks_tree.proofs.Removals.{found_nowhere}
 
@@ -31,20 +29,9 @@ module _ (path : List ℕ) where
   abbrev stands_in : Window → Bool
   stands_in w = is_child w.path path
 
-  as_many : (es : List (List ℕ × Entry)) → length (map (λ (e : List ℕ × Entry). e.0) es) ≡ length (windows_kept es)
-  as_many [] = refl
-  as_many (e ∷ es) = ap suc (as_many es)
-
-  same_place : (parent : List ℕ) → parent_of path ≡ Some parent → (es : List (List ℕ × Entry))
-      → position_or_len (same_text parent) (map (λ (e : List ℕ × Entry). e.0) es) ≡ position_or_len stands_in (windows_kept es)
-  same_place parent p [] = refl
-  same_place parent p (e ∷ es) =
-      λ i. cond (not ((same_either_way parent e.0 ∙ ap (is_text e.0) (sym p)) i)) (1 + same_place parent p es i) 0
-
   -- the place of the parent's path among all is that of the window
-  pub at_parent : (parent : List ℕ) → parent_of path ≡ Some parent → (es : List (List ℕ × Entry))
-      → position (same_text parent) (map (λ (e : List ℕ × Entry). e.0) es) ≡ position stands_in (windows_kept es)
-  at_parent parent p es i = cond (nat_lt (same_place parent p es i) (as_many es i)) (Some (same_place parent p es i)) None
+  pub at_parent : (parent : List ℕ) → parent_of path ≡ Some parent → (ws : List Window) → position (λ (w : Window). same_text parent w.path) ws ≡ position stands_in ws
+  at_parent parent p ws i = position (λ (w : Window). (same_either_way parent w.path ∙ ap (is_text w.path) (sym p)) i) ws
 
   all_passed : parent_of path ≡ None → (ws : List Window) → position_or_len stands_in ws ≡ length ws
   all_passed p [] = refl

@@ -1,10 +1,9 @@
 pub mod Paths
-pub mod Kept
+pub mod Indexed
 pub mod Trees
 pub mod Removals
 pub mod Preorders
 pub mod Families
 pub mod Once
 pub mod Parents
-pub mod Searches
 pub mod Earlier

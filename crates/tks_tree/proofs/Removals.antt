@@ -1,23 +1,20 @@
 -- What holds of the windows that are left where one was destroyed.
-use Rattle.std.proofs.Common.{◌≡◌, ℕ, zero, suc, Bool, true, false, cond, ◌||◌, ◌&&◌, not, List, [], ◌∷◌, ◌++◌, Option, Some, None, is_some, refl, sym, ap, subst, ◌∙◌, true≢false, if◌then◌else◌, Result, Ok, Err}
+use Rattle.std.proofs.Common.{◌≡◌, ℕ, Bool, true, false, cond, ◌||◌, ◌&&◌, not, List, [], ◌∷◌, ◌++◌, Option, Some, None, is_some, refl, sym, ap, subst, ◌∙◌, true≢false, if◌then◌else◌, Ok, Err}
 use Rattle.std.specs.Prelude.{◌==◌, slice_get, length, nat_lt}
-use Rattle.std.specs.List.{find, filter, position, position_or_len, remove}
+use Rattle.std.specs.List.{find, filter, position, position_or_len}
 use Rattle.std.specs.Cmp.Lexicographic.{bytes_decides}
 use Rattle.std.proofs.lemmas.List.{append-nil}
 use Rattle.std.proofs.lemmas.List.Elements.{filter-append}
 use Rattle.tks_text.specs.Text.{same_text}
 use Rattle.tks_tree.specs.Path.{root_path, parent_of, goes_on, is_within, is_path}
-use Rattle.std.specs.Option.{option_map}
-use Rattle.std.proofs.lemmas.Option.{slice_get-map, slice_get_past}
+use Rattle.std.proofs.lemmas.Option.{slice_get_past}
 use Rattle.std.proofs.lemmas.List.Folds.{find_at}
 use Rattle.std.proofs.lemmas.Bool.{ltb-false, eqb-true, eq-eqb}
-use Rattle.tks_tree.specs.View.{window_kept, windows_kept, without_at}
-use Rattle.tks_tree.specs.declared.window.Entry.{Entry}
-use Rattle.tks_tree.specs.Windows.{Window, Windows, root, on_window, of_path, has_path, without, destroyed}
+use Rattle.tks_tree.specs.View.{others}
+use Rattle.tks_tree.specs.Windows.{Window, Windows, root, on_window, of_path, of_number, has_path, without, destroyed}
 use Rattle.tks_text.specs.declared.fault.ErrorNumber.TheVariants.{NotAllowedOnRoot}
-use Rattle.tks_text.specs.declared.fault.ScriptFault.{ScriptFault}
 use Rattle.tks_tree.specs.WellFormed.{StandsIn, Follows, AllFollow, WellFormed}
-use Rattle.tks_tree.proofs.Trees.{rise_filter, within_child, true_or, or_true, has_more, from_some, some_is_none}
+use Rattle.tks_tree.proofs.Trees.{rise_filter, within_child, true_or, has_more, from_some, some_is_none}
 
 module _ (q : List ℕ) where
   -- whether a window stays where the one of this path goes
@@ -99,53 +96,19 @@ module _ (q : List ℕ) where
       }
 
 -- a window other than the first isn't `.`
-pub other_path : (before ws : List Window) (place : ℕ) (w : Window) → AllFollow before ws → has_path before root_path ≡ true → slice_get ws place ≡ Some w
+pub other_path : (test : Window → Bool) (before ws : List Window) (w : Window) → AllFollow before ws → has_path before root_path ≡ true → find test ws ≡ Some w
     → (is_path w.path ≡ true) × (same_text w.path root_path ≡ false)
-other_path before [] place w all has h = absurd (some_is_none (sym h))
-other_path before (v ∷ ws) zero w all has h =
-    subst (λ u. (is_path u.path ≡ true) × (same_text u.path root_path ≡ false)) (ap (from_some w) h) (all.0.path, by (same_text v.path root_path) refl)
+other_path test before [] w all has h = absurd (some_is_none (sym h))
+other_path test before (v ∷ ws) w all has h = on (test v) h (other_path test (before ++ v ∷ []) ws w all.1 (has_more before (v ∷ []) root_path ∙ true_or (has_path before root_path) (has_path (v ∷ []) root_path) has))
   where
     by : (b : Bool) → same_text v.path root_path ≡ b → b ≡ false
     by false e = refl
     by true e = absurd (true≢false (sym has ∙ sym (ap (has_path before) ((bytes_decides v.path root_path).0 e)) ∙ all.0.new))
-other_path before (v ∷ ws) (suc place) w all has h =
-    other_path (before ++ v ∷ []) ws place w all.1 (has_more before (v ∷ []) root_path ∙ true_or (has_path before root_path) (has_path (v ∷ []) root_path) has) h
 
--- what isn't found at the front is another
-not_first : (later : List Window) (number place : ℕ) (w : Window) → (0 == number) ≡ false → (w.number == number) ≡ true → slice_get (root ∷ later) place ≡ Some w
-    → (p : ℕ) × (slice_get later p ≡ Some w)
-not_first later number zero w other same h = absurd (true≢false (sym same ∙ sym (ap (λ u. u.number == number) (ap (from_some w) h)) ∙ other))
-not_first later number (suc place) w other same h = (place, h)
-
--- a list without an item that a test refuses anyway
-pub filter_removed : {X : Type 0} (test : X → Bool) (xs : List X) (place : ℕ) (x : X) → slice_get xs place ≡ Some x → test x ≡ false → filter test (remove xs place) ≡ filter test xs
-filter_removed test [] place x h fails = absurd (some_is_none (sym h))
-filter_removed test (y ∷ xs) zero x h fails = sym (ap (λ b. cond b (y ∷ filter test xs) (filter test xs)) (ap test (ap (from_some x) h) ∙ fails))
-filter_removed test (y ∷ xs) (suc place) x h fails = ap (λ ys. cond (test y) (y ∷ ys) ys) (filter_removed test xs place x h fails)
-
--- the windows kept where a test of their paths holds
-pub kept_where : (test : List ℕ → Bool) (es : List (List ℕ × Entry)) → windows_kept (filter (λ e. test e.0) es) ≡ filter (λ w. test w.path) (windows_kept es)
-kept_where test [] = refl
-kept_where test (e ∷ es) = by (test e.0) (kept_where test es)
-  where
-    by : (b : Bool) → windows_kept (filter (λ e. test e.0) es) ≡ filter (λ w. test w.path) (windows_kept es)
-        → windows_kept (cond b (e ∷ filter (λ e. test e.0) es) (filter (λ e. test e.0) es)) ≡ cond b (window_kept e ∷ filter (λ w. test w.path) (windows_kept es)) (filter (λ w. test w.path) (windows_kept es))
-    by true ih = ap (λ ws. window_kept e ∷ ws) ih
-    by false ih = ih
-
--- what the two steps leave, of which the first takes out the window itself
-pub removed_at : (es left kept : List (List ℕ × Entry)) (place : ℕ) (path : List ℕ) (entry : Entry) → Some (path, entry) ≡ slice_get es place → left ≡ remove es place
-    → kept ≡ filter (λ e. not (is_within path e.0)) left → windows_kept kept ≡ without_at (windows_kept es) place
-removed_at es left kept place path entry at l k =
-    let test : List ℕ × Entry → Bool = λ e. not (is_within path e.0) in
-    let itself : test (path, entry) ≡ false = ap not (or_true (same_text path root_path) (same_text path path || goes_on path path) (true_or (same_text path path) (goes_on path path) ((bytes_decides path path).1 refl))) in
-    ap windows_kept (k ∙ ap (filter test) l ∙ filter_removed test es place (path, entry) (sym at) itself) ∙ kept_where (λ p. not (is_within path p)) es
-    ∙ ap (λ o. on_window o (windows_kept es) (λ w. filter (λ v. not (is_within w.path v.path)) (windows_kept es))) (ap (option_map window_kept) at ∙ sym (slice_get-map window_kept es place))
-
-pub removed_nowhere : (es left : List (List ℕ × Entry)) (place : ℕ) → None ≡ slice_get es place → left ≡ es → windows_kept left ≡ without_at (windows_kept es) place
-removed_nowhere es left place at l =
-    ap windows_kept l
-    ∙ ap (λ o. on_window o (windows_kept es) (λ w. filter (λ v. not (is_within w.path v.path)) (windows_kept es))) (ap (option_map window_kept) at ∙ sym (slice_get-map window_kept es place))
+    on : (b : Bool) → cond b (Some v) (find test ws) ≡ Some w → (find test ws ≡ Some w → (is_path w.path ≡ true) × (same_text w.path root_path ≡ false))
+        → (is_path w.path ≡ true) × (same_text w.path root_path ≡ false)
+    on true h rest = subst (λ u. (is_path u.path ≡ true) × (same_text u.path root_path ≡ false)) (ap (from_some w) h) (all.0.path, by (same_text v.path root_path) refl)
+    on false h rest = rest h
 
 -- ---- the window of a number
 
@@ -180,33 +143,24 @@ other_than_0 n h = by (0 == n) refl
     by true e = absurd (true≢false (sym (eq-eqb n 0 (sym (eqb-true 0 n e))) ∙ h))
 
 -- the windows without one that isn't `.`
-pub well_without : (t : Windows) (number place : ℕ) → WellFormed t → (number == 0) ≡ false → Some place ≡ position (λ w. w.number == number) t.windows
-    → WellFormed (record t { windows = without_at t.windows place })
-well_without t number place w other at = by (slice_get t.windows place) refl
-  where
-    by : (o : Option Window) → slice_get t.windows place ≡ o
-        → WellFormed (record t { windows = on_window o t.windows (λ v. filter (λ u. not (is_within v.path u.path)) t.windows) })
-    by None e = w
-    by (Some v) e =
-        let same : (v.number == number) ≡ true = found_passes (λ u. u.number == number) t.windows v (found_at (λ u. u.number == number) t.windows place at ∙ e) in
-        let later = not_first w.first.0 number place v (other_than_0 number other) same (sym (ap (λ ws. slice_get ws place) w.first.1) ∙ e) in
-        let path = other_path (root ∷ []) w.first.0 later.0 v (subst (AllFollow []) w.first.1 w.founded).1 refl later.1 in
-        well_left v.path t w path.0 path.1
+pub well_without : (t : Windows) (number : ℕ) (w : Window) → WellFormed t → (number == 0) ≡ false → of_number t.windows number ≡ Some w
+    → WellFormed (record t { windows = others w.path t.windows })
+well_without t number w well other is =
+    let later : find (λ u. u.number == number) well.first.0 ≡ Some w =
+    sym (ap (λ b. cond b (Some root) (find (λ u. u.number == number) well.first.0)) (other_than_0 number other))
+    ∙ sym (ap (find (λ u. u.number == number)) well.first.1) ∙ is in
+    let path = other_path (λ u. u.number == number) (root ∷ []) well.first.0 w (subst (AllFollow []) well.first.1 well.founded).1 refl later in
+    well_left w.path t well path.0 path.1
 
--- what destroying does, where the window stands at a place, and where there is none
-pub destroyed_at : (t : Windows) (number place : ℕ) (left : List Window) → (number == 0) ≡ false → Some place ≡ position (λ w. w.number == number) t.windows
-    → left ≡ without_at t.windows place → destroyed t number ≡ Ok (record t { windows = left })
-destroyed_at t number place left other at l =
+-- what destroying does, where there is a window, and where there is none
+pub destroyed_one : (t : Windows) (number : ℕ) (w : Window) (left : List Window) → (number == 0) ≡ false → of_number t.windows number ≡ Some w → left ≡ others w.path t.windows
+    → destroyed t number ≡ Ok (record t { windows = left })
+destroyed_one t number w left other is l =
     ap (λ (b : Bool). if b then Err (record { number = NotAllowedOnRoot; subject = None }) else Ok (without t number)) other
-    ∙ ap (λ o. Ok (on_window o t (λ w. record t { windows = filter (λ v. not (is_within w.path v.path)) t.windows }))) (found_at (λ w. w.number == number) t.windows place at)
-    ∙ by (slice_get t.windows place) ∙ ap (λ ws. Ok (record t { windows = ws })) (sym l)
-  where
-    by : (o : Option Window) → ◌≡◌ {A = Result Windows ScriptFault} (Ok (on_window o t (λ w. record t { windows = filter (λ v. not (is_within w.path v.path)) t.windows })))
-        (Ok (record t { windows = on_window o t.windows (λ w. filter (λ v. not (is_within w.path v.path)) t.windows) }))
-    by None = refl
-    by (Some w) = refl
+    ∙ ap (λ o. Ok (on_window o t (λ w. record t { windows = filter (λ v. not (is_within w.path v.path)) t.windows }))) is
+    ∙ ap (λ ws. Ok (record t { windows = ws })) (sym l)
 
-pub destroyed_nowhere : (t : Windows) (number : ℕ) → (number == 0) ≡ false → None ≡ position (λ w. w.number == number) t.windows → destroyed t number ≡ Ok t
-destroyed_nowhere t number other at =
+pub destroyed_none : (t : Windows) (number : ℕ) → (number == 0) ≡ false → of_number t.windows number ≡ None → destroyed t number ≡ Ok t
+destroyed_none t number other is =
     ap (λ (b : Bool). if b then Err (record { number = NotAllowedOnRoot; subject = None }) else Ok (without t number)) other
-    ∙ ap (λ o. Ok (on_window o t (λ w. record t { windows = filter (λ v. not (is_within w.path v.path)) t.windows }))) (found_nowhere (λ w. w.number == number) t.windows at)
+    ∙ ap (λ o. Ok (on_window o t (λ w. record t { windows = filter (λ v. not (is_within w.path v.path)) t.windows }))) is

@@ -2,11 +2,7 @@
 use Rattle.std.specs.Prelude.{◌≡◌, ⊤, ℕ, ◌+◌, ◌≤◌, true, false, List, [], ◌∷◌, ◌++◌, Option, Some, None}
 use Rattle.tks_tree.specs.Path.{is_path, parent_of}
 use Rattle.tks_tree.specs.Windows.{Window, Windows, root, max_number, has_path}
-
--- the numbers of items rise, from one on
-abbrev pub Rises : {X : Type 0} → (X → ℕ) → ℕ → List X → Type 0
-Rises number low [] = ⊤
-Rises number low (x ∷ xs) = (low ≤ number x) × Rises number (number x + 1) xs
+pub use Rattle.tks_share.specs.Lists.{Rises}
 
 -- the numbers rise, from one on and below another
 abbrev pub Rise : ℕ → List Window → ℕ → Type 0

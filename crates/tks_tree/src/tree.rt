@@ -4,40 +4,42 @@ ghost use Rattle.tks_text.specs.Fault.{Gives};
 ghost use Rattle.tks_tree.specs.Windows.{first_windows, of_path, has_path, of_number, parent_found, free_path, created, may_skip, skipped, destroyed, resolved, number_at, parent, children, preorder, others_behind, Chooses};
 ghost use Rattle.tks_tree.specs.Families.{families, childless, with_child};
 ghost use Rattle.tks_tree.specs.WellFormed.{WellFormed};
-ghost use Rattle.tks_tree.specs.View.{window_seen, window_kept, windows_kept, without_at};
-ghost use Rattle.tks_tree.specs.Meets.{MakesSo, AnswersSo};
+ghost use Rattle.tks_tree.specs.View.{window_seen, others, Indexes};
+ghost use Rattle.tks_tree.specs.Meets.{MakesSo};
 
 use crate::fault::{CreateFault, error_about};
 use crate::focus::{first_accepted, others_behind};
 use crate::path::{ROOT, is_child, is_path, is_within, parent_of};
 use crate::window::{Entry, Window, WindowId};
-use indexmap::IndexMap;
 use std::alloc::{AllocError, Global};
 use std::marker::Model;
+use tks_share::{SharedList, SharedMap};
 use tks_text::{Class, ErrorNumber, Failure, ScriptFault, Seq, Txt};
 
 /// The number that no window's passes.
 const MAX_NUMBER: u64 = 1 << 62;
 
 /// The windows that there are, in the order in which they were made. There is always `.`, and each other
-/// window stands in one made before it.
+/// window stands in one made before it. Copies share what they have in common, so to make one costs next to nothing.
 #[derive(Drop)]
 pub struct Tree {
     alloc: Global,
-    windows: IndexMap<Txt, Entry>,
+    windows: SharedList<Entry>,
+    // The number of each window, under its path.
+    index: SharedMap<WindowId>,
     next: u64,
 }
 
 impl Model for Tree {
     ghost use Rattle.tks_tree.specs.Windows.{Windows};
     ghost use Rattle.tks_tree.specs.WellFormed.{WellFormed};
-    ghost use Rattle.tks_tree.specs.View.{windows_kept};
+    ghost use Rattle.tks_tree.specs.View.{Indexes};
 
     ghost Value = { Windows };
 
-    ghost view = { λ t. record { windows = windows_kept t.windows.entries; next = t.next } };
+    ghost view = { λ t. record { windows = t.windows; next = t.next } };
 
-    ghost invariant = { λ t. WellFormed (record { windows = windows_kept t.windows.entries; next = t.next }) };
+    ghost invariant = { λ t. WellFormed (record { windows = t.windows; next = t.next }) × Indexes t.index t.windows };
 }
 
 impl Tree {
@@ -45,15 +47,18 @@ impl Tree {
     pub fn new(alloc: Global) -> Result<Tree, AllocError>
         ensures { IfOk result (λ t. t ≡ first_windows) }
     {
-        let mut windows = IndexMap::new(alloc);
-        let root = Entry {
+        let mut windows = SharedList::new(alloc);
+        windows.push(Entry {
             id: WindowId::root(),
+            path: Txt::from_text(alloc, ROOT)?,
             class: Class::Root,
-        };
-        windows.insert(Txt::from_text(alloc, ROOT)?, root)?;
+        })?;
+        let mut index = SharedMap::new(alloc);
+        index.insert(ROOT, WindowId::root())?;
         Ok(Tree {
             alloc,
             windows,
+            index,
             next: 1,
         })
     }
@@ -66,15 +71,19 @@ impl Tree {
         self.windows.len()
     }
 
+    // The number of the window that has these bytes as its path.
+    fn number_at(&self, path: &[u8]) -> Option<WindowId>
+        ensures value { result ≡ number_at self.now.windows (Some path.now) }
+        ensures formed { WellFormed self.now }
+    {
+        self.index.get(path).copied()
+    }
+
     /// The window of a path.
-    #[tactic(auto, using(crate::proofs::Kept::there, crate::proofs::Kept::nowhere))]
     pub fn find(&self, path: &Txt) -> Option<Window<'_>>
         ensures { option_map window_seen result ≡ of_path self.now.windows path.now }
     {
-        match self.windows.get_key_value(path) {
-            Some((path, entry)) => Some(shown(path, entry)),
-            None => None,
-        }
+        self.window(self.number_at(path.as_bytes())?)
     }
 
     // Whether there is a window of a path.
@@ -88,17 +97,15 @@ impl Tree {
     fn place_of(&self, id: WindowId) -> Option<usize>
         ensures { result ≡ position (λ w. w.number == id) self.now.windows }
     {
-        self.windows
-            .binary_search_by_key(&id.number(), |_path, entry| entry.id.number())
-            .ok()
+        self.windows.place_of(id.number())
     }
 
     /// The window that was made after so many others that are there.
     pub fn nth(&self, index: usize) -> Option<Window<'_>>
         ensures { option_map window_seen result ≡ slice_get self.now.windows index }
     {
-        match self.windows.get_index(index) {
-            Some((path, entry)) => Some(shown(path, entry)),
+        match self.windows.get(index) {
+            Some(entry) => Some(shown(entry)),
             None => None,
         }
     }
@@ -160,7 +167,11 @@ impl Tree {
             return Err(CreateFault::OutOfNumbers);
         }
         let id = WindowId::of(self.next);
-        self.windows.insert(path.try_clone()?, Entry { id, class })?;
+        let mut index = self.index.share()?;
+        index.insert(path.as_bytes(), id)?;
+        let path = path.try_clone()?;
+        self.windows.push(Entry { id, path, class })?;
+        self.index = index;
         self.next += 1;
         Ok(id)
     }
@@ -185,35 +196,50 @@ impl Tree {
         true
     }
 
+    // The windows but for one of this path and those that stand in it.
+    fn others(&self, path: &Txt) -> Result<SharedList<Entry>, AllocError>
+        ensures { IfOk result (λ ws. ws ≡ others path.now self.now.windows) }
+    {
+        self.windows.kept(
+            |other: &Entry| -> bool
+                ensures { result ≡ not (is_within path.entry.now other.now.path) }
+            { !is_within(path.as_bytes(), other.path.as_bytes()) },
+        )
+    }
+
+    // The index of those.
+    fn index_of_others(&self, path: &Txt) -> Result<SharedMap<WindowId>, AllocError>
+        ensures { IfOk result (λ index. Indexes index (others path.now self.now.windows)) }
+    {
+        let mut index = self.index.share()?;
+        for window in self.windows.iter() {
+            if is_within(path.as_bytes(), window.path.as_bytes()) {
+                index.remove(window.path.as_bytes())?;
+            }
+        }
+        Ok(index)
+    }
+
     /// Takes a window out, and all that stand in it, however deep. `.` stays: that is an error. Where no
     /// window has the number, nothing is done.
-    pub fn destroy(&mut self, id: WindowId) -> Result<(), ScriptFault>
-        ensures value { AnswersSo (λ _. self.new) result (destroyed self.old id) }
+    pub fn destroy(&mut self, id: WindowId) -> Result<(), Failure>
+        ensures value { Gives (λ _. self.new) result (destroyed self.old id) }
         ensures err { OnErr result (self.new ≡ self.old) }
     {
         if id.is_root() {
-            return Err(ScriptFault {
+            return Err(Failure::Script(ScriptFault {
                 number: ErrorNumber::NotAllowedOnRoot,
                 subject: None,
-            });
+            }));
         }
-        let Some(place) = self.place_of(id) else {
+        let Some(window) = self.window(id) else {
             return Ok(());
         };
-        remove_within(&mut self.windows, place);
+        let windows = self.others(window.path)?;
+        let index = self.index_of_others(window.path)?;
+        self.windows = windows;
+        self.index = index;
         Ok(())
-    }
-
-    // The number of the window that has these bytes as its path.
-    fn number_at(&self, path: &[u8]) -> Option<WindowId>
-        ensures { result ≡ number_at self.now.windows (Some path.now) }
-    {
-        for (other, entry) in &self.windows {
-            if path == other.as_bytes() {
-                return Some(entry.id);
-            }
-        }
-        None
     }
 
     /// The number of the window that one stands in; none for `.`, and for a number that no window has.
@@ -237,23 +263,20 @@ impl Tree {
         let Some(parent) = self.window(id) else {
             return Ok(ids);
         };
-        for (path, entry) in &self.windows {
-            if is_child(parent.path.as_bytes(), path.as_bytes()) {
-                ids.push(entry.id)?;
+        for window in self.windows.iter() {
+            if is_child(parent.path.as_bytes(), window.path.as_bytes()) {
+                ids.push(window.id)?;
             }
         }
         Ok(ids)
     }
 
     // The place of the window that one of this path stands in.
-    fn place_of_parent(&self, path: &Txt) -> Result<Option<usize>, AllocError>
-        ensures { IfOk result (λ place. place ≡ position (λ w. is_child w.path path.now) self.now.windows) }
+    fn place_of_parent(&self, path: &Txt) -> Option<usize>
+        ensures { result ≡ position (λ w. is_child w.path path.now) self.now.windows }
     {
-        let Some(parent) = parent_of(path.as_bytes()) else {
-            return Ok(None);
-        };
-        let parent = Txt::from_text(self.alloc, parent)?;
-        Ok(self.windows.get_index_of(&parent))
+        let parent = parent_of(path.as_bytes())?;
+        self.place_of(self.number_at(parent)?)
     }
 
     // An empty list for each window.
@@ -261,7 +284,7 @@ impl Tree {
         ensures { IfOk result (λ f. f.items ≡ childless self.now.windows) }
     {
         let mut lists = Vec::with_capacity(self.alloc, self.len())?;
-        for _window in &self.windows {
+        for _window in self.windows.iter() {
             lists.push(Seq::new(self.alloc))?;
         }
         Ok(lists)
@@ -272,8 +295,8 @@ impl Tree {
         ensures { IfOk result (λ f. f.items ≡ families self.now.windows) }
     {
         let mut lists = self.childless()?;
-        for (path, entry) in &self.windows {
-            add_child(&mut lists, self.place_of_parent(path)?, entry.id)?;
+        for window in self.windows.iter() {
+            add_child(&mut lists, self.place_of_parent(&window.path), window.id)?;
         }
         Ok(lists)
     }
@@ -334,13 +357,14 @@ impl Tree {
         Ok(first_accepted(&others, from, accepts))
     }
 
-    /// Equal windows.
+    /// Equal windows. They take no memory, however many there are.
     pub fn try_clone(&self) -> Result<Tree, AllocError>
         ensures { IfOk result (λ t. t ≡ self.now) }
     {
         Ok(Tree {
             alloc: self.alloc,
-            windows: self.windows.clone()?,
+            windows: self.windows.share()?,
+            index: self.index.share()?,
             next: self.next,
         })
     }
@@ -373,26 +397,13 @@ fn push_reversed(pending: &mut Vec<WindowId>, ids: &[WindowId]) -> Result<(), Al
     Ok(())
 }
 
-// A window under its path.
-fn shown<'a>(path: &'a Txt, entry: &Entry) -> Window<'a>
-    ensures { window_seen result ≡ window_kept (path.now, entry.now) }
+// A window as a tree shows it.
+fn shown(entry: &Entry) -> Window<'_>
+    ensures { window_seen result ≡ entry.now }
 {
     Window {
         id: entry.id,
-        path,
+        path: &entry.path,
         class: entry.class,
-    }
-}
-
-// Takes out a window that stands at a place, and all that stand in it.
-fn remove_within(windows: &mut IndexMap<Txt, Entry>, place: usize)
-    ensures { windows_kept windows.new.entries ≡ without_at (windows_kept windows.old.entries) place }
-{
-    if let Some((window, _)) = windows.shift_remove_index(place) {
-        windows.retain(
-            |path: &Txt, entry: &mut Entry| -> bool
-                ensures { (result ≡ not (is_within window path.now)) × (entry.new ≡ entry.old) }
-            { !is_within(window.as_bytes(), path.as_bytes()) },
-        );
     }
 }

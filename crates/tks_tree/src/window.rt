@@ -1,6 +1,7 @@
 ghost use Rattle.std.specs.Prelude.{◌≡◌, ◌==◌};
 
 use std::marker::Model;
+use tks_share::Numbered;
 use tks_text::{Class, Txt};
 
 /// The number of a window. Numbers are given out from 0, which is that of `.`, and never again.
@@ -57,9 +58,26 @@ pub struct Window<'a> {
     pub class: Class,
 }
 
-// What a tree keeps of a window under its path.
-#[derive(Clone, Copy)]
+/// A window, as a tree keeps it.
+#[derive(Drop)]
 pub struct Entry {
     pub id: WindowId,
+    pub path: Txt,
     pub class: Class,
+}
+
+impl Model for Entry {
+    ghost use Rattle.tks_tree.specs.Windows as windows;
+
+    ghost Value = { windows.Window };
+
+    ghost view = { λ e. record { number = e.id; path = e.path; class = e.class } };
+}
+
+impl Numbered for Entry {
+    ghost number_of = { λ w. w.number };
+
+    fn number(&self) -> u64 {
+        self.id.number()
+    }
 }

@@ -1,7 +1,9 @@
 -- No frame of variables stands between inputs.
 use Rattle.std.proofs.Common.{◌≡◌, ℕ, ◌==◌, Bool, true, false, ◌&&◌, if◌then◌else◌, List, [], ◌∷◌, length, Option, Some, None, refl, subst, ap, ◌∙◌}
 use Rattle.std.specs.Prelude.{nat_lt}
+use Rattle.std.proofs.lemmas.List.{nil_from_length}
 use Rattle.tks_text.specs.declared.limits.Limits.{Limits}
+use Rattle.tks_parse.specs.Tree as parsed
 use Rattle.tks_parse.specs.Reading.{script_of}
 use Rattle.tks_vars.specs.Laws.{FramesStay}
 use Rattle.tks_vars.specs.Variables.{Variables}
@@ -49,13 +51,9 @@ use Rattle.tks_world.specs.declared.things.Thing.TheVariants as thing
 use Rattle.tks_input.specs.declared.input.Input.{Input}
 use Rattle.tks_input.specs.declared.input.Input.TheVariants.{Script, KeyPress, KeyRelease, Press, Release, Clock, Turn}
 
-none_of : {X : Type 0} (xs : List X) → length xs ≡ 0 → xs ≡ []
-none_of [] e = refl
-none_of (x ∷ xs) e = absurd cc
-
 -- where none was begun none is left
 none_left : (v u : Variables) → FramesStay v u → v.locals ≡ [] → u.locals ≡ []
-none_left v u h none = none_of u.locals (h.count ∙ ap length none)
+none_left v u h none = nil_from_length u.locals (h.count ∙ ap length none)
 
 -- ---- what comes of an input
 
@@ -146,6 +144,15 @@ module _ (m : Meaning) where
     thing_leaves (thing.Event e) s v = event_leaves e s v
     thing_leaves (thing.Timer id script) s v = noted_leaves v _ (script_leaves (script_of script) s v)
     thing_leaves (thing.Idle id script) s v = noted_leaves v _ (script_leaves (script_of script) s v)
+
+  module _ (limits : Limits) (s s' : Setting) (v u : Variables) (code : ℕ) (text : List ℕ) (fuel : ℕ) (none : v.locals ≡ []) where
+    -- no frame stands behind a script
+    pub script_rests : (script : parsed.Script) → script_ends m limits script s v ≡ End code text s' u fuel → u.locals ≡ []
+    script_rests script e = none_left v u (subst (Leaves v) e (script_leaves limits script s v)).leaves none
+
+    -- nor behind a turn's thing
+    pub thing_rests : (t : Thing) → thing_does m limits t s v ≡ End code text s' u fuel → u.locals ≡ []
+    thing_rests t e = none_left v u (subst (Leaves v) e (thing_leaves limits t s v)).leaves none
 
   concluded_rests : (v : Variables) (o : Outcome Setting) → v.locals ≡ [] → Leaves v o → RestsAfter (concluded o)
   concluded_rests v (Stopped why) none h = tt

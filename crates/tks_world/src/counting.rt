@@ -1,11 +1,12 @@
 //! Inputs that are accepted, counted.
-ghost use Rattle.std.specs.Prelude.{◌≡◌, ◌==◌, ◌<◌, false};
+ghost use Rattle.std.specs.Prelude.{◌≡◌, [], ◌==◌, ◌<◌, false};
 ghost use Rattle.tks_world.specs.Meets.{ReachesSo};
 ghost use Rattle.tks_world.specs.Stepped.{max_count, counted, kept, Accepts};
 
 use std::alloc::Global;
 use tks_app::Memories;
 use tks_input::{Refused, Reply};
+use tks_share::Shared;
 use tks_state::World;
 use tks_text::Txt;
 use tks_vars::Vars;
@@ -35,11 +36,12 @@ fn reply_of(world: &World, code: u8, text: Txt) -> Reply
 /// Counts an input whose scripts ended, in the world that they left, and puts memories and variables back into it.
 pub fn accept(
     world: &mut World,
-    memories: Memories,
-    variables: Vars,
+    memories: Shared<Memories>,
+    variables: Shared<Vars>,
     code: u8,
     text: Txt,
 ) -> Result<Reply, Refused>
+    requires { variables.locals ≡ [] }
     ensures { ReachesSo (counted world.old memories code text variables) result world.new }
 {
     if is_full(world) {

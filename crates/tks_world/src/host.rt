@@ -11,6 +11,7 @@ use std::marker::Model;
 use tks_app::{AppBody, AppMeaning, Apps, Memories};
 use tks_cmd::command;
 use tks_eval::{Host, Plan};
+use tks_share::Shared;
 use tks_state::World;
 use tks_tcl::Stop;
 use tks_text::{Limits, Txt};
@@ -23,7 +24,7 @@ use tks_vars::Vars;
 pub struct WorldHost<'a, T: AppMeaning, B: AppBody> {
     pub alloc: Global,
     pub world: World,
-    pub memories: Memories,
+    pub memories: Shared<Memories>,
     pub limits: Limits,
     pub apps: &'a Apps<T, B>,
 }

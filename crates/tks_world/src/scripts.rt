@@ -1,5 +1,5 @@
 //! What the script of an input does.
-ghost use Rattle.std.specs.Prelude.{◌≡◌, IfOk, IfErr, OnErr};
+ghost use Rattle.std.specs.Prelude.{◌≡◌, [], IfOk, IfErr, OnErr};
 ghost use Rattle.tks_text.specs.declared.fault.ErrorNumber.TheVariants.{OutsideLoop};
 ghost use Rattle.tks_tcl.specs.Cause.{bare};
 ghost use Rattle.tks_eval.specs.Meets.{EndsSo};
@@ -11,28 +11,31 @@ use crate::counting::accept;
 use crate::host::WorldHost;
 use crate::refusal::refused_by;
 use std::alloc::{AllocError, Global};
-use std::mem;
 use tks_app::{AppBody, AppMeaning, Apps, Memories};
 use tks_eval::{Ended, eval};
 use tks_input::{Refused, Reply};
 use tks_parse::{Script, parse};
+use tks_share::Shared;
 use tks_state::World;
 use tks_tcl::{Stop, fits};
 use tks_text::{ErrorNumber, Limits, ScriptFault, Txt};
 use tks_vars::Vars;
 
-/// The world as scripts are lent it: a copy, without its memories and variables, which go beside it.
+/// The world as scripts are lent it: a copy, without its memories and variables, which go beside it. No frame of these stands.
 pub fn lend<'a, T: AppMeaning, B: AppBody>(
     alloc: Global,
     world: &World,
     apps: &'a Apps<T, B>,
     limits: &Limits,
 ) -> Result<(WorldHost<'a, T, B>, Vars), AllocError>
-    ensures { IfOk result (λ x. (x.0 ≡ lent apps.now limits.now world.now) × (x.1 ≡ world.now.variables)) }
+    ensures { IfOk result (λ x. (x.0 ≡ lent apps.now limits.now world.now) × (x.1 ≡ world.now.variables) × (x.1.locals ≡ [])) }
 {
+    // That no frame stands is asked for here.
+    let _ = world.accepted();
+    let variables = world.variables().try_clone()?;
     let mut copy = world.try_clone()?;
-    let variables = copy.replace_variables(Vars::new(alloc));
-    let memories = copy.replace_memories(Memories::none(alloc));
+    copy.replace_variables(Shared::new(alloc, Vars::new(alloc))?);
+    let memories = copy.replace_memories(Shared::new(alloc, Memories::none(alloc))?);
     let host = WorldHost {
         alloc,
         world: copy,
@@ -50,9 +53,11 @@ pub fn conclude<T: AppMeaning, B: AppBody>(
     code: u8,
     text: Txt,
 ) -> Result<Reply, Refused>
+    requires { variables.locals ≡ [] }
     ensures { ReachesSo (counted host.old.world host.old.memories code text variables) result host.new.world }
 {
-    let memories = mem::replace(&mut host.memories, Memories::none(host.alloc));
+    let memories = host.memories.share()?;
+    let variables = Shared::new(host.alloc, variables)?;
     accept(&mut host.world, memories, variables, code, text)
 }
 
@@ -65,6 +70,7 @@ fn run_lent<T: AppMeaning, B: AppBody>(
     script: Script,
     limits: &Limits,
 ) -> Result<Reply, Refused>
+    requires { variables.locals ≡ [] }
     ensures { ReachesSo (concluded (script_ends T.meaning limits.now script host.old variables)) result host.new.world }
 {
     let mut variables = variables;

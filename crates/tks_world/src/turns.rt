@@ -1,5 +1,5 @@
 //! A turn: one thing that waits is done.
-ghost use Rattle.std.specs.Prelude.{◌≡◌, IfOk, IfErr, OnErr};
+ghost use Rattle.std.specs.Prelude.{◌≡◌, [], IfOk, IfErr, OnErr};
 ghost use Rattle.tks_eval.specs.Meets.{EndsSo};
 ghost use Rattle.tks_world.specs.Stepped.{Accepts};
 ghost use Rattle.tks_world.specs.Turns.{script_runs, event_runs, thing_does, finished, turn_does, turn_step};
@@ -90,6 +90,7 @@ fn finish<T: AppMeaning, B: AppBody>(
     text: Txt,
     limits: &Limits,
 ) -> Result<Reply, Refused>
+    requires { variables.locals ≡ [] }
     ensures { ReachesSo (finished text (thing_does T.meaning limits.now thing host.old variables)) result host.new.world }
 {
     let mut variables = variables;
@@ -110,6 +111,7 @@ fn turn_lent<T: AppMeaning, B: AppBody>(
     variables: Vars,
     limits: &Limits,
 ) -> Result<Reply, Refused>
+    requires { variables.locals ≡ [] }
     ensures { ReachesSo (turn_does T.meaning limits.now host.old variables) result host.new.world }
 {
     let Some(thing) = take_thing(&mut host.world)? else {

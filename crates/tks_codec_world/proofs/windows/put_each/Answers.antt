@@ -2,6 +2,7 @@ use Rattle.std.proofs.Common.{rules, ◌≡◌, ◌<◌, ◌++◌, Some, None, L
 use Rattle.std.specs.Prelude.{slice_get}
 use Rattle.std.specs.List.{AllByRecursion}
 use Rattle.std.proofs.lemmas.List.{take_all}
+use Rattle.std.proofs.lemmas.Option.{get_or_from_slice_get}
 use Rattle.std.proofs.lemmas.Result.{err_from_is_err_and}
 use Rattle.tks_tree.specs.View.{window_seen}
 use Rattle.tks_codec.specs.Spelling.{members}
@@ -20,8 +21,10 @@ put_line-requires-clause-class c =
     let ks = c.args.kept.now in
     let i = c.loop-index.index in
     let w = window_seen c.in-Some.window in
+    let k = c.in-Some-get.one.now in
     let here : slice_get ws i ≡ Some w = search rules in
-    class_in_step ws ks i w c.index-kept-index.result c.requires.in_step here c.index-kept-index.is (omega (arith, c.loop-index-test.true))
+    let one : slice_get ks i ≡ Some k = search rules in
+    class_in_step ws ks i w k c.requires.in_step here (sym (get_or_from_slice_get ks i k k one)) (omega (arith, c.loop-index-test.true))
 
 pub put_line-requires-clause-packing : goal.put_line-requires-clause-packing
 put_line-requires-clause-packing c = subst IsPacking (sym c.packed_as-packing.ensures) (packings_legal c.args.kept.now c.in-Some.window.id c.requires.short)
@@ -41,14 +44,15 @@ loop-index-preserved c =
     let xs = lines_from ps ws ks in
     let i = c.loop-index.index in
     let w = window_seen c.in-Some.window in
-    let k = c.index-kept-index.result in
+    let k = c.in-Some-get.one.now in
     let x = line_of ps w k in
     let now = c.loop-index.out.items in
     let new = c.put_line.new.out.items in
     let here : slice_get ws i ≡ Some w = search rules in
+    let one : slice_get ks i ≡ Some k = search rules in
     let before : i < length ks = omega (arith, c.loop-index-test.true) in
     let lt : i < length xs = omega (arith, lines_count ps ws ks c.requires.in_step, before) in
-    let is = line_at_place ps ws ks i w k here c.index-kept-index.is before in (
+    let is = line_at_place ps ws ks i w k here (sym (get_or_from_slice_get ks i k k one)) before in (
       one_put (λ before. line) xs i x c.args.out.now.items now new lt is c.loop-index.invariant.0 (subst (λ p. new ≡ now ++ line.write (line_with w k p)) c.packed_as-packing.ensures c.in_ok-put_line.ensures.puts),
       one_holds line.Legal xs i x lt is c.loop-index.invariant.1 (subst (λ p. line.Legal (line_with w k p)) c.packed_as-packing.ensures c.in_ok-put_line.ensures.legal),
     )

@@ -23,7 +23,7 @@ returns-clause-puts c =
     let new = c.put_each.new.out.items in
     let lines = lines_of (windows_of w) in
     let kept = c.all_kept-kept.ensures in
-    let count = ap (λ (ks : List Kept). length ks) kept ∙ sym (lines_count (packings_of w.kept) w.tree.windows w.kept c.accepted.ensures.formed.windows.in_step) in
+    let count = c.len.ensures ∙ ap (λ (ks : List Kept). length ks) kept ∙ sym (lines_count (packings_of w.kept) w.tree.windows w.kept c.accepted.ensures.formed.windows.in_step) in
     let same =
     ap (λ (ks : List Kept). lines_from (packings_of ks) c.tree.result.now.windows ks) kept
     ∙ ap (λ (t : tree.Windows). lines_from (packings_of w.kept) t.windows w.kept) c.tree.ensures.value in

@@ -8,19 +8,19 @@ use Rattle.tks_state.proofs.layout.place_all.Goals as goal
 pub place_in-requires : goal.place_in-requires
 place_in-requires c =
     area_fits c.args.grid c.get-area.result c.grid_area.ensures.small.0 c.grid_area.ensures.small.1
-    (subst (λ o. IfSome o (LiesOn c.args.grid)) (sym c.get-area.ensures) (c.loop-one.invariant.inside c.one-item.result.window))
+    (subst (λ o. IfSome o (LiesOn c.args.grid)) (sym c.get-area.ensures) (c.loop-one.invariant.inside c.in-Some.one.now.window))
 
 pub loop-one-init : goal.loop-one-init
 loop-one-init c =
     let is = c.in_ok-insert.ensures.ok ∙ (λ i. map.insert (c.new-placed.ensures i) (c.root.ensures i) (c.grid_area.ensures.value i)) in
-    record { rest = ap (λ placed. placed_after (sizes c.args.variables.now c.args.kept.now) placed c.args.kept.now) is; inside = grid_area_lies c.args.grid c.insert.new.self is }
+    record { rest = (λ i. placed_after (sizes c.args.variables.now c.args.kept.now) (is i) ((c.into_iter-one-iterator.ensures.into_iter_gives ∙ c.iter-one-items.ensures) i)); inside = grid_area_lies c.args.grid c.insert.new.self is }
 
 pub loop-one-preserved : goal.loop-one-preserved
 loop-one-preserved c =
     let old = c.loop-one.placed in
-    let k = c.one-item.result in
+    let k = c.in-Some.one.now in
     let new = c.in_ok-place_in.ensures ∙ ap (λ known. with_contents_of known k c.get-area.result old) c.in_ok-sizes.ensures in
     record {
-      rest = placed_more (sizes c.args.variables.now c.args.kept.now) old c.place_in.new.placed c.args.kept.now c.loop-one.one-index k c.get-area.result c.loop-one-test.true c.one-item.is c.get-area.ensures new ∙ c.loop-one.invariant.rest;
+      rest = placed_more (sizes c.args.variables.now c.args.kept.now) old c.place_in.new.placed c.loop-one.one-iterator c.next.new.self k c.get-area.result c.in-Some.ensures.steps c.get-area.ensures new ∙ c.loop-one.invariant.rest;
       inside = more_lie c.args.grid (sizes c.args.variables.now c.args.kept.now) old c.place_in.new.placed k c.get-area.result c.loop-one.invariant.inside c.get-area.ensures new;
     }

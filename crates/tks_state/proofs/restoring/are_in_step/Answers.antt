@@ -11,7 +11,8 @@ returns-then-not-is_kept_of c =
     let ks = c.args.kept.now in
     let i = c.loop-index.index in
     let here : slice_get ws i ≡ Some (window_seen c.in-Some.window) = search rules in
-    let step = in_step_at ws ks i (window_seen c.in-Some.window) c.index-kept-index.result here c.index-kept-index.is (omega (arith, c.loop-index-test.true)) in
+    let one : slice_get ks i ≡ Some c.in-Some-get.one.now = search rules in
+    let step = in_step_at ws ks i (window_seen c.in-Some.window) c.in-Some-get.one.now here one in
     ap (λ b. b && are_in_step (drop (i + 1) ws) (drop (i + 1) ks)) c.if-not-is_kept_of.ensures ∙ sym step ∙ c.loop-index.invariant.1
 
 pub loop-index-preserved : goal.loop-index-preserved
@@ -20,7 +21,8 @@ loop-index-preserved c =
     let ks = c.args.kept.now in
     let i = c.loop-index.index in
     let here : slice_get ws i ≡ Some (window_seen c.in-Some.window) = search rules in
-    let step = in_step_at ws ks i (window_seen c.in-Some.window) c.index-kept-index.result here c.index-kept-index.is (omega (arith, c.loop-index-test.true)) in (
+    let one : slice_get ks i ≡ Some c.in-Some-get.one.now = search rules in
+    let step = in_step_at ws ks i (window_seen c.in-Some.window) c.in-Some-get.one.now here one in (
       c.loop-index.invariant.0,
       ap (λ b. b && are_in_step (drop (i + 1) ws) (drop (i + 1) ks)) c.if-not-is_kept_of.ensures ∙ sym step ∙ c.loop-index.invariant.1,
     )

@@ -5,4 +5,4 @@ use Rattle.tks_state.proofs.restoring.kept_of_parts.Given as goal
 -- those so far, and what comes of the others
 abbrev pub invariant-loop-index : goal.invariant-loop-index
 invariant-loop-index l =
-    l.kept.items ++ kept_of_parts (drop l.index l.tree.windows) l.parts.rest.items ≡ kept_of_parts l.fn.tree.windows l.fn.parts.items
+    l.kept ++ kept_of_parts (drop l.index l.tree.windows) l.parts.rest.items ≡ kept_of_parts l.fn.tree.windows l.fn.parts.items

@@ -10,10 +10,10 @@ pack_at-requires c = kept_rises _ _ c.self.invariant
 pub invariant_of-self-2 : goal.invariant_of-self-2
 invariant_of-self-2 c =
     let old = c.self.invariant in
-    let items = c.self.inside.kept.items in
+    let kept = c.self.inside.kept in
     record {
       windows = old.windows;
-      in_step = c.pack_at.ensures.marks ∙ old.in_step;
-      packs = IfOk-at_ok _ (ap (λ o. packed_at items o c.args.window c.args.options.now) (sym c.parent-container.ensures) ∙ c.in_ok-pack_at.ensures.value)
-          (packed_packs c.self.inside.tree items c.args.window c.args.options.now old.packs);
+      in_step = c.in_ok-pack_at.ensures.marks ∙ old.in_step;
+      packs = IfOk-at_ok _ (ap (λ o. packed_at kept o c.args.window c.args.options.now) (sym c.parent-container.ensures) ∙ c.in_ok-pack_at.ensures.value)
+          (packed_packs c.self.inside.tree kept c.args.window c.args.options.now old.packs);
     }

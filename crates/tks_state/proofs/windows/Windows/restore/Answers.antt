@@ -1,4 +1,4 @@
-use Rattle.std.proofs.Common.{rules, ◌≡◌, true, sym, ap, ◌∙◌}
+use Rattle.std.proofs.Common.{rules, ◌≡◌, true, sym}
 use Rattle.std.specs.List.{list_all}
 use Rattle.tks_tree.specs.WellFormed as trees
 use Rattle.tks_state.specs.Restoring.{are_in_step, packs_children}
@@ -8,8 +8,8 @@ use Rattle.tks_state.proofs.windows.Windows.restore.Goals as goal
 pub invariant_of-result : goal.invariant_of-result
 invariant_of-result c =
     let t = c.args.tree in
-    let ks = c.args.kept.items in
-    let step : are_in_step t.windows ks ≡ true = sym (c.if-are_in_step.ensures ∙ ap (are_in_step t.windows) c.deref.ensures.value) in
-    let packs : list_all (packs_children t) ks ≡ true = sym (c.if-all_pack_children.ensures ∙ ap (list_all (packs_children t)) c.deref-then-are_in_step.ensures.value) in
+    let ks = c.args.kept in
+    let step : are_in_step t.windows ks ≡ true = sym c.if-are_in_step.ensures in
+    let packs : list_all (packs_children t) ks ≡ true = sym c.if-all_pack_children.ensures in
     let tree : trees.WellFormed t = search rules in
     well_formed (record { tree = t; kept = ks }) tree step packs

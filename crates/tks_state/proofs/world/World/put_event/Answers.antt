@@ -7,4 +7,4 @@ pub invariant_of-self : goal.invariant_of-self
 invariant_of-self c =
     let ws = c.self.inside.windows.tree.windows in
     let there : is_there ws c.args.event.window ≡ true = search rules in
-    rw c.in_ok-put_event.ensures.ok (c.self.invariant.0, put_there ws c.args.place c.args.event c.self.inside.event_loop there c.self.invariant.1)
+    rw c.in_ok-put_event.ensures.ok (c.self.invariant.0, put_there ws c.args.place c.args.event c.self.inside.event_loop there c.self.invariant.1, c.self.invariant.2)

@@ -1,7 +1,16 @@
+use Rattle.std.proofs.Common.{ap, sym, ◌∙◌}
+use Rattle.tks_tree.specs.Windows as tree
+use Rattle.tks_state.specs.EventLoop.{all_in, left}
+use Rattle.tks_state.specs.Windows.{Windows}
 use Rattle.tks_state.proofs.Looping.{left_there}
 use Rattle.tks_state.proofs.world.World.remove_window.Goals as goal
 
-pub invariant_of-self-2 : goal.invariant_of-self-2
-invariant_of-self-2 c =
-    let first = c.tree-2.ensures.formed.windows.first in
-    rw (c.drop_lost-2.ensures, c.tree-2.ensures.value) (c.self.invariant.0, left_there c.remove.new.self.tree.windows first.0 c.self.inside.event_loop first.1)
+pub invariant_of-self : goal.invariant_of-self
+invariant_of-self c =
+    let ws = c.in_ok-windows.windows.tree.windows in
+    let loop = c.self.inside.event_loop in
+    let same = c.tree-tree.ensures.value ∙ ap (λ (x : Windows). x.tree) c.get-2.ensures in
+    let first = c.tree-tree.ensures.formed.windows.first in
+    let root_first = sym (ap (λ (x : Windows). x.tree.windows) c.get-2.ensures) ∙ first.1 in
+    let there = ap (all_in ws) (c.in_ok-event_loop.ensures ∙ ap (λ (t : tree.Windows). left t.windows loop) same) ∙ left_there ws first.0 loop root_first in
+    (c.self.invariant.0, there, c.self.invariant.2)

@@ -1,0 +1,222 @@
+-- Windows by their numbers, and by their paths.
+use Rattle.std.proofs.Common.{◌≡◌, ℕ, ◌+◌, ◌≤◌, Bool, true, false, cond, ◌||◌, ◌&&◌, not, List, [], ◌∷◌, ◌++◌, length, Option, Some, None, Ordering, Less, Equal, Greater, is_some, is_eq, refl, sym, ap, ◌∙◌, true≢false, arith}
+use Rattle.std.specs.Prelude.{◌==◌, nat_lt}
+use Rattle.std.specs.List.{find, position, position_or_len}
+use Rattle.std.specs.Option.{option_map}
+use Rattle.std.specs.Ordering.{eq_by_cmp}
+use Rattle.std.specs.Cmp.Lexicographic.{bytes_decides, nat_list_cmp_total}
+use Rattle.std.specs.Cmp.{eq_by_cmp_equiv}
+use Rattle.std.specs.FinMap as fin
+use Rattle.std.proofs.lemmas.Bool.{ne_eqb, eq-eqb, le-ltb}
+use Rattle.tks_share.specs.Names.{order}
+use Rattle.tks_share.specs.Maps.{Map}
+use Rattle.tks_share.specs.Lists.{Rises}
+use Rattle.tks_text.specs.Text.{same_text}
+use Rattle.tks_tree.specs.Path.{is_within}
+use Rattle.tks_tree.specs.Windows.{Window, of_path, of_number, has_path, number_at}
+use Rattle.tks_tree.specs.View.{Indexes, others}
+use Rattle.tks_tree.specs.WellFormed.{Rise}
+use Rattle.tks_tree.proofs.Trees.{from_some, some_is_none}
+
+-- ---- numbers
+
+pub numbers_rise : (low : ℕ) (ws : List Window) (high : ℕ) → Rise low ws high → Rises (λ (w : Window). w.number) low ws
+numbers_rise low [] high r = tt
+numbers_rise low (w ∷ ws) high r = (r.0, numbers_rise (w.number + 1) ws high r.1)
+
+-- a window that some test finds is the one that its number finds, and both at one place
+pub record Found (test : Window → Bool) (low : ℕ) (ws : List Window) (v : Window) : Type 0 where
+  pub from : low ≤ v.number
+  pub numbered : of_number ws v.number ≡ Some v
+  pub place : position_or_len (λ w. w.number == v.number) ws ≡ position_or_len test ws
+
+pub found : (test : Window → Bool) (low : ℕ) (ws : List Window) (high : ℕ) (v : Window) → Rise low ws high → find test ws ≡ Some v → Found test low ws v
+found test low [] high v r is = absurd (some_is_none (sym is))
+found test low (w ∷ ws) high v r is = by (test w) refl is (found test (w.number + 1) ws high v r.1)
+  where
+    by : (b : Bool) → test w ≡ b → cond b (Some w) (find test ws) ≡ Some v → (find test ws ≡ Some v → Found test (w.number + 1) ws v) → Found test low (w ∷ ws) v
+    by true t is rest =
+        let same : w ≡ v = ap (from_some w) is in
+        let number : w.number ≡ v.number = ap (λ u. u.number) same in
+        let equal : (w.number == v.number) ≡ true = eq-eqb w.number v.number number in
+        record {
+          from = omega (arith, r.0, number);
+          numbered = ap (λ b. cond b (Some w) (of_number ws v.number)) equal ∙ is;
+          place =
+              ap (λ b. cond (not b) (1 + position_or_len (λ u. u.number == v.number) ws) 0) equal
+              ∙ sym (ap (λ b. cond (not b) (1 + position_or_len test ws) 0) t);
+        }
+    by false t is rest =
+        let later = rest is in
+        let differ : (w.number == v.number) ≡ false = ne_eqb w.number v.number (λ e. omega (arith, e, later.from)) in
+        record {
+          from = omega (arith, r.0, later.from);
+          numbered = ap (λ b. cond b (Some w) (of_number ws v.number)) differ ∙ later.numbered;
+          place =
+              ap (λ b. cond (not b) (1 + position_or_len (λ u. u.number == v.number) ws) 0) differ
+              ∙ ap (λ n. 1 + n) later.place
+              ∙ sym (ap (λ b. cond (not b) (1 + position_or_len test ws) 0) t);
+        }
+
+-- the window that the number of a path's window finds
+pub by_path : (ws : List Window) (high id : ℕ) (path : List ℕ) → Rise 0 ws high → Some id ≡ number_at ws (Some path) → of_number ws id ≡ of_path ws path
+by_path ws high id path r is = by (of_path ws path) refl is
+  where
+    by : (o : Option Window) → of_path ws path ≡ o → Some id ≡ option_map (λ (w : Window). w.number) o → of_number ws id ≡ o
+    by None e is = absurd (some_is_none is)
+    by (Some v) e is = ap (of_number ws) (ap (from_some 0) is) ∙ (found (λ w. same_text path w.path) 0 ws high v r e).numbered
+
+pub no_path : (ws : List Window) (path : List ℕ) → None ≡ number_at ws (Some path) → of_path ws path ≡ None
+no_path ws path is = by (of_path ws path) is
+  where
+    by : (o : Option Window) → None ≡ option_map (λ (w : Window). w.number) o → o ≡ None
+    by None is = refl
+    by (Some v) is = absurd (some_is_none (sym is))
+
+-- what isn't found has no place
+pub no_place : (test : Window → Bool) (ws : List Window) → find test ws ≡ None → None ≡ position test ws
+no_place test ws is =
+    sym (ap (λ n. cond (nat_lt n (length ws)) (Some n) None) (all_passed ws is) ∙ ap (λ b. cond b (Some (length ws)) None) (le-ltb (length ws) (length ws) (omega arith)))
+  where
+    all_passed : (ws : List Window) → find test ws ≡ None → position_or_len test ws ≡ length ws
+    all_passed [] is = refl
+    all_passed (w ∷ ws) is = by (test w) is (all_passed ws) ∙ omega arith
+      where
+        by : (b : Bool) → cond b (Some w) (find test ws) ≡ None → (find test ws ≡ None → position_or_len test ws ≡ length ws) → cond (not b) (1 + position_or_len test ws) 0 ≡ 1 + length ws
+        by true is rest = absurd (some_is_none is)
+        by false is rest = ap (λ n. 1 + n) (rest is)
+
+-- the place of that window
+pub place_by_path : (ws : List Window) (high id : ℕ) (path : List ℕ) → Rise 0 ws high → Some id ≡ number_at ws (Some path)
+    → position (λ (w : Window). w.number == id) ws ≡ position (λ (w : Window). same_text path w.path) ws
+place_by_path ws high id path r is = by (of_path ws path) refl is
+  where
+    by : (o : Option Window) → of_path ws path ≡ o → Some id ≡ option_map (λ (w : Window). w.number) o
+        → position (λ (w : Window). w.number == id) ws ≡ position (λ (w : Window). same_text path w.path) ws
+    by None e is = absurd (some_is_none is)
+    by (Some v) e is =
+        ap (λ n. position (λ (w : Window). w.number == n) ws) (ap (from_some 0) is)
+        ∙ ap (λ n. cond (nat_lt n (length ws)) (Some n) None) (found (λ w. same_text path w.path) 0 ws high v r e).place
+
+-- ---- paths
+
+-- two paths are one for the index where they are the same text
+keys_alike : (q p : List ℕ) → eq_by_cmp order q p ≡ same_text q p
+keys_alike q p = by (eq_by_cmp order q p) (same_text q p) refl refl
+  where
+    equal : (r : Ordering) → is_eq r ≡ true → r ≡ Equal
+    equal Less e = cc
+    equal Equal e = refl
+    equal Greater e = cc
+
+    by : (a b : Bool) → eq_by_cmp order q p ≡ a → same_text q p ≡ b → a ≡ b
+    by true true s t = refl
+    by false false s t = refl
+    by true false s t = absurd (true≢false (sym ((bytes_decides q p).1 (fin.slice_cmp-IsAntisymmetric fin.nat_cmp-IsAntisymmetric q p (equal _ s))) ∙ t))
+    by false true s t =
+        absurd (true≢false (sym ((eq_by_cmp_equiv nat_list_cmp_total).refl q) ∙ ap (λ x. eq_by_cmp order q x) ((bytes_decides q p).0 t) ∙ s))
+
+-- no path of no window
+pub none_indexed : Indexes fin.empty []
+none_indexed q = fin.get-empty order q
+
+-- a window of a new path
+pub one_more : (index : Map ℕ) (ws : List Window) (w : Window) → Indexes index ws → has_path ws w.path ≡ false → Indexes (fin.insert index w.path w.number) (ws ++ w ∷ [])
+one_more index ws w is new = λ q.
+    fin.get-insert nat_list_cmp_total index w.path w.number q
+    ∙ ap (λ b. cond b (Some w.number) (fin.get index q)) (keys_alike q w.path)
+    ∙ ap (cond (same_text q w.path) (Some w.number)) (is q)
+    ∙ at q (same_text q w.path) refl (of_path ws q) refl
+    ∙ sym (ap (option_map (λ (v : Window). v.number)) (found_more ws q))
+  where
+    or_else : Option Window → Option Window → Option Window
+    or_else None o = o
+    or_else (Some v) o = Some v
+
+    found_more : (ws : List Window) (q : List ℕ) → of_path (ws ++ w ∷ []) q ≡ or_else (of_path ws q) (cond (same_text q w.path) (Some w) None)
+    found_more [] q = refl
+    found_more (v ∷ ws) q = on (same_text q v.path) (found_more ws q)
+      where
+        on : (b : Bool) → of_path (ws ++ w ∷ []) q ≡ or_else (of_path ws q) (cond (same_text q w.path) (Some w) None)
+            → cond b (Some v) (of_path (ws ++ w ∷ []) q) ≡ or_else (cond b (Some v) (of_path ws q)) (cond (same_text q w.path) (Some w) None)
+        on true rest = refl
+        on false rest = rest
+
+    at : (q : List ℕ) (b : Bool) → same_text q w.path ≡ b → (o : Option Window) → of_path ws q ≡ o
+        → cond b (Some w.number) (option_map (λ (v : Window). v.number) o) ≡ option_map (λ (v : Window). v.number) (or_else o (cond b (Some w) None))
+    at q true s None e = refl
+    at q true s (Some v) e = absurd (true≢false (sym (ap is_some e) ∙ ap (has_path ws) ((bytes_decides q w.path).0 s) ∙ new))
+    at q false s None e = refl
+    at q false s (Some v) e = refl
+
+-- ---- the windows but for one and those in it
+
+module _ (path : List ℕ) where
+  -- whether a window that goes has this path
+  abbrev pub goes_with : List ℕ → List Window → Bool
+  goes_with q [] = false
+  goes_with q (w ∷ ws) = (is_within path w.path && same_text q w.path) || goes_with q ws
+
+  -- the index, once those that go of the rest are out, has those that stay of all
+  abbrev pub Leaves : List Window → List Window → Map ℕ → Type 0
+  Leaves all rest index = (q : List ℕ) → cond (goes_with q rest) None (fin.get index q) ≡ number_at (others path all) (Some q)
+
+  pub first : (index : Map ℕ) (ws : List Window) → Indexes index ws → Leaves ws ws index
+  first index ws is = λ q. ap (cond (goes_with q ws) None) (is q) ∙ left ws q
+    where
+      left : (ws : List Window) (q : List ℕ) → cond (goes_with q ws) None (number_at ws (Some q)) ≡ number_at (others path ws) (Some q)
+      left [] q = refl
+      left (w ∷ ws) q = by (is_within path w.path) refl (same_text q w.path) refl (left ws q)
+        where
+          -- those of its path go where it goes
+          all_go : is_within path w.path ≡ true → same_text q w.path ≡ true → (vs : List Window) → number_at (others path vs) (Some q) ≡ None
+          all_go k s [] = refl
+          all_go k s (v ∷ vs) = on (is_within path v.path) refl (same_text q v.path) refl (all_go k s vs)
+            where
+              on : (b : Bool) → is_within path v.path ≡ b → (c : Bool) → same_text q v.path ≡ c → number_at (others path vs) (Some q) ≡ None
+                  → number_at (cond (not b) (v ∷ others path vs) (others path vs)) (Some q) ≡ None
+              on true e c f rest = rest
+              on false e true f rest =
+                  absurd (true≢false (sym k ∙ ap (is_within path) (sym ((bytes_decides q w.path).0 s) ∙ (bytes_decides q v.path).0 f) ∙ e))
+              on false e false f rest = ap (λ b. option_map (λ (u : Window). u.number) (cond b (Some v) (of_path (others path vs) q))) f ∙ rest
+
+          -- those of its path stay where it stays
+          none_goes : is_within path w.path ≡ false → same_text q w.path ≡ true → (vs : List Window) → goes_with q vs ≡ false
+          none_goes k s [] = refl
+          none_goes k s (v ∷ vs) = on (is_within path v.path) refl (same_text q v.path) refl (none_goes k s vs)
+            where
+              on : (b : Bool) → is_within path v.path ≡ b → (c : Bool) → same_text q v.path ≡ c → goes_with q vs ≡ false → ((b && c) || goes_with q vs) ≡ false
+              on true e true f rest = absurd (true≢false (sym e ∙ ap (is_within path) (sym ((bytes_decides q v.path).0 f) ∙ (bytes_decides q w.path).0 s) ∙ k))
+              on true e false f rest = rest
+              on false e c f rest = rest
+
+          by : (b : Bool) → is_within path w.path ≡ b → (c : Bool) → same_text q w.path ≡ c → cond (goes_with q ws) None (number_at ws (Some q)) ≡ number_at (others path ws) (Some q)
+              → cond ((b && c) || goes_with q ws) None (option_map (λ (u : Window). u.number) (cond c (Some w) (of_path ws q)))
+              ≡ number_at (cond (not b) (w ∷ others path ws) (others path ws)) (Some q)
+          by true k true s rest = sym (all_go k s ws)
+          by true k false s rest = rest
+          by false k true s rest =
+              ap (λ b. cond b None (Some w.number)) (none_goes k s ws)
+              ∙ sym (ap (λ b. option_map (λ (u : Window). u.number) (cond b (Some w) (of_path (others path ws) q))) s)
+          by false k false s rest = rest ∙ sym (ap (λ b. option_map (λ (u : Window). u.number) (cond b (Some w) (of_path (others path ws) q))) s)
+
+  -- one that goes is taken out of the index
+  pub taken_out : (all rest : List Window) (w : Window) (index : Map ℕ) → is_within path w.path ≡ true → Leaves all (w ∷ rest) index → Leaves all rest (fin.remove index w.path)
+  taken_out all rest w index k leaves = λ q.
+      ap (cond (goes_with q rest) None) (fin.get-remove nat_list_cmp_total index w.path q ∙ ap (λ b. cond b None (fin.get index q)) (keys_alike q w.path))
+      ∙ either (goes_with q rest) (same_text q w.path) (fin.get index q)
+      ∙ ap (λ b. cond ((b && same_text q w.path) || goes_with q rest) None (fin.get index q)) (sym k)
+      ∙ leaves q
+    where
+      either : (a b : Bool) (o : Option ℕ) → cond a None (cond b None o) ≡ cond (b || a) None o
+      either true true o = refl
+      either true false o = refl
+      either false true o = refl
+      either false false o = refl
+
+  -- one that stays is left in it
+  pub left_in : (all rest : List Window) (w : Window) (index : Map ℕ) → is_within path w.path ≡ false → Leaves all (w ∷ rest) index → Leaves all rest index
+  left_in all rest w index k leaves = λ q. ap (λ b. cond ((b && same_text q w.path) || goes_with q rest) None (fin.get index q)) (sym k) ∙ leaves q
+
+  pub last : (all : List Window) (index : Map ℕ) → Leaves all [] index → Indexes index (others path all)
+  last all index leaves = λ q. leaves q
