@@ -1,5 +1,5 @@
 -- Commands on windows leave the frames below the innermost.
-use Rattle.std.proofs.Common.{◌≡◌, ℕ, Bool, true, false, ◌&&◌, cond, if◌then◌else◌, codes, List, [], ◌∷◌, Option, Some, None, option_map, Result, Ok, Err, IfOk, refl, subst}
+use Rattle.std.proofs.Common.{ℕ, Bool, true, false, ◌&&◌, if◌then◌else◌, codes, List, [], ◌∷◌, Option, Some, None, option_map, Result, Ok, Err, IfOk, subst}
 use Rattle.tks_text.specs.Text.{same_text}
 use Rattle.tks_text.specs.Fault.{fault_text}
 use Rattle.tks_text.specs.declared.limits.Limits.{Limits}
@@ -22,11 +22,10 @@ use Rattle.tks_eval.specs.Outcome.{Answer, Unknown, Comes, PassesLimit}
 use Rattle.tks_eval.specs.declared.host.Plan.{Plan}
 use Rattle.tks_eval.specs.declared.host.Plan.TheVariants as plan
 use Rattle.tks_cmd.specs.Changes.{Changed, Outcome, outcome, plan_of, beside, silent, creation}
-use Rattle.tks_cmd.specs.Commands.{command_named, command_does, named_does, words_do, may_come, comes, answered, does}
+use Rattle.tks_cmd.specs.Commands.{command_named, command_does, named_does, words_do, may_come, answered}
 use Rattle.tks_cmd.specs.Contents.{holds_within}
-use Rattle.tks_cmd.specs.EventCommands.{event_command_does, planned}
-use Rattle.tks_cmd.specs.Links as links
-use Rattle.tks_cmd.specs.Links.{Linked, is_lacking, global_set, made_global, told, stored, settled, configured_pair, configured, assigned_to, first_assigned_to, first_value, told_words, assigned_does, action_does, configure_does, called}
+use Rattle.tks_cmd.specs.EventCommands.{event_command_does}
+use Rattle.tks_cmd.specs.Links.{Linked, is_lacking, global_set, made_global, told, stored, settled, configured_pair, configured, assigned_to, first_assigned_to, first_value, told_words, action_does, configure_does, called}
 use Rattle.tks_cmd.specs.Packing.{pack_does}
 use Rattle.tks_cmd.specs.Widgets.{window_does}
 use Rattle.tks_cmd.specs.Windows.{are_paired, new_widget, added, room, made, make_does, destroy_does, first_widget}

@@ -1,5 +1,5 @@
 -- What turns work on is of windows that are there, whatever is done to it and to the windows.
-use Rattle.std.proofs.Common.{◌≡◌, ℕ, Bool, true, false, not, List, [], ◌∷◌, ◌++◌, Option, Some, None, is_some, Result, Ok, Err, refl, sym, ap, subst, ◌∙◌}
+use Rattle.std.proofs.Common.{◌≡◌, ℕ, Bool, true, false, List, [], ◌∷◌, ◌++◌, Option, Some, None, is_some, Ok, refl, sym, subst, ◌∙◌}
 use Rattle.std.specs.Prelude.{◌&&◌, ◌==◌, if◌then◌else◌}
 use Rattle.std.specs.List.{filter, list_all}
 use Rattle.std.proofs.lemmas.Bool.{and_from, and_parts}
@@ -10,9 +10,8 @@ use Rattle.tks_queue.specs.declared.place.Place.{Place}
 use Rattle.tks_queue.specs.declared.place.Place.TheVariants as place
 use Rattle.tks_queue.specs.declared.queued.Queued.{Queued}
 use Rattle.tks_queue.specs.EventQueue.{queued, some_with_mark, put_with_mark, put, without_first}
-use Rattle.tks_tree.specs.Windows as tree
 use Rattle.tks_tree.specs.Windows.{Window, Windows, root, of_number, created}
-use Rattle.tks_state.specs.EventLoop.{EventLoop, is_there, is_for, is_press, all_in, left_queue, left_focus, left_pressed, left, Stay}
+use Rattle.tks_state.specs.EventLoop.{EventLoop, is_there, is_for, is_press, all_in, left_focus, left_pressed, left, Stay}
 use Rattle.tks_state.proofs.Marks.{made, created_made}
 
 -- ---- the three tests

@@ -1,5 +1,5 @@
 -- What is kept of a window, by its place.
-use Rattle.std.proofs.Common.{◌≡◌, ◌<◌, ℕ, zero, suc, ◌==◌, Bool, true, false, cond, if◌then◌else◌, List, [], ◌∷◌, length, set, get_or, Option, Some, None, is_some, position, refl, sym, ap, ◌∙◌, true≢false, Result, Ok, Err, arith}
+use Rattle.std.proofs.Common.{◌≡◌, ◌<◌, ℕ, zero, suc, ◌==◌, Bool, true, false, cond, if◌then◌else◌, List, [], ◌∷◌, length, set, get_or, Some, None, is_some, position, refl, sym, ap, ◌∙◌, true≢false, Result, Ok, Err, arith}
 use Rattle.std.specs.Prelude.{map, slice_get, IfSome}
 use Rattle.std.proofs.lemmas.Option.{slice_get-get_or}
 use Rattle.std.specs.Result.{IsErrAnd}

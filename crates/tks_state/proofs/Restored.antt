@@ -1,5 +1,5 @@
 -- Two lists that are walked by one index.
-use Rattle.std.proofs.Common.{◌≡◌, ℕ, zero, suc, ◌+◌, Bool, true, false, ◌&&◌, ◌||◌, not, true≢false, map, List, [], ◌∷◌, length, ◌<◌, slice_index_or, Option, Some, None, refl, sym, ap, ◌∙◌, drop, arith}
+use Rattle.std.proofs.Common.{◌≡◌, ℕ, zero, suc, ◌+◌, Bool, true, false, ◌&&◌, ◌||◌, not, true≢false, map, List, [], ◌∷◌, length, ◌<◌, Option, Some, None, refl, sym, ap, ◌∙◌, drop, arith}
 use Rattle.std.specs.Prelude.{slice_get, ◌≢◌, ◌==◌, ◌≤◌, ◌^◌, nat_le, if◌then◌else◌}
 use Rattle.std.specs.List.{AllByRecursion, IsDistinct, list_all}
 use Rattle.std.proofs.lemmas.Bool.{eqb-true, eq-eqb, le-leb, lt-leb}

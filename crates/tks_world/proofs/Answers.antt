@@ -10,8 +10,7 @@ use Rattle.tks_app.specs.Memories.{memory_of, remembering}
 use Rattle.tks_app.specs.declared.answer.AppAnswer.{AppAnswer}
 use Rattle.tks_app.specs.declared.memories.Memory.{Memory}
 use Rattle.tks_state.specs.World.{World}
-use Rattle.tks_cmd.specs.Commands.{does}
-use Rattle.tks_eval.specs.Outcome.{Answer, Unknown, Comes, PassesLimit}
+use Rattle.tks_eval.specs.Outcome.{Answer, Comes, PassesLimit}
 use Rattle.tks_eval.specs.Meets.{AnswersSo}
 use Rattle.tks_eval.specs.declared.host.Plan.{Plan}
 use Rattle.tks_eval.specs.declared.host.Plan.TheVariants as plan

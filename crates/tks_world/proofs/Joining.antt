@@ -1,12 +1,11 @@
 -- Runs one behind the other, and without the inputs that are refused.
-use Rattle.std.proofs.Common.{◌≡◌, List, [], ◌∷◌, ◌++◌, refl, sym, subst, ap}
+use Rattle.std.proofs.Common.{◌≡◌, [], ◌∷◌, ◌++◌, refl, sym, subst, ap}
 use Rattle.tks_text.specs.declared.limits.Limits.{Limits}
 use Rattle.tks_app.specs.Applications.{Application}
 use Rattle.tks_state.specs.World.{World}
 use Rattle.tks_world.specs.Step.{Stepped, Accepts, Refuses, step}
-use Rattle.tks_world.specs.Run.{Ran, with_reply, went, run_of, then_run, kept_input, accepted_among}
+use Rattle.tks_world.specs.Run.{with_reply, went, run_of, then_run, kept_input, accepted_among}
 use Rattle.tks_world.specs.Laws.{RunsJoin, RefusedLeaveOut}
-use Rattle.tks_input.specs.declared.input.Input.{Input}
 
 pub join : (app : Application) (limits : Limits) → RunsJoin app limits
 join app limits w [] second = refl

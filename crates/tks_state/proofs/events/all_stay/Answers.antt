@@ -1,6 +1,5 @@
 use Rattle.std.proofs.Common.{◌≤◌, length, ap, arith}
 use Rattle.std.proofs.lemmas.Bool.{leb-true}
-use Rattle.tks_bind.specs.Binding.{Content}
 use Rattle.tks_state.specs.Events.{is_held}
 use Rattle.tks_state.specs.Lost.{first_lost}
 use Rattle.tks_state.proofs.Holding.{none_lost}

@@ -1,4 +1,4 @@
-use Rattle.std.proofs.Common.{rules, ◌≡◌, ◌+◌, Some, sym, ap, ◌∙◌, ◌&&◌, drop, arith}
+use Rattle.std.proofs.Common.{rules, ◌≡◌, ◌+◌, Some, sym, ap, ◌∙◌, ◌&&◌, drop}
 use Rattle.std.specs.Prelude.{slice_get}
 use Rattle.tks_tree.specs.View.{window_seen}
 use Rattle.tks_state.specs.Restoring.{are_in_step}

@@ -1,4 +1,4 @@
-use Rattle.std.proofs.Common.{◌≤◌, length, sym, subst, ◌∙◌, arith}
+use Rattle.std.proofs.Common.{◌≤◌, length, sym, subst, arith}
 use Rattle.std.specs.Prelude.{IfErr}
 use Rattle.tks_app.specs.Applications.{Application}
 use Rattle.tks_cmd.proofs.Results.{err_is}

@@ -1,4 +1,4 @@
-use Rattle.std.proofs.Common.{rules, ◌≡◌, ◌≤◌, ◌<◌, ◌^◌, [], Some, None, length, if◌then◌else◌, true, false, sym, ap, ◌∙◌, arith}
+use Rattle.std.proofs.Common.{rules, ◌≡◌, ◌≤◌, ◌^◌, Some, None, length, if◌then◌else◌, true, false, sym, ap, ◌∙◌, arith}
 use Rattle.std.specs.Prelude.{nat_le}
 use Rattle.std.proofs.lemmas.List.{nil_from_length}
 use Rattle.tks_bind.specs.History.{max_history}
@@ -6,7 +6,7 @@ use Rattle.tks_vars.specs.Variables.{Variables}
 use Rattle.tks_state.specs.Events.{max_faults}
 use Rattle.tks_state.specs.EventLoop.{all_in}
 use Rattle.tks_state.specs.Restoring.{are_windows, world_of, world_with}
-use Rattle.tks_state.specs.World.{windows_of, events_of, loop_of}
+use Rattle.tks_state.specs.World.{windows_of, events_of}
 use Rattle.tks_state.proofs.Restored.{possible, there_again, too_many, frames_stand, not_there, no_windows, no_events}
 use Rattle.tks_state.proofs.world.World.restore.Goals as goal
 use Rattle.tks_state.proofs.world.World.restore.Goals.{then-accepted-gt-MAX_ACCEPTED-via-then-accepted-gt-MAX_ACCEPTED, then-accepted-gt-MAX_ACCEPTED-via-else-accepted-gt-MAX_ACCEPTED+then-depth-gt0, then-accepted-gt-MAX_ACCEPTED-via-else-accepted-gt-MAX_ACCEPTED+else-depth-gt0+then-not-is_in}
