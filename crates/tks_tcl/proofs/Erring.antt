@@ -1,16 +1,15 @@
 -- A command that ends with an error leaves the variables as they were.
-use Rattle.std.proofs.Common.{◌≡◌, ℕ, Bool, true, false, if◌then◌else◌, List, [], ◌∷◌, Option, Some, None, option_map, Result, Ok, Err, refl, sym, ap, ◌∙◌, arith}
+use Rattle.std.proofs.Common.{◌≡◌, ℕ, Bool, true, false, if◌then◌else◌, List, [], ◌∷◌, Option, Some, None, option_map, IfSome, Result, Ok, Err, refl, sym, ap, ◌∙◌, arith}
 use Rattle.tks_text.specs.Fault.{fault_text}
 use Rattle.tks_text.specs.declared.fault.ScriptFault.{ScriptFault}
 use Rattle.tks_text.specs.declared.limits.Limits.{Limits}
 use Rattle.tks_vars.specs.Variables.{Variables}
 use Rattle.tks_tcl.specs.Cause.{Cause, Fault, OverLimit, after, fits}
-use Rattle.tks_tcl.specs.Variables.{Changed}
-use Rattle.tks_tcl.specs.Plain.{Answer, Answers, PassesLimit, with_code_0, command_does, errs, answered}
+use Rattle.tks_tcl.specs.Variables.{Changed, variable_named}
+use Rattle.tks_tcl.specs.Codes.{code_named}
+use Rattle.tks_tcl.specs.Plain.{Answer, Answers, PassesLimit, with_code_0, Command, command_named, errs, answered}
 use Rattle.tks_tcl.specs.Laws.{ErrorsChangeNothing}
-use Rattle.tks_tcl.specs.Names.{command_named}
-use Rattle.tks_tcl.specs.declared.command.Command.{Command}
-use Rattle.tks_tcl.specs.declared.command.Command.TheVariants.{OfCode, OfLists, OfStrings, OfVariables}
+use Rattle.tks_tcl.proofs.Named.{all_so, by_kind}
 
 abbrev code_of : Answer → ℕ
 code_of (Answers code text variables) = code
@@ -46,17 +45,19 @@ module _ (limits : Limits) (variables new : Variables) (text : List ℕ) where
   with_code (Err (Fault fault)) e = told fault _ refl e
   with_code (Err OverLimit) e = absurd cc
 
-  by_command : (command : Command) (name : List ℕ) (words : List (List ℕ)) → answered limits variables (command_does limits command name words variables) ≡ Answers 1 text new → new ≡ variables
-  by_command (OfCode c) name words e = with_code _ e
-  by_command (OfLists c) name words e = with_0 _ e
-  by_command OfStrings name words e = with_0 _ e
-  by_command (OfVariables c) name words e = with_0 _ e
+  abbrev Leaves : Command → Type 0
+  Leaves does = (name : List ℕ) (words : List (List ℕ)) → answered limits variables (does limits name words variables) ≡ Answers 1 text new → new ≡ variables
 
-  by_name : (o : Option Command) (name : List ℕ) (words : List (List ℕ))
-      → option_map (λ command. answered limits variables (command_does limits command name words variables)) o ≡ Some (Answers 1 text new) → new ≡ variables
-  by_name None name words e = absurd cc
-  by_name (Some command) name words e = by_command command name words cc
+  commands_leave : (name : List ℕ) → IfSome (command_named name) Leaves
+  commands_leave name =
+      by_kind Leaves name (λ does name words e. with_0 _ e) (all_so _ (variable_named name) (λ does name words e. with_0 _ e))
+      (all_so _ (code_named name) (λ does name words e. with_code _ e))
+
+  by_name : (o : Option Command) → IfSome o Leaves → (name : List ℕ) (words : List (List ℕ))
+      → option_map (λ does. answered limits variables (does limits name words variables)) o ≡ Some (Answers 1 text new) → new ≡ variables
+  by_name None leaves name words e = absurd cc
+  by_name (Some does) leaves name words e = leaves name words cc
 
 pub errors_leave_all : ErrorsChangeNothing
 errors_leave_all limits [] variables new text e = absurd cc
-errors_leave_all limits (name ∷ words) variables new text e = by_name limits variables new text (command_named name) name words e
+errors_leave_all limits (name ∷ words) variables new text e = by_name limits variables new text (command_named name) (commands_leave limits variables new text name) name words e

@@ -1,5 +1,6 @@
 -- Commands that run no script leave the frames below the innermost.
-use Rattle.std.proofs.Common.{◌≡◌, ℕ, Bool, true, false, if◌then◌else◌, ◌&&◌, codes, List, [], ◌∷◌, Option, Some, None, option_map, Result, Ok, Err, IfOk, subst}
+use Rattle.std.proofs.Common.{◌≡◌, ℕ, Bool, true, false, if◌then◌else◌, ◌&&◌, codes, List, [], ◌∷◌, Option, Some, None, option_map, IfSome, Result, Ok, Err, IfOk, subst}
+use Rattle.std.proofs.lemmas.Option.{IfSome_then}
 use Rattle.tks_text.specs.Text.{same_text}
 use Rattle.tks_text.specs.Fault.{fault_text}
 use Rattle.tks_text.specs.declared.fault.ScriptFault.{ScriptFault}
@@ -8,15 +9,12 @@ use Rattle.tks_vars.specs.Laws.{FramesStay}
 use Rattle.tks_vars.specs.Variables.{Variables, without, with_value, with_global_value, grown_by_value, grown_by_global_value, grown_by_link}
 use Rattle.tks_vars.proofs.Framing.{itself, both, given_stays, global_given_stays, without_stays, link_stays}
 use Rattle.tks_tcl.specs.Cause.{Cause, Fault, OverLimit, after, value_or_fault, fits, within}
-use Rattle.tks_tcl.specs.Codes.{code_does}
-use Rattle.tks_tcl.specs.Variables.{Changed, value_in, increased, appended, list_appended, without_all, silent, unset_does, answers, may_grow, stores, stores_global, link_within, with_global_links, set_does, incr_does, append_does, lappend_does, global_does, info_does, variable_does}
-use Rattle.tks_tcl.specs.Plain.{Answer, Answers, PassesLimit, Ending, with_code_0, command_does, errs, answered}
+use Rattle.tks_tcl.specs.Codes.{CodeCommand, code_named}
+use Rattle.tks_tcl.specs.Lists.{ListCommand}
+use Rattle.tks_tcl.specs.Variables.{Changed, VariableCommand, value_in, increased, appended, list_appended, without_all, silent, unset_does, answers, may_grow, stores, stores_global, link_within, with_global_links, set_does, incr_does, append_does, lappend_does, global_does, info_does, variable_named}
+use Rattle.tks_tcl.specs.Plain.{Answer, Answers, PassesLimit, Ending, with_code_0, Command, of_lists, of_variables, of_code, command_named, errs, answered}
 use Rattle.tks_tcl.specs.Laws.{LeavesFrames}
-use Rattle.tks_tcl.specs.Names.{command_named}
-use Rattle.tks_tcl.specs.declared.command.Command.{Command}
-use Rattle.tks_tcl.specs.declared.command.Command.TheVariants.{OfCode, OfLists, OfStrings, OfVariables}
-use Rattle.tks_tcl.specs.declared.variables.VariableCommand.{VariableCommand}
-use Rattle.tks_tcl.specs.declared.variables.VariableCommand.TheVariants as command
+use Rattle.tks_tcl.proofs.Named.{named_or, all_so, by_kind}
 
 -- what follows has P, whatever it follows on
 pub follows : {X Y : Type 0} (P : Y → Type 0) (r : Result X Cause) (next : X → Result Y Cause) → ((x : X) → IfOk (next x) P) → IfOk (after r next) P
@@ -106,14 +104,18 @@ module _ (limits : Limits) where
   unset_stays first [] v = tt
   unset_stays first (name ∷ names) v = follows_on (FramesStay v) (Left v) (without_all (name ∷ names) v) silent (without_all_stay (name ∷ names) v v (itself v)) (λ w k. k)
 
-  variables_stay : (c : VariableCommand) (first : List ℕ) (words : List (List ℕ)) (v : Variables) → IfOk (variable_does limits c first words v) (Left v)
-  variables_stay command.Append = append_stays
-  variables_stay command.Global = global_stays
-  variables_stay command.Incr = incr_stays
-  variables_stay command.Info = info_stays
-  variables_stay command.Lappend = lappend_stays
-  variables_stay command.Set = set_stays
-  variables_stay command.Unset = unset_stays
+  abbrev Stays : VariableCommand → Type 0
+  Stays does = (first : List ℕ) (words : List (List ℕ)) (v : Variables) → IfOk (does limits first words v) (Left v)
+
+  variables_stay : (name : List ℕ) → IfSome (variable_named name) Stays
+  variables_stay name =
+      named_or Stays (same_text name (codes "append")) _ _ append_stays
+      (named_or Stays (same_text name (codes "global")) _ _ global_stays
+      (named_or Stays (same_text name (codes "incr")) _ _ incr_stays
+      (named_or Stays (same_text name (codes "info")) _ _ info_stays
+      (named_or Stays (same_text name (codes "lappend")) _ _ lappend_stays
+      (named_or Stays (same_text name (codes "set")) _ _ set_stays
+      (named_or Stays (same_text name (codes "unset")) _ _ unset_stays tt))))))
 
   -- ---- their answers
 
@@ -121,11 +123,22 @@ module _ (limits : Limits) where
     abbrev EndLeft : Ending → Type 0
     EndLeft x = FramesStay v x.1
 
-    command_stays : (c : Command) (first : List ℕ) (words : List (List ℕ)) → IfOk (command_does limits c first words v) EndLeft
-    command_stays (OfCode c) first words = follows EndLeft (code_does limits c first words) (λ x. Ok (x, v)) (λ x. itself v)
-    command_stays (OfLists c) first words = follows_on (Left v) EndLeft (answers limits v _) with_code_0 (answers_stay v _) (λ x k. k)
-    command_stays OfStrings first words = follows_on (Left v) EndLeft (answers limits v _) with_code_0 (answers_stay v _) (λ x k. k)
-    command_stays (OfVariables c) first words = follows_on (Left v) EndLeft (variable_does limits c first words v) with_code_0 (variables_stay c first words v) (λ x k. k)
+    abbrev CommandStays : Command → Type 0
+    CommandStays does = (first : List ℕ) (words : List (List ℕ)) → IfOk (does limits first words v) EndLeft
+
+    list_stays : (does : ListCommand) → CommandStays (of_lists does)
+    list_stays does first words = follows_on (Left v) EndLeft (answers limits v (does first words)) with_code_0 (answers_stay v (does first words)) (λ x k. k)
+
+    variable_stays : (does : VariableCommand) → Stays does → CommandStays (of_variables does)
+    variable_stays does stays first words = follows_on (Left v) EndLeft (does limits first words v) with_code_0 (stays first words v) (λ x k. k)
+
+    code_stays : (does : CodeCommand) → CommandStays (of_code does)
+    code_stays does first words = follows EndLeft (does limits first words) (λ x. Ok (x, v)) (λ x. itself v)
+
+    commands_stay : (name : List ℕ) → IfSome (command_named name) CommandStays
+    commands_stay name =
+        by_kind CommandStays name list_stays (IfSome_then (variable_named name) (variables_stay name) variable_stays)
+        (all_so _ (code_named name) code_stays)
 
     -- of an answer, that its variables have the same frames below
     abbrev pub AnswerLeft : Answer → Type 0
@@ -144,12 +157,13 @@ module _ (limits : Limits) where
     answered_stays (Err (Fault fault)) h = errs_stay fault
     answered_stays (Err OverLimit) h = tt
 
-    by_name : (o : Option Command) (first : List ℕ) (words : List (List ℕ)) (answer : Answer) → option_map (λ c. answered limits v (command_does limits c first words v)) o ≡ Some answer → AnswerLeft answer
-    by_name None first words answer e = absurd cc
-    by_name (Some c) first words answer e =
-        let same : answered limits v (command_does limits c first words v) ≡ answer = cc in
-        subst AnswerLeft same (answered_stays (command_does limits c first words v) (command_stays c first words))
+    by_name : (o : Option Command) → IfSome o CommandStays → (first : List ℕ) (words : List (List ℕ)) (answer : Answer)
+        → option_map (λ does. answered limits v (does limits first words v)) o ≡ Some answer → AnswerLeft answer
+    by_name None stays first words answer e = absurd cc
+    by_name (Some does) stays first words answer e =
+        let same : answered limits v (does limits first words v) ≡ answer = cc in
+        subst AnswerLeft same (answered_stays (does limits first words v) (stays first words))
 
 pub leaves_frames : LeavesFrames
 leaves_frames limits [] v new code text e = absurd cc
-leaves_frames limits (name ∷ words) v new code text e = by_name limits v (command_named name) name words (Answers code text new) e
+leaves_frames limits (name ∷ words) v new code text e = by_name limits v (command_named name) (commands_stay limits v name) name words (Answers code text new) e

@@ -1,4 +1,5 @@
 pub mod Causes
+pub mod Named
 pub mod Lengths
 pub mod Limits
 pub mod Parts

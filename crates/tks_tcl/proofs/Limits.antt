@@ -1,26 +1,20 @@
 -- Wider limits keep what a command comes to, where that passed none.
-use Rattle.std.proofs.Common.{◌≡◌, ℕ, ◌≤◌, Bool, true, false, ◌&&◌, leb, ltb, if◌then◌else◌, List, [], ◌∷◌, length, codes, Option, Some, None, Result, Ok, Err, option_map, refl, subst, arith}
+use Rattle.std.proofs.Common.{◌≡◌, ℕ, ◌≤◌, Bool, true, false, ◌&&◌, leb, ltb, if◌then◌else◌, List, [], ◌∷◌, length, codes, Option, Some, None, option_map, IfSome, Result, Ok, Err, refl, subst, arith}
 use Rattle.std.proofs.lemmas.Bool.{le-leb, leb-true, lt-ltb, ltb-true}
+use Rattle.std.proofs.lemmas.Option.{IfSome_then}
 use Rattle.tks_text.specs.Limits.{Wider}
 use Rattle.tks_text.specs.Text.{same_text}
 use Rattle.tks_text.specs.Fault.{fault_text}
 use Rattle.tks_text.specs.declared.limits.Limits.{Limits}
 use Rattle.tks_vars.specs.Variables.{Variables, with_value, with_global_value, with_global_link, exists, grown_by_value, grown_by_global_value, grown_by_link}
 use Rattle.tks_tcl.specs.Cause.{Cause, Fault, OverLimit, after, value_or_fault, fits, within, wrong_words}
-use Rattle.tks_tcl.specs.Codes.{bare_code, says, code_does}
+use Rattle.tks_tcl.specs.Codes.{CodeCommand, bare_code, says, returns, raises, code_named}
 use Rattle.tks_tcl.specs.Words.{truth_text}
-use Rattle.tks_tcl.specs.Lists.{list_does}
-use Rattle.tks_tcl.specs.Strings.{string_does}
-use Rattle.tks_tcl.specs.Variables.{answers, may_grow, stores, stores_global, link_within, with_global_links, value_in, increased, appended, list_appended, silent, set_does, incr_does, append_does, lappend_does, global_does, info_does, unset_does, variable_does}
-use Rattle.tks_tcl.specs.Names.{command_named}
-use Rattle.tks_tcl.specs.Plain.{Answer, Answers, PassesLimit, Ending, with_code_0, command_does, answered, plain}
-use Rattle.tks_tcl.specs.declared.codes.CodeCommand.{CodeCommand}
-use Rattle.tks_tcl.specs.declared.codes.CodeCommand.TheVariants as code
-use Rattle.tks_tcl.specs.declared.variables.VariableCommand.{VariableCommand}
-use Rattle.tks_tcl.specs.declared.variables.VariableCommand.TheVariants as variable
-use Rattle.tks_tcl.specs.declared.command.Command.{Command}
-use Rattle.tks_tcl.specs.declared.command.Command.TheVariants.{OfCode, OfLists, OfStrings, OfVariables}
+use Rattle.tks_tcl.specs.Lists.{ListCommand}
+use Rattle.tks_tcl.specs.Variables.{VariableCommand, answers, may_grow, stores, stores_global, link_within, with_global_links, value_in, increased, appended, list_appended, silent, set_does, incr_does, append_does, lappend_does, global_does, info_does, unset_does, variable_named}
+use Rattle.tks_tcl.specs.Plain.{Answer, Answers, PassesLimit, Ending, with_code_0, Command, of_lists, of_variables, of_code, command_named, answered, plain}
 use Rattle.tks_tcl.specs.Laws.{AnswersStay}
+use Rattle.tks_tcl.proofs.Named.{named_or, by_kind}
 
 -- ---- values
 
@@ -150,37 +144,60 @@ module _ (limits wider : Limits) (w : Wider limits wider) where
       if_keeps (same_text subcommand (codes "exists")) (answers_keep variables (after (value_or_fault (exists variables name)) (λ there. Ok (truth_text there)))) (itself (wrong_words command))
   info_keeps command (subcommand ∷ (name ∷ (more ∷ words))) variables = itself (wrong_words command)
 
-  variables_keep : (which : VariableCommand) (command : List ℕ) (words : List (List ℕ)) (variables : Variables) → Keeps (variable_does limits which command words variables) (variable_does wider which command words variables)
-  variables_keep variable.Append = append_keeps
-  variables_keep variable.Global = global_keeps
-  variables_keep variable.Incr = incr_keeps
-  variables_keep variable.Info = info_keeps
-  variables_keep variable.Lappend = lappend_keeps
-  variables_keep variable.Set = set_keeps
-  variables_keep variable.Unset = λ command words variables. itself (unset_does command words variables)
+  abbrev VariableKeeps : VariableCommand → Type 0
+  VariableKeeps does = (command : List ℕ) (words : List (List ℕ)) (variables : Variables) → Keeps (does limits command words variables) (does wider command words variables)
+
+  variables_keep : (name : List ℕ) → IfSome (variable_named name) VariableKeeps
+  variables_keep name =
+      named_or VariableKeeps (same_text name (codes "append")) _ _ append_keeps
+      (named_or VariableKeeps (same_text name (codes "global")) _ _ global_keeps
+      (named_or VariableKeeps (same_text name (codes "incr")) _ _ incr_keeps
+      (named_or VariableKeeps (same_text name (codes "info")) _ _ info_keeps
+      (named_or VariableKeeps (same_text name (codes "lappend")) _ _ lappend_keeps
+      (named_or VariableKeeps (same_text name (codes "set")) _ _ set_keeps
+      (named_or VariableKeeps (same_text name (codes "unset")) _ _ (λ command words variables. itself (unset_does command words variables)) tt))))))
 
   says_keeps : (number : ℕ) (text : List ℕ) → Keeps (says limits number text) (says wider number text)
   says_keeps number text = after_keeps (within_keeps text) (λ text. itself (Ok (number, text)))
 
-  codes_keep : (which : CodeCommand) (command : List ℕ) (words : List (List ℕ)) → Keeps (code_does limits which command words) (code_does wider which command words)
-  codes_keep code.Break command words = itself (bare_code 3 command words)
-  codes_keep code.Continue command words = itself (bare_code 4 command words)
-  codes_keep code.Error command [] = itself (wrong_words command)
-  codes_keep code.Error command (text ∷ []) = says_keeps 1 text
-  codes_keep code.Error command (text ∷ (more ∷ words)) = itself (wrong_words command)
-  codes_keep code.Return command [] = itself (Ok (2, []))
-  codes_keep code.Return command (value ∷ []) = says_keeps 2 value
-  codes_keep code.Return command (value ∷ (more ∷ words)) = itself (wrong_words command)
+  raises_keeps : (command : List ℕ) (words : List (List ℕ)) → Keeps (raises limits command words) (raises wider command words)
+  raises_keeps command [] = itself (wrong_words command)
+  raises_keeps command (text ∷ []) = says_keeps 1 text
+  raises_keeps command (text ∷ (more ∷ words)) = itself (wrong_words command)
 
-  -- a command's answer that leaves the variables as they are
-  answer_keeps : (variables : Variables) (value : Result (List ℕ) Cause) → Keeps (after (answers limits variables value) with_code_0) (after (answers wider variables value) with_code_0)
-  answer_keeps variables value = after_keeps (answers_keep variables value) (λ x. itself (with_code_0 x))
+  returns_keeps : (command : List ℕ) (words : List (List ℕ)) → Keeps (returns limits command words) (returns wider command words)
+  returns_keeps command [] = itself (Ok (2, []))
+  returns_keeps command (value ∷ []) = says_keeps 2 value
+  returns_keeps command (value ∷ (more ∷ words)) = itself (wrong_words command)
 
-  command_keeps : (which : Command) (name : List ℕ) (words : List (List ℕ)) (variables : Variables) → Keeps (command_does limits which name words variables) (command_does wider which name words variables)
-  command_keeps (OfCode c) name words variables = after_keeps (codes_keep c name words) (λ x. itself (Ok (x, variables)))
-  command_keeps (OfLists c) name words variables = answer_keeps variables (list_does c name words)
-  command_keeps OfStrings name words variables = answer_keeps variables (string_does name words)
-  command_keeps (OfVariables c) name words variables = after_keeps (variables_keep c name words variables) (λ x. itself (with_code_0 x))
+  abbrev CodeKeeps : CodeCommand → Type 0
+  CodeKeeps does = (command : List ℕ) (words : List (List ℕ)) → Keeps (does limits command words) (does wider command words)
+
+  codes_keep : (name : List ℕ) → IfSome (code_named name) CodeKeeps
+  codes_keep name =
+      named_or CodeKeeps (same_text name (codes "break")) _ _ (λ command words. itself (bare_code 3 command words))
+      (named_or CodeKeeps (same_text name (codes "continue")) _ _ (λ command words. itself (bare_code 4 command words))
+      (named_or CodeKeeps (same_text name (codes "error")) _ _ raises_keeps
+      (named_or CodeKeeps (same_text name (codes "return")) _ _ returns_keeps tt)))
+
+  -- ---- all of them
+
+  abbrev CommandKeeps : Command → Type 0
+  CommandKeeps does = (name : List ℕ) (words : List (List ℕ)) (variables : Variables) → Keeps (does limits name words variables) (does wider name words variables)
+
+  of_lists_keeps : (does : ListCommand) → CommandKeeps (of_lists does)
+  of_lists_keeps does name words variables = after_keeps (answers_keep variables (does name words)) (λ x. itself (with_code_0 x))
+
+  of_variables_keeps : (does : VariableCommand) → VariableKeeps does → CommandKeeps (of_variables does)
+  of_variables_keeps does keeps name words variables = after_keeps (keeps name words variables) (λ x. itself (with_code_0 x))
+
+  of_code_keeps : (does : CodeCommand) → CodeKeeps does → CommandKeeps (of_code does)
+  of_code_keeps does keeps name words variables = after_keeps (keeps name words) (λ x. itself (Ok (x, variables)))
+
+  commands_keep : (name : List ℕ) → IfSome (command_named name) CommandKeeps
+  commands_keep name =
+      by_kind CommandKeeps name of_lists_keeps (IfSome_then (variable_named name) (variables_keep name) of_variables_keeps)
+      (IfSome_then (code_named name) (codes_keep name) of_code_keeps)
 
   -- ---- answers
 
@@ -193,14 +210,14 @@ module _ (limits wider : Limits) (w : Wider limits wider) where
       by_size false b' g = tt
   answered_kept variables (Err OverLimit) r' h = tt
 
-  named_kept : (which : Option Command) (name : List ℕ) (words : List (List ℕ)) (variables : Variables)
-      → IsAnswerKept (option_map (λ c. answered limits variables (command_does limits c name words variables)) which) (option_map (λ c. answered wider variables (command_does wider c name words variables)) which)
-  named_kept None name words variables = refl
-  named_kept (Some c) name words variables = answered_kept variables _ _ (command_keeps c name words variables)
+  named_kept : (o : Option Command) → IfSome o CommandKeeps → (name : List ℕ) (words : List (List ℕ)) (variables : Variables)
+      → IsAnswerKept (option_map (λ does. answered limits variables (does limits name words variables)) o) (option_map (λ does. answered wider variables (does wider name words variables)) o)
+  named_kept None keeps name words variables = refl
+  named_kept (Some does) keeps name words variables = answered_kept variables _ _ (keeps name words variables)
 
   pub plain_kept : (words : List (List ℕ)) (variables : Variables) → IsAnswerKept (plain limits words variables) (plain wider words variables)
   plain_kept [] variables = refl
-  plain_kept (name ∷ words) variables = named_kept (command_named name) name words variables
+  plain_kept (name ∷ words) variables = named_kept (command_named name) (commands_keep name) name words variables
 
 -- an answer within the limits is the answer within wider ones
 pub answers_stay : (limits wider : Limits) → Wider limits wider → AnswersStay limits wider

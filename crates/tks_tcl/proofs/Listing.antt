@@ -13,10 +13,9 @@ use Rattle.tks_list.proofs.Joined.{joined_splits}
 use Rattle.tks_list.proofs.Told.{splits_one}
 use Rattle.tks_tcl.specs.Cause.{Cause, after}
 use Rattle.tks_tcl.specs.Words.{list_read, list_in}
-use Rattle.tks_tcl.specs.Index.{place, before, range}
+use Rattle.tks_tcl.specs.Index.{Index, place, before, range}
 use Rattle.tks_tcl.specs.Lists.{separated, joined_by, is_among, fields, with_first, split_at}
 use Rattle.tks_tcl.specs.Laws.{JoinsBack, member_of_range, IsFirst, FindsFirst, MissesNone}
-use Rattle.tks_tcl.specs.declared.index.Index.{Index}
 
 -- ---- fields
 

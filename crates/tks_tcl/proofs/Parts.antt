@@ -8,8 +8,7 @@ use Rattle.std.proofs.lemmas.List.Folds.{list_all-append}
 use Rattle.tks_text.specs.Text.{IsText}
 use Rattle.tks_text.specs.Integer.{is_space}
 use Rattle.tks_text.proofs.Texts.{text_drop, text_take}
-use Rattle.tks_tcl.specs.Index.{place, before, range}
-use Rattle.tks_tcl.specs.declared.index.Index.{Index}
+use Rattle.tks_tcl.specs.Index.{Index, place, before, range}
 use Rattle.tks_tcl.specs.Lists.{without_end, is_among, with_first, fields}
 
 -- ---- ranges

@@ -1,9 +1,8 @@
 -- The commands that end with a code of their own (break(n), continue(n), return(n), error(n)).
-use Rattle.std.specs.Prelude.{ℕ, List, [], ◌∷◌, Result, Ok}
+use Rattle.std.specs.Prelude.{ℕ, if◌then◌else◌, List, [], ◌∷◌, codes, Option, Some, None, Result, Ok}
+use Rattle.tks_text.specs.Text.{same_text}
 use Rattle.tks_text.specs.declared.limits.Limits.{Limits}
 use Rattle.tks_tcl.specs.Cause.{Cause, after, wrong_words, within}
-use Rattle.tks_tcl.specs.declared.codes.CodeCommand.{CodeCommand}
-use Rattle.tks_tcl.specs.declared.codes.CodeCommand.TheVariants.{Break, Continue, Error, Return}
 
 -- a code, without words
 abbrev pub bare_code : ℕ → List ℕ → List (List ℕ) → Result (ℕ × List ℕ) Cause
@@ -26,9 +25,15 @@ module _ (limits : Limits) where
   raises command (text ∷ []) = says 1 text
   raises command words = wrong_words command
 
-  -- what each command ends with
-  abbrev pub code_does : CodeCommand → List ℕ → List (List ℕ) → Result (ℕ × List ℕ) Cause
-  code_does Break = bare_code 3
-  code_does Continue = bare_code 4
-  code_does Error = raises
-  code_does Return = returns
+-- a command with a code of its own: what it ends with, given the limits, its first word and the others
+abbrev pub CodeCommand : Type 0
+CodeCommand = Limits → List ℕ → List (List ℕ) → Result (ℕ × List ℕ) Cause
+
+-- the one of this name
+abbrev pub code_named : List ℕ → Option CodeCommand
+code_named name =
+    if same_text name (codes "break") then Some (λ limits. bare_code 3)
+    else (if same_text name (codes "continue") then Some (λ limits. bare_code 4)
+    else (if same_text name (codes "error") then Some raises
+    else (if same_text name (codes "return") then Some returns
+    else None)))

@@ -6,8 +6,11 @@ use Rattle.tks_text.specs.Integer.{is_space, integer_of}
 use Rattle.tks_text.specs.declared.fault.ErrorNumber.TheVariants.{BadIndex, OutOfRange}
 use Rattle.tks_text.specs.declared.integer.Range.{Range}
 use Rattle.tks_tcl.specs.Cause.{Cause, Fault, after, about, bare}
-use Rattle.tks_tcl.specs.declared.index.Index.{Index}
-use Rattle.tks_tcl.specs.declared.index.Index.TheVariants.{Start, End}
+
+-- an index counts on from the first member, or back from the last; either is 0
+pub data Index : Type 0 where
+  FromStart : (n : ℤ) → Index
+  FromEnd : (n : ℤ) → Index
 
 -- the error of a text that is no index
 abbrev pub bad_index : {X : Type 0} → List ℕ → Result X Cause
@@ -31,14 +34,14 @@ number_behind_end text (c ∷ numeral) = if is_space c then bad_index text else 
 -- the index that a text spells
 abbrev pub index_in : List ℕ → Result Index Cause
 index_in text =
-    if same_text text (codes "end") then Ok (End (pos 0))
-    else (if same_text (take 4 text) (codes "end-") then after (number_behind_end text (drop 4 text)) (λ z. Ok (End z))
-    else after (number_in text text) (λ z. Ok (Start z)))
+    if same_text text (codes "end") then Ok (FromEnd (pos 0))
+    else (if same_text (take 4 text) (codes "end-") then after (number_behind_end text (drop 4 text)) (λ z. Ok (FromEnd z))
+    else after (number_in text text) (λ z. Ok (FromStart z)))
 
 -- the place that an index names, counted from 0, among so many members; it need not be there
 abbrev pub place : Index → ℕ → ℤ
-place (Start n) len = n
-place (End n) len = (pos len -ℤ pos 1) -ℤ n
+place (FromStart n) len = n
+place (FromEnd n) len = (pos len -ℤ pos 1) -ℤ n
 
 -- how many members stand before a place
 abbrev pub before : ℤ → ℕ

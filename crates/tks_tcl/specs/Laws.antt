@@ -7,10 +7,9 @@ use Rattle.tks_text.specs.declared.limits.Limits.{Limits}
 use Rattle.tks_vars.specs.Laws.{FramesStay}
 use Rattle.tks_vars.specs.Variables.{Variables}
 use Rattle.tks_tcl.specs.Cause.{after}
-use Rattle.tks_tcl.specs.Index.{place, before}
+use Rattle.tks_tcl.specs.Index.{Index, place, before}
 use Rattle.tks_tcl.specs.Lists.{split_does, join_does}
 use Rattle.tks_tcl.specs.Plain.{Answers, plain}
-use Rattle.tks_tcl.specs.declared.index.Index.{Index}
 
 -- words that come to an answer within the first limits come to the same within the second
 abbrev pub AnswersStay : Limits → Limits → Type 0

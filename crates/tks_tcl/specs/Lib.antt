@@ -6,8 +6,9 @@ pub mod Variables
 pub mod Lists
 pub mod Strings
 pub mod Codes
-pub mod Names
 pub mod Plain
+pub mod Names
+pub mod View
 pub mod Laws
 pub mod Meets
 pub mod Growing

@@ -10,8 +10,6 @@ use Rattle.tks_list.specs.Quoting.{joined}
 use Rattle.tks_tcl.specs.Cause.{Cause, Fault, after, about, wrong_words}
 use Rattle.tks_tcl.specs.Words.{list_in}
 use Rattle.tks_tcl.specs.Index.{index_in, range}
-use Rattle.tks_tcl.specs.declared.lists.ListCommand.{ListCommand}
-use Rattle.tks_tcl.specs.declared.lists.ListCommand.TheVariants as command
 
 -- ---- parts of lists
 
@@ -74,6 +72,14 @@ split_at separators t = fields separators t
 
 -- ---- the commands
 
+-- concat ..
+abbrev pub concat_does : List ℕ → List (List ℕ) → Result (List ℕ) Cause
+concat_does command words = Ok (concatenated words)
+
+-- list ..
+abbrev pub list_does : List ℕ → List (List ℕ) → Result (List ℕ) Cause
+list_does command words = Ok (joined words)
+
 -- llength l
 abbrev pub llength_does : List ℕ → List (List ℕ) → Result (List ℕ) Cause
 llength_does command (list ∷ []) = after (list_in list) (λ l. Ok (decimal (length l)))
@@ -112,13 +118,19 @@ split_does command (text ∷ []) = Ok (joined (split_at (32 ∷ 9 ∷ 10 ∷ [])
 split_does command (text ∷ separators ∷ []) = Ok (joined (split_at separators text))
 split_does command words = wrong_words command
 
--- list .., concat .. and the others
-abbrev pub list_does : ListCommand → List ℕ → List (List ℕ) → Result (List ℕ) Cause
-list_does command.Concat first words = Ok (concatenated words)
-list_does command.Join first words = join_does first words
-list_does command.Lindex first words = lindex_does first words
-list_does command.List first words = Ok (joined words)
-list_does command.Llength first words = llength_does first words
-list_does command.Lrange first words = lrange_does first words
-list_does command.Lsearch first words = lsearch_does first words
-list_does command.Split first words = split_does first words
+-- a command on lists: what it answers, given its first word and the others
+abbrev pub ListCommand : Type 0
+ListCommand = List ℕ → List (List ℕ) → Result (List ℕ) Cause
+
+-- the one of this name
+abbrev pub list_named : List ℕ → Option ListCommand
+list_named name =
+    if same_text name (codes "concat") then Some concat_does
+    else (if same_text name (codes "join") then Some join_does
+    else (if same_text name (codes "lindex") then Some lindex_does
+    else (if same_text name (codes "list") then Some list_does
+    else (if same_text name (codes "llength") then Some llength_does
+    else (if same_text name (codes "lrange") then Some lrange_does
+    else (if same_text name (codes "lsearch") then Some lsearch_does
+    else (if same_text name (codes "split") then Some split_does
+    else None)))))))

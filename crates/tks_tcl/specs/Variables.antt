@@ -11,8 +11,6 @@ use Rattle.tks_list.specs.Quoting.{joined}
 use Rattle.tks_vars.specs.Variables.{Variables, value_of, exists, with_value, with_global_value, without, with_global_link, grown_by_value, grown_by_global_value, grown_by_link}
 use Rattle.tks_tcl.specs.Cause.{Cause, Fault, OverLimit, after, value_or_fault, bare, wrong_words, fits, within}
 use Rattle.tks_tcl.specs.Words.{integer_in, list_in, truth_text}
-use Rattle.tks_tcl.specs.declared.variables.VariableCommand.{VariableCommand}
-use Rattle.tks_tcl.specs.declared.variables.VariableCommand.TheVariants as command
 
 -- ---- values
 
@@ -143,12 +141,18 @@ module _ (limits : Limits) where
       else wrong_words command
   info_does command words variables = wrong_words command
 
-  -- what each command does
-  abbrev pub variable_does : VariableCommand → List ℕ → List (List ℕ) → Variables → Result Changed Cause
-  variable_does command.Append = append_does
-  variable_does command.Global = global_does
-  variable_does command.Incr = incr_does
-  variable_does command.Info = info_does
-  variable_does command.Lappend = lappend_does
-  variable_does command.Set = set_does
-  variable_does command.Unset = unset_does
+-- a command on variables: what it answers and leaves, given the limits, its first word, the others and the variables
+abbrev pub VariableCommand : Type 0
+VariableCommand = Limits → List ℕ → List (List ℕ) → Variables → Result Changed Cause
+
+-- the one of this name
+abbrev pub variable_named : List ℕ → Option VariableCommand
+variable_named name =
+    if same_text name (codes "append") then Some append_does
+    else (if same_text name (codes "global") then Some global_does
+    else (if same_text name (codes "incr") then Some incr_does
+    else (if same_text name (codes "info") then Some info_does
+    else (if same_text name (codes "lappend") then Some lappend_does
+    else (if same_text name (codes "set") then Some set_does
+    else (if same_text name (codes "unset") then Some (λ limits. unset_does)
+    else None))))))

@@ -1,5 +1,6 @@
 ghost use Rattle.std.specs.Prelude.{◌≡◌, OnErr};
-ghost use Rattle.tks_tcl.specs.Plain.{command_does, errs, plain};
+ghost use Rattle.tks_tcl.specs.Plain.{errs, plain};
+ghost use Rattle.tks_tcl.specs.View.{command_of};
 ghost use Rattle.tks_tcl.specs.Meets.{GivesSo, ErrsSo, AnswersSo};
 
 use crate::command::Command;
@@ -19,7 +20,7 @@ fn run_command(
     variables: &mut Vars,
     limits: &Limits,
 ) -> Result<(u8, Txt), Interrupt>
-    ensures value { GivesSo (λ x. (x, variables.new)) result (command_does limits.now command name.now words.now variables.old) }
+    ensures value { GivesSo (λ x. (x, variables.new)) result (command_of command limits.now name.now words.now variables.old) }
     ensures err { OnErr result (variables.new ≡ variables.old) }
 {
     match command {

@@ -1,4 +1,5 @@
-ghost use Rattle.tks_tcl.specs.Codes.{bare_code, says, returns, raises, code_does};
+ghost use Rattle.tks_tcl.specs.Codes.{bare_code, says, returns, raises};
+ghost use Rattle.tks_tcl.specs.View.{code_command_of};
 ghost use Rattle.tks_tcl.specs.Meets.{GivesSo};
 
 use crate::interrupt::{Interrupt, within, wrong_words};
@@ -23,7 +24,7 @@ impl CodeCommand {
         words: &[Txt],
         limits: &Limits,
     ) -> Result<(u8, Txt), Interrupt>
-        ensures { GivesSo (λ x. x) result (code_does limits.now self command.now words.now) }
+        ensures { GivesSo (λ x. x) result (code_command_of self limits.now command.now words.now) }
     {
         match self {
             CodeCommand::Break => bare_code(alloc, 3, command, words),

@@ -1,5 +1,10 @@
-ghost use Rattle.std.specs.Prelude.{◌≡◌};
-ghost use Rattle.tks_tcl.specs.Names.{code_named, list_named, variable_named, command_named, runs_scripts, makes_window, acts_on_windows, is_built_in};
+ghost use Rattle.std.specs.Prelude.{◌≡◌, option_map};
+ghost use Rattle.tks_tcl.specs.Codes.{code_named};
+ghost use Rattle.tks_tcl.specs.Lists.{list_named};
+ghost use Rattle.tks_tcl.specs.Variables.{variable_named};
+ghost use Rattle.tks_tcl.specs.Plain.{command_named};
+ghost use Rattle.tks_tcl.specs.Names.{runs_scripts, makes_window, acts_on_windows, is_built_in};
+ghost use Rattle.tks_tcl.specs.View.{code_command_of, list_command_of, variable_command_of, command_of};
 
 use crate::codes::CodeCommand;
 use crate::lists::ListCommand;
@@ -17,7 +22,7 @@ pub enum Command {
 
 // The command with a code of its own, of this name.
 fn code_named(name: &[u8]) -> Option<CodeCommand>
-    ensures { result ≡ code_named name.now }
+    ensures { option_map code_command_of result ≡ code_named name.now }
 {
     if name == b"break".as_slice() {
         Some(CodeCommand::Break)
@@ -34,7 +39,7 @@ fn code_named(name: &[u8]) -> Option<CodeCommand>
 
 // The command on lists of this name.
 fn list_named(name: &[u8]) -> Option<ListCommand>
-    ensures { result ≡ list_named name.now }
+    ensures { option_map list_command_of result ≡ list_named name.now }
 {
     if name == b"concat".as_slice() {
         Some(ListCommand::Concat)
@@ -59,7 +64,7 @@ fn list_named(name: &[u8]) -> Option<ListCommand>
 
 // The command on variables of this name.
 fn variable_named(name: &[u8]) -> Option<VariableCommand>
-    ensures { result ≡ variable_named name.now }
+    ensures { option_map variable_command_of result ≡ variable_named name.now }
 {
     if name == b"append".as_slice() {
         Some(VariableCommand::Append)
@@ -83,7 +88,7 @@ fn variable_named(name: &[u8]) -> Option<VariableCommand>
 impl Command {
     /// The command of this name that runs no script.
     pub fn named(name: &Txt) -> Option<Command>
-        ensures { result ≡ command_named name.now }
+        ensures { option_map command_of result ≡ command_named name.now }
     {
         let name = name.as_bytes();
         if name == b"string".as_slice() {

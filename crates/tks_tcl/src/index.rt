@@ -3,6 +3,7 @@ ghost use Rattle.tks_text.specs.Text.{IsText};
 ghost use Rattle.tks_tcl.specs.Cause.{about};
 ghost use Rattle.tks_tcl.specs.Index.{number_in, number_behind_end, index_in, place, before, range};
 ghost use Rattle.tks_tcl.specs.Meets.{TellsSo, GivesSo};
+ghost use Rattle.tks_tcl.specs.View.{index_of};
 
 use crate::interrupt::{Interrupt, error, error_about};
 use std::alloc::Global;
@@ -58,7 +59,7 @@ fn number_behind_end(alloc: Global, text: &Txt, behind: &[u8]) -> Result<i64, In
 /// The index that a text spells: an integer, `end`, or `end-` and an integer.
 #[tactic(auto, using(tks_text::proofs::Texts::text_drop))]
 pub fn index_in(alloc: Global, text: &Txt) -> Result<Index, Interrupt>
-    ensures { GivesSo (λ i. i) result (index_in text.now) }
+    ensures { GivesSo index_of result (index_in text.now) }
 {
     let bytes = text.as_bytes();
     if bytes == b"end".as_slice() {
@@ -75,7 +76,7 @@ pub fn index_in(alloc: Global, text: &Txt) -> Result<Index, Interrupt>
 impl Index {
     // The place, counted from 0, among so many members.
     fn place(self, len: usize) -> i128
-        ensures { result ≡ place self len }
+        ensures { result ≡ place (index_of self) len }
     {
         match self {
             Index::Start(number) => i128::from(number),
@@ -99,7 +100,7 @@ fn before(place: i128, len: usize) -> usize
 
 /// The members from one index to another, of those that are there.
 pub fn range<T>(items: &[T], first: Index, last: Index) -> &[T]
-    ensures { result.now ≡ range first last items.now }
+    ensures { result.now ≡ range (index_of first) (index_of last) items.now }
 {
     let len = items.len();
     let behind = before(last.place(len) + 1, len);

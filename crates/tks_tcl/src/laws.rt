@@ -1,8 +1,7 @@
 ghost use Rattle.std.specs.Prelude.{◌≡◌, ℕ, List, [], ◌∷◌};
 ghost use Rattle.std.specs.List.{slice_get};
-ghost use Rattle.tks_tcl.specs.Index.{range};
+ghost use Rattle.tks_tcl.specs.Index.{Index, range};
 ghost use Rattle.tks_tcl.specs.Laws.{AnswersStay, OthersStay, ErrorsChangeNothing, LeavesFrames, JoinsBack, member_of_range, FindsFirst, MissesNone};
-ghost use Rattle.tks_tcl.specs.declared.index.Index.{Index};
 ghost use Rattle.tks_text.specs.Limits.{Wider};
 ghost use Rattle.tks_text.specs.declared.limits.Limits.{Limits};
 

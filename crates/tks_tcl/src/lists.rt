@@ -5,7 +5,8 @@ ghost use Rattle.tks_text.specs.Integer.{is_space};
 ghost use Rattle.tks_tcl.specs.Cause.{after, fits, within};
 ghost use Rattle.tks_tcl.specs.Meets.{GivesSo};
 ghost use Rattle.tks_list.specs.Quoting.{joined};
-ghost use Rattle.tks_tcl.specs.Lists.{first_or_empty, place_text, separated, joined_by, without_end, trimmed, concatenated, is_among, fields, split_at, llength_does, lindex_does, lrange_does, searched, lsearch_does, join_does, split_does, list_does};
+ghost use Rattle.tks_tcl.specs.Lists.{first_or_empty, place_text, separated, joined_by, without_end, trimmed, concatenated, is_among, fields, split_at, llength_does, lindex_does, lrange_does, searched, lsearch_does, join_does, split_does};
+ghost use Rattle.tks_tcl.specs.View.{list_command_of};
 
 use crate::index::{index_in, range};
 use crate::interrupt::{Interrupt, error_about, within, wrong_words};
@@ -37,7 +38,7 @@ impl ListCommand {
         words: &[Txt],
         limits: &Limits,
     ) -> Result<Txt, Interrupt>
-        ensures { GivesSo (λ t. t) result (after (list_does self command.now words.now) (within limits.now)) }
+        ensures { GivesSo (λ t. t) result (after (list_command_of self command.now words.now) (within limits.now)) }
     {
         match self {
             ListCommand::Concat => concatenated_within(alloc, words, limits),

@@ -1,6 +1,7 @@
 ghost use Rattle.std.specs.Prelude.{◌≡◌, IfOk};
 ghost use Rattle.tks_tcl.specs.Index.{range};
 ghost use Rattle.tks_tcl.specs.Meets.{GivesSo};
+ghost use Rattle.tks_tcl.specs.View.{index_of};
 ghost use Rattle.tks_tcl.specs.Strings.{length_does, index_does, range_does, equal_does, subcommand_does, string_does};
 
 use crate::index::{Index, index_in, range};
@@ -60,7 +61,7 @@ fn run_length(alloc: Global, command: &Txt, words: &[Txt]) -> Result<Txt, Interr
 // The part of a text from one index to another.
 #[tactic(auto, using(crate::proofs::Parts::range_is_text))]
 fn part(alloc: Global, text: &Txt, first: Index, last: Index) -> Result<Txt, AllocError>
-    ensures { IfOk result (λ t. t ≡ range first last text.now) }
+    ensures { IfOk result (λ t. t ≡ range (index_of first) (index_of last) text.now) }
 {
     Txt::from_text(alloc, range(text.as_bytes(), first, last))
 }

@@ -1,6 +1,7 @@
 ghost use Rattle.std.specs.Prelude.{◌≡◌, ◌+ℤ◌, OnErr};
 ghost use Rattle.tks_tcl.specs.Meets.{GivesSo};
-ghost use Rattle.tks_tcl.specs.Variables.{value_in, is_missing, value_or, decimal_within, increased, without_all, may_grow, stores, stores_global, link_within, with_global_links, set_does, unset_does, incr_does, append_does, lappend_does, global_does, info_does, variable_does};
+ghost use Rattle.tks_tcl.specs.Variables.{value_in, is_missing, value_or, decimal_within, increased, without_all, may_grow, stores, stores_global, link_within, with_global_links, set_does, unset_does, incr_does, append_does, lappend_does, global_does, info_does};
+ghost use Rattle.tks_tcl.specs.View.{variable_command_of};
 
 use crate::growing::{add_elements, add_texts};
 use crate::interrupt::{Interrupt, error, fits, within, wrong_words};
@@ -32,7 +33,7 @@ impl VariableCommand {
         variables: &mut Vars,
         limits: &Limits,
     ) -> Result<Txt, Interrupt>
-        ensures value { GivesSo (λ t. (t, variables.new)) result (variable_does limits.now self command.now words.now variables.old) }
+        ensures value { GivesSo (λ t. (t, variables.new)) result (variable_command_of self limits.now command.now words.now variables.old) }
         ensures err { OnErr result (variables.new ≡ variables.old) }
     {
         match self {
