@@ -67,10 +67,10 @@ fn show_parts(shown: &mut String, parts: &[Part]) -> Option<()> {
 
 // Adds links, each behind what stands before it and with the `)` of both.
 #[cycle(show)]
-fn show_links(shown: &mut String, links: Vec<Link>, depth: u32) -> Option<()> {
+fn show_links(shown: &mut String, links: &[Link], depth: u32) -> Option<()> {
     for link in links {
         shown.push_str(sign(link.join)).ok()?;
-        show(shown, link.right, depth)?;
+        show(shown, &link.right, depth)?;
         shown.push(')').ok()?;
     }
     Some(())
@@ -78,18 +78,18 @@ fn show_links(shown: &mut String, links: Vec<Link>, depth: u32) -> Option<()> {
 
 // Adds an expression with all its parentheses, down to this depth.
 #[cycle(show)]
-fn show(shown: &mut String, expr: Expr, depth: u32) -> Option<()> {
+fn show(shown: &mut String, expr: &Expr, depth: u32) -> Option<()> {
     if depth == 0 {
         return Some(());
     }
-    match expr.into_node() {
-        Node::Literal(text) => push_text(shown, &text),
+    match expr.node() {
+        Node::Literal(text) => push_text(shown, text),
         Node::Made(parts) => show_parts(shown, parts.as_slice()),
         Node::Signs(outer, last, operand) => {
             for unary in outer {
-                shown.push(unary_sign(unary)).ok()?;
+                shown.push(unary_sign(*unary)).ok()?;
             }
-            shown.push(unary_sign(last)).ok()?;
+            shown.push(unary_sign(*last)).ok()?;
             show(shown, operand, depth - 1)
         }
         Node::Chain(first, link, links) => {
@@ -98,9 +98,9 @@ fn show(shown: &mut String, expr: Expr, depth: u32) -> Option<()> {
             }
             show(shown, first, depth - 1)?;
             shown.push_str(sign(link.join)).ok()?;
-            show(shown, link.right, depth - 1)?;
+            show(shown, &link.right, depth - 1)?;
             shown.push(')').ok()?;
-            show_links(shown, links, depth - 1)
+            show_links(shown, links.as_slice(), depth - 1)
         }
         Node::Conditional(condition, first, second) => {
             shown.push('(').ok()?;
@@ -118,7 +118,7 @@ fn show(shown: &mut String, expr: Expr, depth: u32) -> Option<()> {
 pub fn shown(alloc: Global, row: &str) -> Option<String> {
     let mut shown = String::new(alloc);
     match parse_expr(alloc, &Txt::from_bytes(alloc, row.as_bytes()).ok()?) {
-        Ok(expr) => show(&mut shown, expr, 8)?,
+        Ok(expr) => show(&mut shown, &expr, 8)?,
         Err(Failure::Script(fault)) => push_fault(alloc, &mut shown, &fault)?,
         Err(Failure::NoMemory) => return None,
     }

@@ -46,7 +46,7 @@ fn show_parts(
 #[cycle(show)]
 fn show_command(alloc: Global, shown: &mut String, command: &Command, depth: u32) -> Option<()> {
     let mut words = String::new(alloc);
-    for word in &command.words {
+    for word in command.words.as_ref() {
         words.push('|').ok()?;
         if word.expand {
             words.push('*').ok()?;

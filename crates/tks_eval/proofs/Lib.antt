@@ -8,3 +8,5 @@ pub mod Wider
 pub mod Framing
 pub mod Grammar
 pub mod Parameters
+pub mod Filling
+pub mod Operands

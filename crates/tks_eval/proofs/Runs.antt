@@ -27,13 +27,13 @@ two_of (a ∷ b ∷ c ∷ words) x y l m f g = absurd (omega (arith, m))
 
 module _ (limits : Limits) where
   -- what joins is not empty
-  appended_some : (made : List ℕ) (c : ℕ) (t : List ℕ) → appended limits made (c ∷ t) ≡ cond (fits limits (made ++ c ∷ t)) (Ok (made ++ c ∷ t)) (Err OverLimit)
+  pub appended_some : (made : List ℕ) (c : ℕ) (t : List ℕ) → appended limits made (c ∷ t) ≡ cond (fits limits (made ++ c ∷ t)) (Ok (made ++ c ∷ t)) (Err OverLimit)
   appended_some made c t =
       let some : (suc (length t) == 0) ≡ false = search rules in
       ap (λ b. cond (b || fits limits (made ++ c ∷ t)) (Ok (made ++ c ∷ t)) (Err OverLimit)) some
 
   -- a character, and then others, join as all of them do
-  appended_on : (made : List ℕ) (c : ℕ) (t : List ℕ) → fits limits (made ++ c ∷ []) ≡ true → appended limits (made ++ c ∷ []) t ≡ appended limits made (c ∷ t)
+  pub appended_on : (made : List ℕ) (c : ℕ) (t : List ℕ) → fits limits (made ++ c ∷ []) ≡ true → appended limits (made ++ c ∷ []) t ≡ appended limits made (c ∷ t)
   appended_on made c [] h =
       let one : (made ++ c ∷ []) ++ [] ≡ made ++ c ∷ [] = append-nil (made ++ c ∷ []) in
       ap Ok one ∙ ap (λ b. cond b (Ok (made ++ c ∷ [])) (Err OverLimit)) (sym h) ∙ sym (appended_some made c [])
@@ -41,7 +41,7 @@ module _ (limits : Limits) where
       appended_some (made ++ c ∷ []) d t ∙ ap (λ x. cond (fits limits x) (Ok x) (Err OverLimit)) (append_assoc made (c ∷ []) (d ∷ t)) ∙ sym (appended_some made c (d ∷ t))
 
   -- where a character passes the limit, it and others do
-  appended_over : (made : List ℕ) (c : ℕ) (t : List ℕ) → fits limits (made ++ c ∷ []) ≡ false → appended limits made (c ∷ t) ≡ Err OverLimit
+  pub appended_over : (made : List ℕ) (c : ℕ) (t : List ℕ) → fits limits (made ++ c ∷ []) ≡ false → appended limits made (c ∷ t) ≡ Err OverLimit
   appended_over made c t h =
       appended_some made c t ∙ elim (leb (length (made ++ c ∷ t)) limits.text) as (λ b. leb (length (made ++ c ∷ t)) limits.text ≡ b → cond b (Ok (made ++ c ∷ t)) (Err OverLimit) ≡ Err OverLimit) [
         | true ↦ λ e.

@@ -9,3 +9,4 @@ pub mod Laws
 pub mod Grammar
 pub mod Meets
 pub mod Machine
+pub mod Filling

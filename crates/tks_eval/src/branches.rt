@@ -13,7 +13,6 @@ use crate::rest::Rest;
 use std::alloc::{AllocError, Global};
 use std::marker::Model;
 use tks_expr::truth_of;
-use tks_parse::parse;
 use tks_text::{ErrorNumber, Limits, Txt};
 use tks_vars::Vars;
 
@@ -164,7 +163,7 @@ impl Machine {
                     code: 0,
                     text: Txt::new(alloc),
                 })),
-                Some(body) => Ok(Now::Open(parse(alloc, &body)?)),
+                Some(body) => Ok(Now::Open(self.table.script(alloc, &body)?)),
             },
             Some(test) => {
                 let Test { condition, body } = test;
@@ -195,7 +194,7 @@ impl Machine {
             return Ok(Now::At(end));
         }
         if truth_of(&end.text)? {
-            return Ok(Now::Open(parse(alloc, &body)?));
+            return Ok(Now::Open(self.table.script(alloc, &body)?));
         }
         self.next_branch(alloc, host, variables, rest, limits)
     }

@@ -14,7 +14,7 @@ use crate::machine::Machine;
 use crate::procedures::{enter, run_proc};
 use crate::rest::Rest;
 use std::alloc::Global;
-use tks_parse::{Command, parse};
+use tks_parse::{Command, Left};
 use tks_tcl::{Interrupt, concatenated_within, list_in, plain, store, wrong_words};
 use tks_text::{ErrorNumber, Limits, ScriptFault, Seq, Txt, decimal_of};
 use tks_vars::Vars;
@@ -46,7 +46,7 @@ impl Machine {
         alloc: Global,
         host: &mut H,
         variables: &mut Vars,
-        rest: Rest<Command>,
+        rest: Left<Command>,
         fault: Option<ScriptFault>,
         levels: u32,
         end: Ending,
@@ -61,7 +61,7 @@ impl Machine {
             return Ok(Now::At(end));
         }
         let mut rest = rest;
-        match rest.next() {
+        match rest.first() {
             None => {
                 self.left = levels;
                 match fault {
@@ -70,19 +70,14 @@ impl Machine {
                 }
             }
             Some(command) => {
+                let words = command.left()?;
+                rest.skip();
                 self.stack.push(Frame::Commands {
                     rest,
                     fault,
                     levels,
                 })?;
-                self.next_word(
-                    alloc,
-                    host,
-                    variables,
-                    Seq::new(alloc),
-                    Rest::of(command.words),
-                    limits,
-                )
+                self.next_word(alloc, host, variables, Seq::new(alloc), words, limits)
             }
         }
     }
@@ -163,7 +158,7 @@ impl Machine {
             [script, name] => (script, Some(name.try_clone()?)),
             _ => return Err(error_about(ErrorNumber::WrongWords, command)),
         };
-        let script = parse(alloc, script)?;
+        let script = self.table.script(alloc, script)?;
         self.stack.push(Frame::Catch { name })?;
         Ok(Now::Open(script))
     }
@@ -206,7 +201,7 @@ impl Machine {
         ensures goes { GoesSo H.meaning limits.now (resume H.meaning limits.now self.old.left self.old.stack (eval_does limits.now (evaluate H.meaning limits.now self.old.left) words.now (H.state host.now) variables.now self.old.fuel)) result self.new (H.state host.now) variables.now }
     {
         let text = concatenated_within(alloc, words, limits)?;
-        Ok(Now::Open(parse(alloc, &text)?))
+        Ok(Now::Open(self.table.script(alloc, &text)?))
     }
 
     // foreach name l b
@@ -251,7 +246,7 @@ impl Machine {
         };
         self.take_step()?;
         store(variables, &name, element, limits)?;
-        let script = parse(alloc, &body)?;
+        let script = self.table.script(alloc, &body)?;
         self.stack.push(Frame::Each {
             name,
             body,
@@ -321,7 +316,7 @@ impl Machine {
         ensures goes { GoesSo H.meaning limits.now (resume H.meaning limits.now self.old.left self.old.stack (procedure_does limits.now (evaluate H.meaning limits.now self.old.left) command.now words.now (map.get variables.old.procedures command.now) (H.state host.now) variables.old self.old.fuel)) result self.new (H.state host.now) variables.new }
     {
         let body = enter(alloc, variables, command, words, limits)?;
-        let script = parse(alloc, &body)?;
+        let script = self.table.script(alloc, &body)?;
         self.stack.push(Frame::Procedure)?;
         Ok(Now::Open(script))
     }

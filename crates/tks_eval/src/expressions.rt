@@ -5,6 +5,8 @@ ghost use Rattle.tks_eval.specs.Outcome.{End};
 ghost use Rattle.tks_eval.specs.Meets.{ReadsSo};
 ghost use Rattle.tks_eval.specs.Evaluation.{evaluate, value_does, expr_does};
 ghost use Rattle.tks_eval.specs.Values.{signs_applied, truth_shown, join_on, links_do};
+ghost use Rattle.tks_eval.specs.Filling.{operand_made};
+ghost use Rattle.tks_tcl.specs.Meets.{GivesSo};
 ghost use Rattle.tks_eval.specs.Machine.{resume, value_weight, links_weight, value_frame_weight, GoesSo, Falls};
 ghost use Rattle.tks_expr.specs.declared.sign.Join.TheVariants as joins;
 ghost use Rattle.tks_eval.specs.declared.frame.Frame.TheVariants as frames;
@@ -15,11 +17,12 @@ use crate::halt::{Halt, error_about};
 use crate::host::Host;
 use crate::machine::Machine;
 use crate::rest::Rest;
+use crate::words::fill_up;
 use std::alloc::Global;
 use tks_expr::{
-    Binary, Expr, Join, Link, Node, Unary, apply, apply_unary, parse_expr, result_of, truth_of,
+    Binary, Expr, Join, Link, Node, Unary, apply, apply_unary, result_of, share_links, truth_of,
 };
-use tks_tcl::joined_within;
+use tks_tcl::{Interrupt, joined_within};
 use tks_text::{ErrorNumber, Failure, Limits, Txt};
 use tks_vars::Vars;
 
@@ -63,6 +66,32 @@ fn truth_text(alloc: Global, text: &Txt) -> Result<Txt, Failure>
     }
 }
 
+// The text of an operand that is a literal, or is made at once.
+#[tactic(auto, using(crate::proofs::Operands::operand_under, crate::proofs::Operands::operand_chained))]
+fn operand(
+    alloc: Global,
+    expr: &Expr,
+    variables: &Vars,
+    limits: &Limits,
+) -> Result<Option<Txt>, Interrupt>
+    ensures { GivesSo (λ t. t) result (operand_made limits.now variables.now expr.now) }
+{
+    match expr.node() {
+        Node::Literal(text) => Ok(Some(text.try_clone()?)),
+        Node::Made(parts) => {
+            let mut parts = parts.left()?;
+            let mut made = Txt::new(alloc);
+            match fill_up(&mut made, &mut parts, variables, limits)? {
+                None => Ok(Some(made)),
+                Some(_) => Ok(None),
+            }
+        }
+        Node::Signs(_, _, _) => Ok(None),
+        Node::Chain(_, _, _) => Ok(None),
+        Node::Conditional(_, _, _) => Ok(None),
+    }
+}
+
 impl Machine {
     // expr word ..
     #[tactic(auto, using(crate::proofs::Halts::given_halts, crate::proofs::Halts::fault_halts, crate::proofs::Halts::error_halts))]
@@ -83,7 +112,7 @@ impl Machine {
         }
         let space = Txt::from_text(alloc, b" ")?;
         let text = joined_within(alloc, words, &space, limits)?;
-        let expr = parse_expr(alloc, &text)?;
+        let expr = self.table.expr(alloc, &text)?;
         self.stack.push(Frame::Value(ValueFrame::Whole))?;
         Ok(Now::Value(expr))
     }
@@ -94,7 +123,7 @@ impl Machine {
         ensures kept { self.new ≡ record self.old { fuel = self.new.fuel } }
     {
         self.take_step()?;
-        let expr = parse_expr(alloc, condition)?;
+        let expr = self.table.expr(alloc, condition)?;
         Ok(expr)
     }
 
@@ -111,25 +140,37 @@ impl Machine {
         ensures falls { Falls result (value_weight expr) self.old self.new }
         ensures goes { GoesSo H.meaning limits.now (resume H.meaning limits.now self.old.left self.old.stack (value_does limits.now (evaluate H.meaning limits.now self.old.left) expr (H.state host.now) variables.now self.old.fuel)) result self.new (H.state host.now) variables.now }
     {
-        match expr.into_node() {
-            Node::Literal(text) => Ok(Now::At(Ending { code: 0, text })),
+        match expr.node() {
+            Node::Literal(text) => Ok(Now::At(Ending {
+                code: 0,
+                text: text.try_clone()?,
+            })),
             Node::Made(parts) => Ok(Now::Fill {
                 made: Txt::new(alloc),
-                parts: Rest::of(parts.into_parts()),
+                parts: parts.left()?,
             }),
             Node::Signs(outer, last, operand) => {
-                let mut signs = Rest::reversed(outer);
-                signs.push(last)?;
+                let operand = operand.share()?;
+                let mut signs = Rest::reversed(Vec::from_slice(alloc, outer.as_slice())?);
+                signs.push(*last)?;
                 self.stack.push(Frame::Value(ValueFrame::Signs(signs)))?;
                 Ok(Now::Value(operand))
             }
             Node::Chain(first, link, links) => {
-                let mut links = Rest::of(links);
-                links.push(link)?;
-                self.stack.push(Frame::Value(ValueFrame::Links(links)))?;
+                let mut behind = Rest::of(share_links(alloc, links.as_slice())?);
+                let link = link.share()?;
+                if let Some(text) = operand(alloc, first, variables, limits)? {
+                    return self.join(alloc, host, variables, link, behind, text, limits);
+                }
+                behind.push(link)?;
+                let first = first.share()?;
+                self.stack.push(Frame::Value(ValueFrame::Links(behind)))?;
                 Ok(Now::Value(first))
             }
             Node::Conditional(condition, if_true, if_false) => {
+                let condition = condition.share()?;
+                let if_true = if_true.share()?;
+                let if_false = if_false.share()?;
                 self.stack
                     .push(Frame::Value(ValueFrame::Conditional(if_true, if_false)))?;
                 Ok(Now::Value(condition))
@@ -202,16 +243,60 @@ impl Machine {
         let Some(link) = links.next() else {
             return Ok(Now::At(Ending { code: 0, text }));
         };
+        self.join(alloc, host, variables, link, links, text, limits)
+    }
+
+    // Goes on with a link, whose left operand came to this text.
+    fn join<H: Host>(
+        &mut self,
+        alloc: Global,
+        host: &H,
+        variables: &Vars,
+        link: Link,
+        links: Rest<Link>,
+        text: Txt,
+        limits: &Limits,
+    ) -> Result<Now, Halt>
+        ensures falls { Falls result (value_weight link.right + 3 + links_weight links) self.old self.new }
+        ensures goes { GoesSo H.meaning limits.now (resume H.meaning limits.now self.old.left self.old.stack (links_do limits.now (evaluate H.meaning limits.now self.old.left) links (join_on limits.now (evaluate H.meaning limits.now self.old.left) link.join link.right text (H.state host.now) variables.now self.old.fuel))) result self.new (H.state host.now) variables.now }
+    {
         let Link { join, right } = link;
         match join {
-            Join::Of(operator) => {
-                self.stack
-                    .push(Frame::Value(ValueFrame::Right(operator, text, links)))?;
-                Ok(Now::Value(right))
-            }
+            Join::Of(operator) => self.after_left(
+                alloc, host, variables, operator, right, links, text, limits,
+            ),
             Join::And => self.after_left_of_and(alloc, host, variables, right, links, text, limits),
             Join::Or => self.after_left_of_or(alloc, host, variables, right, links, text, limits),
         }
+    }
+
+    // Goes on with an operator, whose left operand came to this text.
+    #[tactic(auto, using(crate::proofs::Halts::text_halts, crate::proofs::Operands::operand_halts))]
+    fn after_left<H: Host>(
+        &mut self,
+        alloc: Global,
+        host: &H,
+        variables: &Vars,
+        operator: Binary,
+        right: Expr,
+        links: Rest<Link>,
+        text: Txt,
+        limits: &Limits,
+    ) -> Result<Now, Halt>
+        ensures falls { Falls result (value_weight right + 3 + links_weight links) self.old self.new }
+        ensures goes { GoesSo H.meaning limits.now (resume H.meaning limits.now self.old.left self.old.stack (links_do limits.now (evaluate H.meaning limits.now self.old.left) links (join_on limits.now (evaluate H.meaning limits.now self.old.left) (joins.Of operator) right text (H.state host.now) variables.now self.old.fuel))) result self.new (H.state host.now) variables.now }
+    {
+        let Some(value) = operand(alloc, &right, variables, limits)? else {
+            self.stack
+                .push(Frame::Value(ValueFrame::Right(operator, text, links)))?;
+            return Ok(Now::Value(right));
+        };
+        let text = apply(alloc, operator, &text, &value)?;
+        if links.is_empty() {
+            return Ok(Now::At(Ending { code: 0, text }));
+        }
+        self.stack.push(Frame::Value(ValueFrame::Links(links)))?;
+        Ok(Now::At(Ending { code: 0, text }))
     }
 
     // Goes on with `&&`, whose left operand came to this text.

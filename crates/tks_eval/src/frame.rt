@@ -3,7 +3,7 @@ use crate::expressions::ValueFrame;
 use crate::loops::{Loop, Stage};
 use crate::rest::Rest;
 use tks_expr::Expr;
-use tks_parse::{Command, Part, Script, Word};
+use tks_parse::{Command, Left, Part, Script, Word};
 use tks_text::{ScriptFault, Seq, Txt};
 
 /// How a script, a command or a word ended: its code, and its result or its error's text.
@@ -18,7 +18,7 @@ pub struct Ending {
 pub enum Frame {
     /// The commands that are left of a script, which was opened where so many might be open.
     Commands {
-        rest: Rest<Command>,
+        rest: Left<Command>,
         fault: Option<ScriptFault>,
         levels: u32,
     },
@@ -26,18 +26,18 @@ pub enum Frame {
     Command {
         words: Seq<Txt>,
         expand: bool,
-        rest: Rest<Word>,
+        rest: Left<Word>,
     },
     /// A word, at a script in it.
     Nested {
         made: Txt,
-        parts: Rest<Part>,
+        parts: Left<Part>,
     },
     /// A word, at the index of an element.
     Element {
         name: Txt,
         made: Txt,
-        parts: Rest<Part>,
+        parts: Left<Part>,
     },
     /// `catch`, with the variable for the text.
     Catch {
@@ -75,7 +75,7 @@ pub enum Now {
     /// A script to open.
     Open(Script),
     /// A word, or an index, to go on with.
-    Fill { made: Txt, parts: Rest<Part> },
+    Fill { made: Txt, parts: Left<Part> },
     /// An expression, to be evaluated.
     Value(Expr),
     /// An end, for the frame on top.

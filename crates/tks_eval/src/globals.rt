@@ -9,7 +9,6 @@ use crate::halt::Halt;
 use crate::host::Host;
 use crate::machine::Machine;
 use std::alloc::Global;
-use tks_parse::parse;
 use tks_text::{Limits, Txt};
 use tks_vars::Vars;
 
@@ -27,7 +26,7 @@ impl Machine {
         ensures goes { GoesSo H.meaning limits.now (resume H.meaning limits.now self.old.left self.old.stack (global_does (evaluate H.meaning limits.now self.old.left) script (H.state host.now) variables.old self.old.fuel)) result self.new (H.state host.now) variables.new }
     {
         variables.push_global()?;
-        let script = parse(alloc, &script)?;
+        let script = self.table.script(alloc, &script)?;
         self.stack.push(Frame::Global)?;
         Ok(Now::Open(script))
     }

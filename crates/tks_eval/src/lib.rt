@@ -16,6 +16,7 @@ mod machine;
 mod plans;
 mod procedures;
 mod rest;
+mod table;
 mod words;
 
 pub use ended::Ended;

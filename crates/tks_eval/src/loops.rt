@@ -12,7 +12,6 @@ use crate::machine::Machine;
 use std::alloc::Global;
 use std::marker::Model;
 use tks_expr::truth_of;
-use tks_parse::parse;
 use tks_text::{ErrorNumber, Limits, Txt};
 use tks_vars::Vars;
 
@@ -86,7 +85,7 @@ impl Machine {
         let [start, condition, next, body] = words else {
             return Err(error_about(ErrorNumber::WrongWords, command));
         };
-        let start = parse(alloc, start)?;
+        let start = self.table.script(alloc, start)?;
         let turns = Loop {
             condition: condition.try_clone()?,
             body: body.try_clone()?,
@@ -163,7 +162,7 @@ impl Machine {
                 text: Txt::new(alloc),
             }));
         }
-        let body = parse(alloc, &turns.body)?;
+        let body = self.table.script(alloc, &turns.body)?;
         self.stack.push(Frame::Turns(Stage::Body, turns))?;
         Ok(Now::Open(body))
     }
@@ -183,7 +182,7 @@ impl Machine {
         match &turns.next {
             None => self.next_turn(alloc, host, variables, turns, limits),
             Some(next) => {
-                let next = parse(alloc, next)?;
+                let next = self.table.script(alloc, next)?;
                 self.stack.push(Frame::Turns(Stage::Next, turns))?;
                 Ok(Now::Open(next))
             }

@@ -10,6 +10,7 @@ use crate::frame::{Ending, Frame, Now};
 use crate::halt::Halt;
 use crate::host::{Host, Plan};
 use crate::rest::Rest;
+use crate::table::ParseTable;
 use std::alloc::Global;
 use tks_parse::Script;
 use tks_tcl::Stop;
@@ -23,6 +24,8 @@ pub struct Machine {
     pub stack: Rest<Frame>,
     pub left: u32,
     pub fuel: u64,
+    /// The scripts that were parsed so far.
+    pub table: ParseTable,
 }
 
 /// Runs a script.
@@ -70,12 +73,13 @@ pub fn eval_plan<H: Host>(
 impl Machine {
     // Nothing waits.
     fn at_rest(alloc: Global, limits: &Limits) -> Machine
-        ensures { result ≡ record { stack = []; left = limits.now.depth; fuel = limits.now.fuel } }
+        ensures { result ≡ record { stack = []; left = limits.now.depth; fuel = limits.now.fuel; table = tt } }
     {
         Machine {
             stack: Rest::new(alloc),
             left: limits.depth,
             fuel: limits.fuel,
+            table: ParseTable::new(alloc),
         }
     }
 
@@ -186,7 +190,7 @@ impl Machine {
         }
         let (commands, fault) = script.into_contents();
         self.stack.push(Frame::Commands {
-            rest: Rest::of(commands),
+            rest: commands,
             fault,
             levels: self.left,
         })?;

@@ -11,7 +11,6 @@ use crate::host::{Host, Plan};
 use crate::machine::Machine;
 use crate::rest::Rest;
 use std::alloc::Global;
-use tks_parse::parse;
 use tks_text::{Limits, Txt};
 use tks_vars::Vars;
 
@@ -61,7 +60,7 @@ impl Machine {
         }
         self.take_step()?;
         variables.push_global()?;
-        let script = parse(alloc, &script)?;
+        let script = self.table.script(alloc, &script)?;
         self.stack.push(Frame::Scripts { window, scripts })?;
         Ok(Now::Open(script))
     }

@@ -1,10 +1,11 @@
-ghost use Rattle.std.specs.Prelude.{◌≡◌, ◌+◌, ◌*◌, ◌∷◌, ◌++◌, IfOk, OnOk, Ok};
+ghost use Rattle.std.specs.Prelude.{◌≡◌, ◌+◌, ◌*◌, ◌∷◌, ◌++◌, IfOk, OnOk, OnErr, Ok};
 ghost use Rattle.tks_parse.specs.Tree.{words_size, parts_size};
 ghost use Rattle.tks_parse.specs.View.{words_of, parts_of};
 ghost use Rattle.tks_eval.specs.Outcome.{End, appended};
 ghost use Rattle.tks_eval.specs.Evaluation.{evaluate, element_name, with_value, words_in, parts_do, words_do};
 ghost use Rattle.tks_tcl.specs.Cause.{after};
 ghost use Rattle.tks_tcl.specs.Meets.{GivesSo};
+ghost use Rattle.tks_eval.specs.Filling.{filled, left_of, waits_for, runs, words_made, made_so_far};
 ghost use Rattle.tks_eval.specs.Machine.{resume, frame_weight, GoesSo, Falls};
 ghost use Rattle.tks_eval.specs.declared.frame.Frame.TheVariants as frame;
 
@@ -14,7 +15,7 @@ use crate::host::Host;
 use crate::machine::Machine;
 use crate::rest::Rest;
 use std::alloc::{AllocError, Global};
-use tks_parse::{Part, Word};
+use tks_parse::{Left, Part, Script, Word};
 use tks_tcl::{Interrupt, list_in};
 use tks_text::{Limits, Seq, Txt};
 use tks_vars::Vars;
@@ -78,16 +79,126 @@ fn append(words: &mut Seq<Txt>, more: Rest<Txt>) -> Result<(), AllocError>
     Ok(())
 }
 
+/// What stands in a word and has to be run before the word goes on.
+#[derive(Drop)]
+pub enum Inner {
+    /// The index of the element of this name.
+    Index(Txt, Left<Part>),
+    /// A script.
+    Script(Script),
+}
+
+/// Adds the characters and the scalars that come first to a text that is being made, and takes what is behind them.
+pub fn fill_up(
+    made: &mut Txt,
+    parts: &mut Left<Part>,
+    variables: &Vars,
+    limits: &Limits,
+) -> Result<Option<Inner>, Interrupt>
+    ensures { GivesSo (λ inner. (left_of inner (parts_of parts.new), made.new)) result (filled limits.now variables.now (parts_of parts.old) made.old) }
+{
+    while let Some(part) = parts.first() {
+        match part {
+            Part::Text(text) => {
+                grow(made, text, limits)?;
+                parts.skip();
+            }
+            Part::Variable(name, None) => {
+                grow_by_value(made, name, variables, limits)?;
+                parts.skip();
+            }
+            Part::Variable(name, Some(index)) => {
+                let name = name.try_clone()?;
+                let index = index.left()?;
+                parts.skip();
+                return Ok(Some(Inner::Index(name, index)));
+            }
+            Part::Nested(script) => {
+                let script = script.share()?;
+                parts.skip();
+                return Ok(Some(Inner::Script(script)));
+            }
+        }
+    }
+    Ok(None)
+}
+
+/// A word that was begun, up to what has to be run in it.
+#[derive(Drop)]
+pub struct Begun {
+    pub expand: bool,
+    pub made: Txt,
+    pub inner: Inner,
+    pub parts: Left<Part>,
+}
+
+// Makes the words that come first and have nothing in them that has to be run, and begins the one behind them.
+fn make_words(
+    alloc: Global,
+    words: &mut Seq<Txt>,
+    rest: &mut Left<Word>,
+    variables: &Vars,
+    limits: &Limits,
+) -> Result<Option<Begun>, Interrupt>
+    ensures { GivesSo (λ begun. made_so_far begun words.new (words_of rest.new)) result (words_made limits.now variables.now (words_of rest.old) words.old) }
+{
+    while let Some(word) = rest.first() {
+        let expand = word.expand;
+        let mut parts = word.parts.left()?;
+        rest.skip();
+        let mut made = Txt::new(alloc);
+        match fill_up(&mut made, &mut parts, variables, limits)? {
+            None => add_words(alloc, words, expand, made)?,
+            Some(inner) => {
+                return Ok(Some(Begun {
+                    expand,
+                    made,
+                    inner,
+                    parts,
+                }));
+            }
+        }
+    }
+    Ok(None)
+}
+
 impl Machine {
+    // Goes on with what has to be run in a word.
+    fn open_inner(
+        &mut self,
+        alloc: Global,
+        inner: Inner,
+        made: Txt,
+        parts: Left<Part>,
+    ) -> Result<Now, AllocError>
+        ensures fuel { self.new.fuel ≡ self.old.fuel }
+        ensures opened { IfOk result (λ now. (now ≡ runs inner) × (self.new ≡ record self.old { stack = waits_for inner made parts ∷ self.old.stack })) }
+        ensures kept { OnErr result (self.new ≡ self.old) }
+    {
+        match inner {
+            Inner::Index(name, index) => {
+                self.stack.push(Frame::Element { name, made, parts })?;
+                Ok(Now::Fill {
+                    made: Txt::new(alloc),
+                    parts: index,
+                })
+            }
+            Inner::Script(script) => {
+                self.stack.push(Frame::Nested { made, parts })?;
+                Ok(Now::Open(script))
+            }
+        }
+    }
+
     /// Goes on with a word, or an index, up to a script or an index in it.
-    #[tactic(auto, using(crate::proofs::Halts::given_halts, crate::proofs::Runs::chars_join))]
+    #[tactic(auto, using(crate::proofs::Halts::given_halts, crate::proofs::Filling::parts_filled))]
     pub fn fill<H: Host>(
         &mut self,
         alloc: Global,
         host: &H,
         variables: &Vars,
         made: Txt,
-        parts: Rest<Part>,
+        parts: Left<Part>,
         limits: &Limits,
     ) -> Result<Now, Halt>
         ensures falls { Falls result (4 * parts_size (parts_of parts) + 1) self.old self.new }
@@ -95,29 +206,16 @@ impl Machine {
     {
         let mut made = made;
         let mut parts = parts;
-        while let Some(part) = parts.next() {
-            match part {
-                Part::Text(text) => grow(&mut made, &text, limits)?,
-                Part::Variable(name, index) => match index {
-                    None => grow_by_value(&mut made, &name, variables, limits)?,
-                    Some(index) => {
-                        self.stack.push(Frame::Element { name, made, parts })?;
-                        return Ok(Now::Fill {
-                            made: Txt::new(alloc),
-                            parts: Rest::of(index.into_parts()),
-                        });
-                    }
-                },
-                Part::Nested(script) => {
-                    self.stack.push(Frame::Nested { made, parts })?;
-                    return Ok(Now::Open(script));
-                }
+        match fill_up(&mut made, &mut parts, variables, limits)? {
+            None => Ok(Now::At(Ending {
+                code: 0,
+                text: made,
+            })),
+            Some(inner) => {
+                let now = self.open_inner(alloc, inner, made, parts)?;
+                Ok(now)
             }
         }
-        Ok(Now::At(Ending {
-            code: 0,
-            text: made,
-        }))
     }
 
     /// Goes on with a word behind a script in it.
@@ -127,7 +225,7 @@ impl Machine {
         host: &H,
         variables: &Vars,
         made: Txt,
-        parts: Rest<Part>,
+        parts: Left<Part>,
         end: Ending,
         limits: &Limits,
     ) -> Result<Now, Halt>
@@ -150,7 +248,7 @@ impl Machine {
         variables: &Vars,
         name: Txt,
         made: Txt,
-        parts: Rest<Part>,
+        parts: Left<Part>,
         end: Ending,
         limits: &Limits,
     ) -> Result<Now, Halt>
@@ -167,35 +265,41 @@ impl Machine {
     }
 
     /// Goes on with the words of a command.
+    #[tactic(auto, using(crate::proofs::Halts::given_halts, crate::proofs::Filling::words_do_made))]
     pub fn next_word<H: Host>(
         &mut self,
         alloc: Global,
         host: &mut H,
         variables: &mut Vars,
         words: Seq<Txt>,
-        rest: Rest<Word>,
+        rest: Left<Word>,
         limits: &Limits,
     ) -> Result<Now, Halt>
         ensures same_place { H.place host.new ≡ H.place host.old }
         ensures falls { Falls result (4 * words_size (words_of rest) + 1) self.old self.new }
         ensures goes { GoesSo H.meaning limits.now (resume H.meaning limits.now self.old.left self.old.stack (words_do H.meaning limits.now (evaluate H.meaning limits.now self.old.left) (words_of rest) words (H.state host.old) variables.old self.old.fuel)) result self.new (H.state host.new) variables.new }
     {
+        let mut words = words;
         let mut rest = rest;
-        match rest.next() {
+        match make_words(alloc, &mut words, &mut rest, variables, limits)? {
             None => {
                 let now = self.call(alloc, host, variables, words.as_slice(), limits)?;
                 Ok(now)
             }
-            Some(word) => {
+            Some(begun) => {
+                let Begun {
+                    expand,
+                    made,
+                    inner,
+                    parts,
+                } = begun;
                 self.stack.push(Frame::Command {
                     words,
-                    expand: word.expand,
+                    expand,
                     rest,
                 })?;
-                Ok(Now::Fill {
-                    made: Txt::new(alloc),
-                    parts: Rest::of(word.parts.into_parts()),
-                })
+                let now = self.open_inner(alloc, inner, made, parts)?;
+                Ok(now)
             }
         }
     }
@@ -209,7 +313,7 @@ impl Machine {
         variables: &mut Vars,
         words: Seq<Txt>,
         expand: bool,
-        rest: Rest<Word>,
+        rest: Left<Word>,
         end: Ending,
         limits: &Limits,
     ) -> Result<Now, Halt>

@@ -1,7 +1,6 @@
 -- What is spelled so is read so, and so a text spells one expression.
-use Rattle.std.proofs.Common.{◌≡◌, ℕ, zero, suc, ◌+◌, ◌-◌, ◌<◌, true, false, cond, eqb, List, [], ◌∷◌, ◌++◌, length, take, drop, Option, Some, None, Result, Ok, Err, refl, sym, ap, ◌∙◌, subst, arith, inl, inr}
+use Rattle.std.proofs.Common.{◌≡◌, ℕ, zero, suc, ◌+◌, ◌-◌, ◌<◌, true, false, cond, eqb, List, [], ◌∷◌, length, take, drop, Option, Some, None, Result, Ok, Err, refl, sym, ap, ◌∙◌, subst, arith, inl, inr}
 use Rattle.std.specs.Prelude.{◌||◌, ◌↔◌}
-use Rattle.std.specs.List.{prefix_len}
 use Rattle.std.proofs.lemmas.Bool.{eqb-true, eqb-false, eq-eqb, false_from_ne_true}
 use Rattle.std.proofs.lemmas.List.{drop_at}
 use Rattle.tks_text.specs.Integer.{is_space}
@@ -20,7 +19,6 @@ use Rattle.tks_parse.specs.declared.syntax.Syntax.TheVariants.{Expressions}
 use Rattle.tks_parse.proofs.Braced.{braced_read, braced_rest, verbatim_is}
 use Rattle.tks_parse.proofs.Faults.{part_fault, parts_fault, quoted_fault, unclosed_quote, unclosed_brace, brackets_fault, indexes_fault}
 use Rattle.tks_parse.proofs.Spelled.{parts_read, script_reads, quoted_whole, next_rest, scalar_at, braced_name_at, braced_name_rest, nested_at, element_at, variable_at}
-use Rattle.tks_text.proofs.Prefixes.{prefix_of}
 use Rattle.tks_parse.proofs.Tests.{or_left, or_right}
 use Rattle.tks_parse.proofs.Told.{index_rest}
 use Rattle.tks_expr.specs.Expression.{Then, SpaceThen, LiteralThen, IsOnePart, OperandThen, StartsOperand, SignedThen, JoinThen, ChainThen, LevelThen, ConditionalThen, InsideThen, ExprThen, opens_operand, OperandFails, SignedFails, LevelFails, ConditionalFails, InsideFails, ExprFails, ExprOf}

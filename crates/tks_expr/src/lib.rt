@@ -16,4 +16,4 @@ pub use operation::{apply, apply_unary, result_of, truth_of};
 pub use operator::{Binary, Unary};
 pub use parse::parse_expr;
 pub use sign::Join;
-pub use tree::{Expr, Link, Node};
+pub use tree::{Expr, Link, Node, share_links};

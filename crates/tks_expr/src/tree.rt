@@ -5,6 +5,7 @@ use crate::operator::Unary;
 use crate::sign::Join;
 use std::alloc::{AllocError, Global};
 use std::marker::Model;
+use std::rc::Rc;
 use tks_parse::Parts;
 use tks_text::Txt;
 
@@ -17,7 +18,7 @@ use tks_text::Txt;
 #[cycle(tree)]
 #[derive(Drop)]
 pub struct Expr {
-    node: Box<Node>,
+    node: Rc<Node>,
 }
 
 /// What stands at the root of an expression, with the operators that lie in a list with it.
@@ -63,20 +64,53 @@ impl Model for Expr {
     ghost size_decreases = { λ e h. Prim.omega (arith, node_falls e.node.value) };
 }
 
+impl Link {
+    /// The same link, whose operand is held once more.
+    pub fn share(&self) -> Result<Link, AllocError>
+        ensures { IfOk result (λ link. link ≡ self.now) }
+    {
+        Ok(Link {
+            join: self.join,
+            right: self.right.share()?,
+        })
+    }
+}
+
+/// The same links, whose operands are held once more.
+pub fn share_links(alloc: Global, links: &[Link]) -> Result<Vec<Link>, AllocError>
+    ensures { IfOk result (λ copy. copy.items ≡ links.now) }
+{
+    let mut copy = Vec::new(alloc);
+    for link in links {
+        copy.push(link.share()?)?;
+    }
+    Ok(copy)
+}
+
 impl Expr {
     /// The expression with this at its root.
     pub fn new(alloc: Global, node: Node) -> Result<Expr, AllocError>
         ensures { IfOk result (λ e. e ≡ expr_of node) }
     {
+        match Rc::new(alloc, node) {
+            Ok(node) => Ok(Expr { node }),
+            Err(_) => Err(AllocError),
+        }
+    }
+
+    /// The same expression, held once more.
+    pub fn share(&self) -> Result<Expr, AllocError>
+        ensures { IfOk result (λ e. e ≡ self.now) }
+    {
         Ok(Expr {
-            node: Box::new(alloc, node)?,
+            node: self.node.clone()?,
         })
     }
 
     /// What stands at the root.
-    pub fn into_node(self) -> Node
-        ensures { expr_of result ≡ self }
+    pub fn node(&self) -> &Node
+        ensures { expr_of result.now ≡ self.now }
     {
-        Box::into_inner(self.node)
+        self.node.as_ref()
     }
 }

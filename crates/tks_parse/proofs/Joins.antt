@@ -10,9 +10,9 @@ use Rattle.tks_parse.specs.declared.tree.Part.TheVariants.{Text, Variable, Neste
 
 -- one more at the end
 
-pub commands_push : (cs : List Command) (c : Command) → script_of_commands (cs ++ c ∷ []) None ≡ join_scripts (script_of_commands cs None) (command (words_of c.words.items) no_command)
+pub commands_push : (cs : List Command) (c : Command) → script_of_commands (cs ++ c ∷ []) None ≡ join_scripts (script_of_commands cs None) (command (words_of c.words.value.items) no_command)
 commands_push [] c = refl
-commands_push (b ∷ cs) c = ap (command (words_of b.words.items)) (commands_push cs c)
+commands_push (b ∷ cs) c = ap (command (words_of b.words.value.items)) (commands_push cs c)
 
 pub words_push : (ws : List Word) (w : Word) → words_of (ws ++ w ∷ []) ≡ join_words (words_of ws) (word w.expand w.parts no_word)
 words_push [] w = refl
@@ -32,7 +32,7 @@ parts_push (Nested s ∷ ps) p = ap (nested s) (parts_push ps p)
 -- a fault at the end
 pub commands_fault : (cs : List Command) (f : ScriptFault) → script_of_commands cs (Some f) ≡ join_scripts (script_of_commands cs None) (faulty f)
 commands_fault [] f = refl
-commands_fault (c ∷ cs) f = ap (command (words_of c.words.items)) (commands_fault cs f)
+commands_fault (c ∷ cs) f = ap (command (words_of c.words.value.items)) (commands_fault cs f)
 
 -- joining is associative
 

@@ -8,3 +8,4 @@ pub mod Braced
 pub mod Spelled
 pub mod Told
 pub mod Faults
+pub mod Drops

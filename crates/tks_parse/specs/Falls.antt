@@ -28,4 +28,4 @@ words_fall (w ∷ rest) = omega (arith, words_fall rest)
 
 pub commands_fall : (commands : List Command) (fault : Option ScriptFault) → most deep-Command commands ≤ script_size (script_of_commands commands fault)
 commands_fall [] fault = omega arith
-commands_fall (c ∷ rest) fault = omega (arith, commands_fall rest fault, words_fall c.words.items)
+commands_fall (c ∷ rest) fault = omega (arith, commands_fall rest fault, words_fall c.words.value.items)

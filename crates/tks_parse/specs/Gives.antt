@@ -54,12 +54,12 @@ abbrev pub taken_word : Option Word × ℕ → Step ScriptFault Words
 taken_word x = takes (join_words (words_of_option x.0)) x.1
 
 abbrev pub run_of_command : Command × ℕ → Run ScriptFault Words
-run_of_command x = record { items = words_of x.0.words.items; fault = None; taken = x.1 }
+run_of_command x = record { items = words_of x.0.words.value.items; fault = None; taken = x.1 }
 
 -- the commands that are there
 abbrev pub script_of_option : Option Command → Script
 script_of_option None = no_command
-script_of_option (Some c) = command (words_of c.words.items) no_command
+script_of_option (Some c) = command (words_of c.words.value.items) no_command
 
 abbrev pub taken_command : Option Command × ℕ → Step ScriptFault Script
 taken_command x = takes (join_scripts (script_of_option x.0)) x.1

@@ -22,4 +22,4 @@ words_of (w ∷ rest) = word w.expand w.parts (words_of rest)
 abbrev pub script_of_commands : List Command → Option ScriptFault → Script
 script_of_commands [] None = no_command
 script_of_commands [] (Some fault) = faulty fault
-script_of_commands (c ∷ rest) fault = command (words_of c.words.items) (script_of_commands rest fault)
+script_of_commands (c ∷ rest) fault = command (words_of c.words.value.items) (script_of_commands rest fault)

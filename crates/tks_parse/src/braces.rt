@@ -151,5 +151,5 @@ pub fn read_braced(alloc: Global, text: &[u8], syntax: Syntax) -> Result<(Parts,
     }
     let mut parts = Vec::new(alloc);
     parts.push(Part::Text(braced_value(alloc, inside)?))?;
-    Ok((Parts::new(parts), len + 1))
+    Ok((Parts::new(alloc, parts)?, len + 1))
 }

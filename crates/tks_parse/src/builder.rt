@@ -32,7 +32,7 @@ impl Piece {
         };
         let mut parts = Vec::new(alloc);
         parts.push(part)?;
-        Ok(Parts::new(parts))
+        Parts::new(alloc, parts)
     }
 }
 

@@ -74,7 +74,7 @@ pub fn read_nested(
         return Err(Failure::Script(failed));
     }
     if taken < text.len() {
-        let script = Script::new(commands, None);
+        let script = Script::new(alloc, commands, None)?;
         Ok(Some((Piece::Whole(Part::Nested(script)), taken + 1)))
     } else {
         Err(fault(ErrorNumber::MissingCloseBracket))
@@ -201,7 +201,8 @@ fn read_parts(alloc: Global, text: &[u8], mode: Mode, depth: u32) -> Result<(Par
         taken += 1 + more;
         rest = rest.split_at(1 + more).1;
     }
-    Ok((Parts::new(builder.into_parts()?), taken))
+    let parts = Parts::new(alloc, builder.into_parts()?)?;
+    Ok((parts, taken))
 }
 
 /// The parts behind an opening quote, up to the next quote.
@@ -346,7 +347,8 @@ fn read_words(
         taken += 1 + more;
         rest = rest.split_at(1 + more).1;
     }
-    Ok((Command { words }, taken))
+    let command = Command::new(alloc, words)?;
+    Ok((command, taken))
 }
 
 // The next command, or what stands before it.
@@ -426,7 +428,8 @@ fn read_script(alloc: Global, text: &[u8]) -> Result<Script, AllocError>
     ensures { IfOk result (λ s. s ≡ script_of text.now) }
 {
     let found = read_commands(alloc, text, Place::Alone, MAX_DEPTH)?;
-    Ok(Script::new(found.commands, found.fault))
+    let script = Script::new(alloc, found.commands, found.fault)?;
+    Ok(script)
 }
 
 /// The script that a text spells: its commands, up to its end or its first fault.

@@ -1,7 +1,10 @@
-ghost use Rattle.std.specs.Prelude.{◌≡◌, option_copied};
+ghost use Rattle.std.specs.Prelude.{◌≡◌, IfOk, option_copied};
 ghost use Rattle.tks_parse.specs.View.{script_of_commands, parts_of};
 
+use crate::left::Left;
+use std::alloc::{AllocError, Global};
 use std::marker::Model;
+use std::rc::Rc;
 use tks_text::{ScriptFault, Txt};
 
 /// A script: its commands, up to the first fault if there is one. Contracts see it as a tree of
@@ -9,7 +12,7 @@ use tks_text::{ScriptFault, Txt};
 #[cycle(tree)]
 #[derive(Drop)]
 pub struct Script {
-    commands: Vec<Command>,
+    commands: Rc<Vec<Command>>,
     fault: Option<ScriptFault>,
 }
 
@@ -17,7 +20,7 @@ pub struct Script {
 #[cycle(tree)]
 #[derive(Drop)]
 pub struct Command {
-    pub words: Vec<Word>,
+    pub words: Rc<Vec<Word>>,
 }
 
 /// A word: the joined values of its parts.
@@ -33,7 +36,7 @@ pub struct Word {
 #[cycle(tree)]
 #[derive(Drop)]
 pub struct Parts {
-    parts: Vec<Part>,
+    parts: Rc<Vec<Part>>,
 }
 
 /// A part of a word.
@@ -57,14 +60,14 @@ impl Model for Script {
 
     ghost use Rattle.tks_parse.specs.View.{script_of_commands};
 
-    ghost view = { λ s. script_of_commands s.commands.items s.fault };
+    ghost view = { λ s. script_of_commands s.commands.value.items s.fault };
 
     ghost size = { script_size };
 
     ghost use Rattle.std.proofs.Common.{arith};
     ghost use Rattle.tks_parse.specs.Falls.{commands_fall};
 
-    ghost size_decreases = { λ s h. Prim.omega (arith, commands_fall s.commands.items s.fault) };
+    ghost size_decreases = { λ s h. Prim.omega (arith, commands_fall s.commands.value.items s.fault) };
 }
 
 impl Model for Parts {
@@ -76,58 +79,120 @@ impl Model for Parts {
 
     ghost use Rattle.tks_parse.specs.View.{parts_of};
 
-    ghost view = { λ p. parts_of p.parts.items };
+    ghost view = { λ p. parts_of p.parts.value.items };
 
     ghost size = { parts_size };
 
     ghost use Rattle.std.proofs.Common.{arith};
     ghost use Rattle.tks_parse.specs.Falls.{parts_fall};
 
-    ghost size_decreases = { λ p h. Prim.omega (arith, parts_fall p.parts.items) };
+    ghost size_decreases = { λ p h. Prim.omega (arith, parts_fall p.parts.value.items) };
+}
+
+// A fault once more.
+fn fault_again(fault: &Option<ScriptFault>) -> Result<Option<ScriptFault>, AllocError>
+    ensures { IfOk result (λ f. f ≡ fault.now) }
+{
+    match fault {
+        None => Ok(None),
+        Some(fault) => Ok(Some(ScriptFault {
+            number: fault.number,
+            subject: subject_again(&fault.subject)?,
+        })),
+    }
+}
+
+// A fault's subject once more.
+fn subject_again(subject: &Option<Txt>) -> Result<Option<Txt>, AllocError>
+    ensures { IfOk result (λ s. s ≡ subject.now) }
+{
+    match subject {
+        None => Ok(None),
+        Some(text) => Ok(Some(text.try_clone()?)),
+    }
 }
 
 impl Script {
     /// The script of these commands, with a fault behind them or none.
-    pub fn new(commands: Vec<Command>, fault: Option<ScriptFault>) -> Script
-        ensures { result ≡ script_of_commands commands.items fault }
+    pub(crate) fn new(
+        alloc: Global,
+        commands: Vec<Command>,
+        fault: Option<ScriptFault>,
+    ) -> Result<Script, AllocError>
+        ensures { IfOk result (λ s. s ≡ script_of_commands commands.items fault) }
     {
-        Script { commands, fault }
+        match Rc::new(alloc, commands) {
+            Ok(commands) => Ok(Script { commands, fault }),
+            Err(_) => Err(AllocError),
+        }
+    }
+
+    /// The same script, held once more: nothing of it is copied but a fault's subject.
+    pub fn share(&self) -> Result<Script, AllocError>
+        ensures { IfOk result (λ s. s ≡ self.now) }
+    {
+        Ok(Script {
+            commands: self.commands.clone()?,
+            fault: fault_again(&self.fault)?,
+        })
     }
 
     /// The commands, in order, and the fault behind them.
     pub fn contents(&self) -> (&[Command], Option<&ScriptFault>)
         ensures { script_of_commands result.0.now (option_copied result.1) ≡ self.now }
     {
-        (self.commands.as_slice(), self.fault.as_ref())
+        (self.commands.as_ref().as_slice(), self.fault.as_ref())
     }
 
-    /// The same, given away.
-    pub fn into_contents(self) -> (Vec<Command>, Option<ScriptFault>)
-        ensures { script_of_commands result.0.items result.1 ≡ self }
+    /// The same, to go on in.
+    pub fn into_contents(self) -> (Left<Command>, Option<ScriptFault>)
+        ensures { script_of_commands result.0 result.1 ≡ self }
     {
-        (self.commands, self.fault)
+        (Left::all(self.commands), self.fault)
+    }
+}
+
+impl Command {
+    /// The command of these words.
+    pub(crate) fn new(alloc: Global, words: Vec<Word>) -> Result<Command, AllocError>
+        ensures { IfOk result (λ c. c.words.value.items ≡ words.items) }
+    {
+        match Rc::new(alloc, words) {
+            Ok(words) => Ok(Command { words }),
+            Err(_) => Err(AllocError),
+        }
+    }
+
+    /// Its words, to go on in.
+    pub fn left(&self) -> Result<Left<Word>, AllocError>
+        ensures { IfOk result (λ words. words ≡ self.now.words.value.items) }
+    {
+        Ok(Left::all(self.words.clone()?))
     }
 }
 
 impl Parts {
     /// The word's parts.
-    pub fn new(parts: Vec<Part>) -> Parts
-        ensures { result ≡ parts_of parts.items }
+    pub(crate) fn new(alloc: Global, parts: Vec<Part>) -> Result<Parts, AllocError>
+        ensures { IfOk result (λ p. p ≡ parts_of parts.items) }
     {
-        Parts { parts }
+        match Rc::new(alloc, parts) {
+            Ok(parts) => Ok(Parts { parts }),
+            Err(_) => Err(AllocError),
+        }
+    }
+
+    /// The parts, to go on in.
+    pub fn left(&self) -> Result<Left<Part>, AllocError>
+        ensures { IfOk result (λ parts. parts_of parts ≡ self.now) }
+    {
+        Ok(Left::all(self.parts.clone()?))
     }
 
     /// The parts, in order.
     pub fn as_slice(&self) -> &[Part]
         ensures { parts_of result.now ≡ self.now }
     {
-        self.parts.as_slice()
-    }
-
-    /// The same, given away.
-    pub fn into_parts(self) -> Vec<Part>
-        ensures { parts_of result.items ≡ self }
-    {
-        self.parts
+        self.parts.as_ref().as_slice()
     }
 }

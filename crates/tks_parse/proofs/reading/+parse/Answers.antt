@@ -45,7 +45,7 @@ read_commands-commands-preserved t c =
 pub read_parts-returns-clause-gives : goal.read_parts-returns-clause-gives
 read_parts-returns-clause-gives t c =
     let read = rw c.in_default.is at c.in_ok-piece.ensures.gives in
-    rw (c.new.ensures, c.in_ok-into_parts.ensures) (parts_stop (nest c.args.depth) (index c.args.depth) c.args.mode c.pieces.builder c.pieces.taken c.pieces.rest.now _ c.pieces.invariant.so_far read)
+    rw (c.in_ok-parts.ensures, c.in_ok-into_parts.ensures) (parts_stop (nest c.args.depth) (index c.args.depth) c.args.mode c.pieces.builder c.pieces.taken c.pieces.rest.now _ c.pieces.invariant.so_far read)
 
 pub read_parts-returns-in_err-piece-clause-gives : goal.read_parts-returns-in_err-piece-clause-gives
 read_parts-returns-in_err-piece-clause-gives t c =
@@ -55,7 +55,7 @@ read_parts-returns-in_err-piece-clause-gives t c =
 pub read_words-returns-clause-gives : goal.read_words-returns-clause-gives
 read_words-returns-clause-gives t c =
     let read = rw c.in_default.is at c.in_ok-word.ensures.gives in
-    words_stop (nest c.args.depth) (index c.args.depth) c.args.place (words_of c.words.words.items) c.words.taken c.words.rest.now _ c.words.invariant.so_far read
+    rw c.in_ok-command.ensures (words_stop (nest c.args.depth) (index c.args.depth) c.args.place (words_of c.words.words.items) c.words.taken c.words.rest.now _ c.words.invariant.so_far read)
 
 pub read_words-returns-in_err-word-clause-gives : goal.read_words-returns-in_err-word-clause-gives
 read_words-returns-in_err-word-clause-gives t c =
@@ -79,10 +79,10 @@ read_nested-returns-in-Some-clause-gives t c =
     let found = c.in_ok-commands.field-0 in
     nested_fails c.args.depth c.args.text.now (script_of_commands found.commands.items None) found.fault found.taken c.in-Some.failed (omega arith) c.in_ok-commands.ensures.gives c.in-Some.is
 
-pub read_nested-returns-then-taken-text-clause-gives : goal.read_nested-returns-then-taken-text-clause-gives
-read_nested-returns-then-taken-text-clause-gives t c =
+pub read_nested-returns-in_ok-script-clause-gives : goal.read_nested-returns-in_ok-script-clause-gives
+read_nested-returns-in_ok-script-clause-gives t c =
     let found = c.in_ok-commands.field-0 in
-    rw c.new-script.ensures (nested_found c.args.depth c.args.text.now (script_of_commands found.commands.items None) found.fault found.taken (omega arith) c.in_ok-commands.ensures.gives c.in_default.is c.if-taken-text.true)
+    rw c.in_ok-script.ensures (nested_found c.args.depth c.args.text.now (script_of_commands found.commands.items None) found.fault found.taken (omega arith) c.in_ok-commands.ensures.gives c.in_default.is c.if-taken-text.true)
 
 pub read_index-returns-in_ok-name-clause-gives : goal.read_index-returns-in_ok-name-clause-gives
 read_index-returns-in_ok-name-clause-gives t c =

@@ -1,0 +1,87 @@
+-- How far words are made at once: up to a script or an index, which has to be run first.
+use Rattle.std.specs.Prelude.{ℕ, Bool, List, [], ◌∷◌, ◌++◌, Option, Some, None, Result, Ok}
+use Rattle.tks_text.specs.declared.limits.Limits.{Limits}
+use Rattle.tks_parse.specs.Tree.{Words, no_word, word, Parts, no_part, char, variable, element, nested}
+use Rattle.tks_parse.specs.View.{parts_of}
+use Rattle.tks_vars.specs.Variables.{Variables}
+use Rattle.tks_tcl.specs.Cause.{Cause, after}
+use Rattle.tks_eval.specs.Outcome.{appended}
+use Rattle.tks_eval.specs.Evaluation.{with_value, words_in}
+use Rattle.tks_eval.specs.declared.words.Inner.{Inner}
+use Rattle.tks_eval.specs.declared.words.Inner.TheVariants as inner
+use Rattle.tks_eval.specs.declared.words.Begun.{Begun}
+use Rattle.tks_eval.specs.declared.frame.Frame.{Frame}
+use Rattle.tks_eval.specs.declared.frame.Frame.TheVariants as frame
+use Rattle.tks_eval.specs.declared.frame.Now.{Now}
+use Rattle.tks_eval.specs.declared.frame.Now.TheVariants as now
+use Rattle.tks_parse.specs.declared.tree.Part.{Part}
+use Rattle.tks_expr.specs.Tree.{Expr, Literal, Made, One, Two, Both, Either, Conditional}
+
+-- the parts behind the characters and the scalars that come first, and the text with these
+abbrev pub filled : Limits → Variables → Parts → List ℕ → Result (Parts × List ℕ) Cause
+filled limits variables no_part made = Ok (no_part, made)
+filled limits variables (char c rest) made = after (appended limits made (c ∷ [])) (λ made. filled limits variables rest made)
+filled limits variables (variable name rest) made = after (with_value limits variables name made) (λ made. filled limits variables rest made)
+filled limits variables (element name index rest) made = Ok (element name index rest, made)
+filled limits variables (nested script rest) made = Ok (nested script rest, made)
+
+-- what has to be run, if anything has, and the parts behind it
+abbrev pub left_of : Option Inner → Parts → Parts
+left_of None rest = no_part
+left_of (Some (inner.Index name index)) rest = element name (parts_of index) rest
+left_of (Some (inner.Script script)) rest = nested script rest
+
+-- what waits for it, and what is to be run
+abbrev pub waits_for : Inner → List ℕ → List Part → Frame
+waits_for (inner.Index name index) made parts = frame.Element name made parts
+waits_for (inner.Script script) made parts = frame.Nested made parts
+
+abbrev pub runs : Inner → Now
+runs (inner.Index name index) = now.Fill [] index
+runs (inner.Script script) = now.Open script
+
+-- all words; or those before one that was begun, and that one: the parts that are left of it, its text so far, and the
+-- words behind it
+pub data Stand : Type 0 where
+  All : (words : List (List ℕ)) → Stand
+  Upto : (words : List (List ℕ)) (expand : Bool) (parts : Parts) (made : List ℕ) (rest : Words) → Stand
+
+-- what follows where nothing is left of a word's parts
+abbrev pub made_or : Parts → Stand → Result Stand Cause → Result Stand Cause
+made_or no_part upto next = next
+made_or (char c rest) upto next = Ok upto
+made_or (variable name rest) upto next = Ok upto
+made_or (element name index rest) upto next = Ok upto
+made_or (nested script rest) upto next = Ok upto
+
+-- words behind those that are made
+abbrev pub words_made : Limits → Variables → Words → List (List ℕ) → Result Stand Cause
+words_made limits variables no_word words = Ok (All words)
+words_made limits variables (word expand parts rest) words =
+    after (filled limits variables parts []) (λ x. made_or x.0 (Upto words expand x.0 x.1 rest)
+    (after (words_in expand x.1) (λ more. words_made limits variables rest (words ++ more))))
+
+-- how far the code came
+abbrev pub made_so_far : Option Begun → List (List ℕ) → Words → Stand
+made_so_far None words rest = All words
+made_so_far (Some b) words rest = Upto words b.expand (left_of (Some b.inner) (parts_of b.parts)) b.made rest
+
+-- ---- operands
+
+-- a text that nothing is left of, if it is one
+abbrev pub whole : Parts → List ℕ → Option (List ℕ)
+whole no_part made = Some made
+whole (char c rest) made = None
+whole (variable name rest) made = None
+whole (element name index rest) made = None
+whole (nested script rest) made = None
+
+-- the text of an operand that is a literal, or is made at once
+abbrev pub operand_made : Limits → Variables → Expr → Result (Option (List ℕ)) Cause
+operand_made limits variables (Literal text) = Ok (Some text)
+operand_made limits variables (Made parts) = after (filled limits variables parts []) (λ x. Ok (whole x.0 x.1))
+operand_made limits variables (One op a) = Ok None
+operand_made limits variables (Two op a b) = Ok None
+operand_made limits variables (Both a b) = Ok None
+operand_made limits variables (Either a b) = Ok None
+operand_made limits variables (Conditional c a b) = Ok None

@@ -1,0 +1,57 @@
+ghost use Rattle.std.specs.Prelude.{◌≡◌, drop, slice_get, IfOk, option_copied};
+
+use std::alloc::AllocError;
+use std::marker::Model;
+use std::rc::Rc;
+
+/// What is left of a list that others may hold too. To go on takes nothing apart, and to hold it once more costs a count.
+#[derive(Drop)]
+pub struct Left<T> {
+    items: Rc<Vec<T>>,
+    at: usize,
+}
+
+impl<T> Model for Left<T> {
+    ghost use Rattle.std.specs.Prelude.{List, drop, length, ◌≤◌};
+
+    ghost Value = { List T };
+
+    ghost view = { λ l. drop l.at l.items.value.items };
+
+    ghost invariant = { λ l. l.at ≤ length l.items.value.items };
+}
+
+impl<T: Drop> Left<T> {
+    /// All of a list.
+    pub(crate) fn all(items: Rc<Vec<T>>) -> Left<T>
+        ensures { result ≡ items.value.items }
+    {
+        Left { items, at: 0 }
+    }
+
+    /// The same, held once more.
+    pub fn share(&self) -> Result<Left<T>, AllocError>
+        ensures { IfOk result (λ l. l ≡ self.now) }
+    {
+        Ok(Left {
+            items: self.items.clone()?,
+            at: self.at,
+        })
+    }
+
+    /// The first item.
+    pub fn first(&self) -> Option<&T>
+        ensures { option_copied result ≡ slice_get self.now 0 }
+    {
+        self.items.as_ref().as_slice().get(self.at)
+    }
+
+    /// Goes on behind the first item, where there is one.
+    pub fn skip(&mut self)
+        ensures { self.new ≡ drop 1 self.old }
+    {
+        if self.at < self.items.as_ref().len() {
+            self.at += 1;
+        }
+    }
+}
