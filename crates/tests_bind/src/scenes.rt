@@ -1,7 +1,7 @@
 //! A history of keys, and bindings.
 use std::alloc::Global;
-use tks_bind::{Bindings, History, Virtuals};
-use tks_event::{Event, Kind, Modifiers, Sequence, parse_sequence};
+use tks_bind::{Bindings, History, Virtuals, is_of_name};
+use tks_event::{Event, Kind, Modifiers, Sequence, is_event, is_name, parse_sequence};
 use tks_text::Txt;
 
 /// The sequence that a text spells.
@@ -38,6 +38,15 @@ impl Keys {
         self.bindings.bind(tag, sequence, &script).ok()
     }
 
+    /// Adds a sequence to a virtual event.
+    pub fn add(&mut self, name: &Txt, text: &[u8]) -> Option<()> {
+        let sequence = sequence(self.alloc, text)?;
+        if !is_name(name.as_bytes()) || is_of_name(&sequence) {
+            return None;
+        }
+        self.virtuals.event_add(name, &sequence).ok()
+    }
+
     /// A key that goes down, with these modifiers held.
     pub fn event(&self, keysym: &[u8], state: u16) -> Option<Event> {
         Some(Event {
@@ -58,6 +67,9 @@ impl Keys {
     pub fn fires(&mut self, keysym: &[u8], state: u16, script: &[u8]) -> Option<bool> {
         let event = self.event(keysym, state)?;
         let added = event.try_clone().ok()?;
+        if !is_event(&added) {
+            return None;
+        }
         self.history.add(added).ok()?;
         let chosen = self
             .bindings

@@ -42,12 +42,8 @@ fn virtual_events(alloc: Global) -> Option<bool> {
     keys.bind(b"a", b"itself")?;
     keys.bind(b"<<V>>", b"virtual")?;
     let name = Txt::from_bytes(alloc, b"V").ok()?;
-    keys.virtuals
-        .event_add(&name, &sequence(alloc, b"a")?)
-        .ok()?;
-    keys.virtuals
-        .event_add(&name, &sequence(alloc, b"b")?)
-        .ok()?;
+    keys.add(&name, b"a")?;
+    keys.add(&name, b"b")?;
     let before = keys.fires(b"a", 0, b"itself")? && keys.fires(b"b", 0, b"virtual")?;
     keys.virtuals
         .event_delete_sequence(&name, &sequence(alloc, b"b")?)

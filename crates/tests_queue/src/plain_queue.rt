@@ -1,7 +1,7 @@
 //! A queue as a plain list, and random calls made on both.
 use crate::dice::Dice;
 use std::alloc::Global;
-use tks_event::{Event, Kind, Modifiers};
+use tks_event::{Event, Kind, Modifiers, is_event};
 use tks_queue::{Place, Queue};
 use tks_text::Txt;
 
@@ -63,7 +63,7 @@ impl PlainQueue {
 }
 
 /// A virtual event with one letter as its data.
-pub fn letter_event(alloc: Global, letter: u8, window: u64) -> Option<Event> {
+fn letter_event(alloc: Global, letter: u8, window: u64) -> Option<Event> {
     Some(Event {
         window,
         kind: Kind::Virtual,
@@ -76,6 +76,21 @@ pub fn letter_event(alloc: Global, letter: u8, window: u64) -> Option<Event> {
         root_y: 0,
         payload: Txt::from_bytes(alloc, &[letter]).ok()?,
     })
+}
+
+/// Puts an event of one letter into its place.
+pub fn put_letter(
+    alloc: Global,
+    queue: &mut Queue,
+    place: Place,
+    letter: u8,
+    window: u64,
+) -> Option<()> {
+    let event = letter_event(alloc, letter, window)?;
+    if !is_event(&event) {
+        return None;
+    }
+    queue.put(place, event).ok()
 }
 
 /// Whether the event has this letter, or both are none.
@@ -123,7 +138,7 @@ pub fn queue_call_agrees(
         0..=9 => {
             let letter = *b"abcdefghijklmnopqrst".get(dice.roll(20))?;
             let place = any_place(dice);
-            queue.put(place, letter_event(alloc, letter, window)?).ok()?;
+            put_letter(alloc, queue, place, letter, window)?;
             plain.put(place, letter, window)?;
             true
         }

@@ -1,5 +1,5 @@
 use crate::dice::Dice;
-use crate::plain_queue::{PlainQueue, has_letter, letter_event, queue_call_agrees};
+use crate::plain_queue::{PlainQueue, has_letter, put_letter, queue_call_agrees};
 use std::alloc::Global;
 use tks_queue::{Place, Queue};
 use tks_share::Copied;
@@ -21,8 +21,7 @@ fn the_queue_does_what_a_plain_list_does(rt: HostRuntime) {
 }
 
 fn put(alloc: Global, queue: &mut Queue, place: Place, letter: u8) -> Option<()> {
-    let event = letter_event(alloc, letter, 0)?;
-    queue.put(place, event).ok()
+    put_letter(alloc, queue, place, letter, 0)
 }
 
 fn take_all(queue: &mut Queue, letters: &[u8]) -> Option<bool> {

@@ -2,8 +2,8 @@
 
 use crate::texts::text;
 use std::alloc::Global;
-use tks_pack::{Content, Fill, Packing, Settings, Side};
-use tks_text::Class;
+use tks_pack::{Content, Fill, Packing, Padding, Settings, Side};
+use tks_text::{Class, Seq};
 use tks_tree::Tree;
 
 // Whether a packing keeps its one content and that it doesn't propagate.
@@ -11,14 +11,14 @@ fn packing_is_restored(alloc: Global) -> Option<bool> {
     let mut tree = Tree::new(alloc).ok()?;
     let window = tree.create(&text(alloc, ".a")?, Class::Frame).ok()?;
     let mut settings = Settings::new();
-    settings.padx = 3;
-    let mut contents = Vec::new(alloc);
+    settings.padx = Padding::of(3);
+    let mut contents = Seq::new(alloc);
     contents.push(Content { window, settings }).ok()?;
     let packing = Packing::restore(alloc, contents, false);
     let [content] = packing.contents() else {
         return Some(false);
     };
-    Some(content.window == window && content.settings.padx == 3 && !packing.propagates())
+    Some(content.window == window && content.settings.padx.cells() == 3 && !packing.propagates())
 }
 
 #[test]

@@ -6,15 +6,12 @@ use crate::turns::input_of;
 use crate::worlds::{first_world, shown};
 use std::alloc::Global;
 use tks_app::Apps;
-use tks_codec_world::{has_spelling, write_world};
+use tks_codec_world::write_world;
 use tks_text::Limits;
 use tks_world::{Input, Refused, World, step};
 
 // The world's bytes.
 fn bytes_of(alloc: Global, world: &World) -> Option<Vec<u8>> {
-    if !has_spelling(world) {
-        return None;
-    }
     let mut bytes = Vec::new(alloc);
     write_world(alloc, world, &mut bytes).ok()?;
     Some(bytes)

@@ -13,7 +13,7 @@ either_false false c h = (refl, h)
 either_false true c h = absurd (true≢false h)
 
 -- of two names that aren't the same, the one comes before the other
-other_way : (a b : List ℕ) → comes_before a b ≡ false → same_text b a ≡ false → comes_before b a ≡ true
+pub other_way : (a b : List ℕ) → comes_before a b ≡ false → same_text b a ≡ false → comes_before b a ≡ true
 other_way a b late differ = by (slice_cmp nat_cmp a b) refl
   where
     by : (o : Ordering) → slice_cmp nat_cmp a b ≡ o → comes_before b a ≡ true

@@ -1,2 +1,3 @@
 mod Joining
 mod Places
+pub mod Rising

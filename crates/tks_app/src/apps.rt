@@ -54,8 +54,8 @@ pub fn is_name(name: &Txt) -> bool
         && !is_built_in(name)
 }
 
-// Whether a name comes before another, by their bytes.
-fn comes_before(name: &Txt, other: &Txt) -> bool
+/// Whether a name comes before another, by their bytes.
+pub fn comes_before(name: &Txt, other: &Txt) -> bool
     ensures { result ≡ comes_before name.now other.now }
 {
     name.as_bytes().cmp(other.as_bytes()).is_lt()

@@ -1,16 +1,17 @@
--- Virtual events have other names, and each has sequences that differ, whatever is done to them.
-use Rattle.std.specs.Prelude.{not}
+-- Virtual events have other names, and each has sequences of physical events that differ, whatever is done to them.
+use Rattle.std.specs.Prelude.{not, ◌&&◌}
 use Rattle.std.specs.List.{list_all, remove}
 use Rattle.std.proofs.Common.{◌≡◌, ℕ, ◌==◌, Bool, true, false, List, [], ◌∷◌, ◌++◌, length, slice_set, Option, Some, None, refl, sym, ap, subst, ◌∙◌}
 use Rattle.tks_text.proofs.Texts.{both}
 use Rattle.tks_text.specs.Text.{same_text}
 use Rattle.tks_event.specs.Equality.{equal_patterns}
+use Rattle.tks_event.specs.Sequences.{is_name}
 use Rattle.tks_event.specs.declared.pattern.Pattern.{Pattern}
 use Rattle.tks_bind.specs.declared.virtual_event.VirtualEvent.{VirtualEvent}
 use Rattle.tks_bind.specs.Distinct.{all_differ}
-use Rattle.tks_bind.specs.VirtualEvents.{is_named, has_sequence, other_sequences}
+use Rattle.tks_bind.specs.VirtualEvents.{is_named, is_of_name, has_sequence, other_sequences}
 use Rattle.tks_bind.specs.VirtualIndexes.{index_of, found}
-use Rattle.tks_bind.specs.WellFormed.{sequences_differ, is_some, is_met, names_differ, are_virtuals, AreVirtuals}
+use Rattle.tks_bind.specs.WellFormed.{sequences_differ, is_some, is_met, are_physical, is_virtual_event, names_differ, are_virtuals, AreVirtuals}
 use Rattle.tks_bind.proofs.Differing.{join, all_removed, differ_removed, all_pushed, all_set, differ_pushed, all_told, all_tested}
 
 abbrev Nothing : Option VirtualEvent
@@ -37,7 +38,7 @@ some_more s [] = refl
 some_more s (t ∷ ss) = refl
 
 -- a virtual event with one more sequence
-pub met_more : (name : List ℕ) (s : List Pattern) (ss : List (List Pattern)) → all_differ sequences_differ ss ≡ true → has_sequence s ss ≡ false
+met_more : (name : List ℕ) (s : List Pattern) (ss : List (List Pattern)) → all_differ sequences_differ ss ≡ true → has_sequence s ss ≡ false
     → is_met (record { name = name; sequences = ss ++ s ∷ [] }) ≡ true
 met_more name s ss h k = join (is_some (ss ++ s ∷ [])) (all_differ sequences_differ (ss ++ s ∷ [])) (some_more s ss) (differ_pushed sequences_differ ss s h (one_more_apart s ss k))
 
@@ -65,11 +66,41 @@ some_left [] k = absurd (let g : true ≡ false = k in cc)
 some_left (s ∷ ss) k = refl
 
 -- a virtual event with one sequence less, where some are left
-pub met_less : (name : List ℕ) (s : List Pattern) (ss left : List (List Pattern)) → all_differ sequences_differ ss ≡ true → left ≡ other_sequences s ss → (length left == 0) ≡ false
+met_less : (name : List ℕ) (s : List Pattern) (ss left : List (List Pattern)) → all_differ sequences_differ ss ≡ true → left ≡ other_sequences s ss → (length left == 0) ≡ false
     → is_met (record { name = name; sequences = left }) ≡ true
 met_less name s ss left h e k =
     let apart : all_differ sequences_differ left ≡ true = subst (λ l. all_differ sequences_differ l ≡ true) (sym e) (others_differ s ss h) in
     join (is_some left) (all_differ sequences_differ left) (some_left left k) apart
+
+-- ---- names and sequences
+
+-- a new one, with its first sequence
+pub legal_first : (name : List ℕ) (s : List Pattern) → is_name name ≡ true → is_of_name s ≡ false → is_virtual_event (record { name = name; sequences = s ∷ [] }) ≡ true
+legal_first name s n p =
+    join (is_name name) (are_physical (s ∷ []) && is_met (record { name = name; sequences = s ∷ [] })) n
+    (join (are_physical (s ∷ [])) (is_met (record { name = name; sequences = s ∷ [] })) (join (not (is_of_name s)) true (negated (is_of_name s) p) refl) refl)
+
+-- one with one more sequence
+pub legal_more : (v : VirtualEvent) (s : List Pattern) → is_virtual_event v ≡ true → has_sequence s v.sequences ≡ false → is_of_name s ≡ false
+    → is_virtual_event (record { name = v.name; sequences = v.sequences ++ s ∷ [] }) ≡ true
+legal_more v s h k p =
+    let more : VirtualEvent = record { name = v.name; sequences = v.sequences ++ s ∷ [] } in
+    let b = both (is_name v.name) (are_physical v.sequences && is_met v) h in
+    let d = both (are_physical v.sequences) (is_met v) b.1 in
+    let differ = both (is_some v.sequences) (all_differ sequences_differ v.sequences) d.1 in
+    join (is_name v.name) (are_physical more.sequences && is_met more) b.0
+    (join (are_physical more.sequences) (is_met more) (all_pushed (λ t. not (is_of_name t)) v.sequences s d.0 (negated (is_of_name s) p)) (met_more v.name s v.sequences differ.1 k))
+
+-- one with one sequence less, where some are left
+pub legal_less : (v : VirtualEvent) (s : List Pattern) (left : List (List Pattern)) → is_virtual_event v ≡ true → left ≡ other_sequences s v.sequences → (length left == 0) ≡ false
+    → is_virtual_event (record { name = v.name; sequences = left }) ≡ true
+legal_less v s left h e k =
+    let less : VirtualEvent = record { name = v.name; sequences = left } in
+    let b = both (is_name v.name) (are_physical v.sequences && is_met v) h in
+    let d = both (are_physical v.sequences) (is_met v) b.1 in
+    let differ = both (is_some v.sequences) (all_differ sequences_differ v.sequences) d.1 in
+    let physical : are_physical left ≡ true = subst (λ l. are_physical l ≡ true) (sym e) (all_others (λ t. not (is_of_name t)) s v.sequences d.0) in
+    join (is_name v.name) (are_physical left && is_met less) b.0 (join (are_physical left) (is_met less) physical (met_less v.name s v.sequences left differ.1 e k))
 
 -- ---- those of a name
 
@@ -83,9 +114,9 @@ all_found test name v (u ∷ vs) f h = by (is_named name u) refl f (both (test u
     by true e f h rest = let g : Some u ≡ Some v = rw e at f in let same : u ≡ v = cc in subst (λ x. test x ≡ true) same h.0
     by false e f h rest = rest (rw e at f) h.1
 
--- the one that is found has sequences that differ
-pub found_differs : (name : List ℕ) (v : VirtualEvent) (vs : List VirtualEvent) → found name vs ≡ Some v → AreVirtuals vs → all_differ sequences_differ v.sequences ≡ true
-found_differs name v vs f h = (both (is_some v.sequences) (all_differ sequences_differ v.sequences) (all_found is_met name v vs f (all_tested is_met vs h.met))).1
+-- the one that is found is a virtual event
+pub found_legal : (name : List ℕ) (v : VirtualEvent) (vs : List VirtualEvent) → found name vs ≡ Some v → AreVirtuals vs → is_virtual_event v ≡ true
+found_legal name v vs f h = all_found is_virtual_event name v vs f (all_tested is_virtual_event vs h.legal)
 
 -- none has the name
 none_named : (name : List ℕ) (vs : List VirtualEvent) → found name vs ≡ None → list_all (λ u. not (same_text u.name name)) vs ≡ true
@@ -120,19 +151,19 @@ renamed_apart name v w (u ∷ vs) f n h = by (is_named name u) refl f (both (lis
 
 -- one is taken out
 pub removed_apart : (vs : List VirtualEvent) (i : ℕ) → AreVirtuals vs → AreVirtuals (remove vs i)
-removed_apart vs i h = record { names = differ_removed names_differ vs i h.names; met = all_told is_met (remove vs i) (all_removed is_met vs i (all_tested is_met vs h.met)) }
+removed_apart vs i h = record { names = differ_removed names_differ vs i h.names; legal = all_told is_virtual_event (remove vs i) (all_removed is_virtual_event vs i (all_tested is_virtual_event vs h.legal)) }
 
 -- one of a new name is added
-pub pushed_apart : (v : VirtualEvent) (vs : List VirtualEvent) → found v.name vs ≡ None → is_met v ≡ true → AreVirtuals vs → AreVirtuals (vs ++ v ∷ [])
+pub pushed_apart : (v : VirtualEvent) (vs : List VirtualEvent) → found v.name vs ≡ None → is_virtual_event v ≡ true → AreVirtuals vs → AreVirtuals (vs ++ v ∷ [])
 pushed_apart v vs f m h = record {
   names = differ_pushed names_differ vs v h.names (none_named v.name vs f);
-  met = all_told is_met (vs ++ v ∷ []) (all_pushed is_met vs v (all_tested is_met vs h.met) m);
+  legal = all_told is_virtual_event (vs ++ v ∷ []) (all_pushed is_virtual_event vs v (all_tested is_virtual_event vs h.legal) m);
 }
 
 -- one takes another's place, under its name
-pub replaced_apart : (name : List ℕ) (v w : VirtualEvent) (vs : List VirtualEvent) → found name vs ≡ Some v → w.name ≡ v.name → is_met w ≡ true → AreVirtuals vs
+pub replaced_apart : (name : List ℕ) (v w : VirtualEvent) (vs : List VirtualEvent) → found name vs ≡ Some v → w.name ≡ v.name → is_virtual_event w ≡ true → AreVirtuals vs
     → AreVirtuals (slice_set vs (index_of name vs) w)
 replaced_apart name v w vs f n m h = record {
   names = renamed_apart name v w vs f n h.names;
-  met = all_told is_met (slice_set vs (index_of name vs) w) (all_set is_met vs (index_of name vs) w (all_tested is_met vs h.met) m);
+  legal = all_told is_virtual_event (slice_set vs (index_of name vs) w) (all_set is_virtual_event vs (index_of name vs) w (all_tested is_virtual_event vs h.legal) m);
 }

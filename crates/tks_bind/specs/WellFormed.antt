@@ -5,11 +5,13 @@ use Rattle.std.specs.List.{AllByRecursion, list_all}
 use Rattle.tks_mark.specs.Views as marks
 use Rattle.tks_text.specs.Text.{same_text}
 use Rattle.tks_event.specs.Equality.{equal_patterns}
+use Rattle.tks_event.specs.Sequences.{is_name}
 use Rattle.tks_event.specs.declared.pattern.Pattern.{Pattern}
 use Rattle.tks_bind.specs.declared.binding.Binding.{Binding}
 use Rattle.tks_bind.specs.declared.virtual_event.VirtualEvent.{VirtualEvent}
 use Rattle.tks_bind.specs.Binding.{Content, Views, is_for}
 use Rattle.tks_bind.specs.Distinct.{all_differ}
+use Rattle.tks_bind.specs.VirtualEvents.{is_of_name}
 
 -- whether two bindings have other numbers, and other tags or other sequences
 abbrev pub differ : Binding → Binding → Bool
@@ -47,6 +49,14 @@ is_some (s ∷ ss) = true
 abbrev pub is_met : VirtualEvent → Bool
 is_met v = is_some v.sequences && all_differ sequences_differ v.sequences
 
+-- whether none is the sequence of a virtual event
+abbrev pub are_physical : List (List Pattern) → Bool
+are_physical ss = list_all (λ s. not (is_of_name s)) ss
+
+-- whether the name is one that a virtual event may have, and there are sequences of physical events, which differ
+abbrev pub is_virtual_event : VirtualEvent → Bool
+is_virtual_event v = is_name v.name && (are_physical v.sequences && is_met v)
+
 -- whether two virtual events have other names
 abbrev pub names_differ : VirtualEvent → VirtualEvent → Bool
 names_differ v w = not (same_text v.name w.name)
@@ -58,7 +68,7 @@ are_virtuals vs = all_differ names_differ vs
 -- what holds of virtual events
 pub record AreVirtuals (vs : List VirtualEvent) : Type 0 where
   pub names : are_virtuals vs ≡ true
-  pub met : AllByRecursion (λ v. is_met v ≡ true) vs
+  pub legal : AllByRecursion (λ v. is_virtual_event v ≡ true) vs
 
 -- of those that there are, and of those that there were at the mark
 pub record WellFormedVirtuals (v : marks.Views VirtualEvent) : Type 0 where

@@ -98,7 +98,8 @@ impl Bindings {
 
     /// How many bindings there are.
     pub fn len(&self) -> usize
-        ensures { result ≡ length self.now.present.bindings }
+        ensures value { result ≡ length self.now.present.bindings }
+        ensures short { length self.now.present.bindings < 2 ^ 32 }
     {
         self.bindings.len()
     }

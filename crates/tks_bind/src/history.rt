@@ -1,5 +1,6 @@
 //! The history of events.
-ghost use Rattle.std.specs.Prelude.{◌≡◌, [], ◌++◌, ◌∷◌, length, ◌-◌, ◌≤◌, Some, None, IsSome, is_some, IfSome, IfOk, IfErr, OnOk, OnErr};
+ghost use Rattle.std.specs.Prelude.{◌≡◌, true, [], ◌++◌, ◌∷◌, length, ◌-◌, ◌≤◌, Some, None, IsSome, is_some, IfSome, IfOk, IfErr, OnOk, OnErr};
+ghost use Rattle.tks_event.specs.Legality.{is_event, AreEvents};
 ghost use Rattle.tks_bind.specs.History.{latest, with_event};
 ghost use Rattle.tks_bind.specs.Log.{trimmed, cut_at};
 
@@ -11,7 +12,7 @@ use tks_share::Copied;
 /// How many events a history holds at most.
 pub const MAX_HISTORY: usize = 32;
 
-/// The last physical events that were delivered, at most 32. It knows what it was at a mark.
+/// The last physical events that were delivered, at most 32, each one that there is. It knows what it was at a mark.
 #[derive(Drop)]
 pub struct History {
     alloc: Global,
@@ -31,7 +32,9 @@ impl Model for History {
 
     ghost view = { λ h. record { present = latest h.log.items; at_mark = then_of h.mark h.log.items } };
 
-    ghost invariant = { λ h. Within h.mark h.log.items };
+    ghost use Rattle.tks_event.specs.Legality.{AreEvents};
+
+    ghost invariant = { λ h. Within h.mark h.log.items × AreEvents h.log.items };
 }
 
 impl History {
@@ -49,6 +52,7 @@ impl History {
     /// The history of these events, the latest last, with no mark, so that one is made again from what it had. Of more
     /// than 32 events it holds the last.
     pub fn restore(alloc: Global, events: Vec<Event>) -> History
+        requires { AreEvents events.items }
         ensures { result ≡ record { present = latest events.items; at_mark = None } }
     {
         History {
@@ -63,6 +67,7 @@ impl History {
     pub fn events(&self) -> &[Event]
         ensures value { result.now ≡ self.now.present }
         ensures within { length result.now ≤ 32 }
+        ensures legal { AreEvents self.now.present }
     {
         self.log.split_at(old_count(&self.log)).1
     }
@@ -70,6 +75,7 @@ impl History {
     /// Adds an event that is delivered; where there were 32, the oldest goes. Where memory is refused, it hands the
     /// event back.
     pub fn add(&mut self, event: Event) -> Result<(), AllocFailed<Event>>
+        requires { is_event event ≡ true }
         ensures ok { OnOk result (self.new ≡ record self.old { present = with_event event self.old.present }) }
         ensures err { OnErr result (self.new ≡ self.old) }
         ensures handed_back { IfErr result (λ refused. refused.value ≡ event) }

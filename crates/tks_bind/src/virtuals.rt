@@ -1,9 +1,10 @@
 //! The virtual events.
-ghost use Rattle.std.specs.Prelude.{◌≡◌, true, [], ◌∷◌, length, Some, None, IsSome, is_some, IfSome, IfOk, OnOk, OnErr, option_copied, slice_get};
-ghost use Rattle.tks_bind.specs.VirtualEvents.{sequences_of, added, deleted, deleted_sequence};
+ghost use Rattle.std.specs.Prelude.{◌≡◌, ◌<◌, ◌^◌, true, false, [], ◌∷◌, length, Some, None, IsSome, is_some, IfSome, IfOk, OnOk, OnErr, option_copied, slice_get};
+ghost use Rattle.tks_bind.specs.VirtualEvents.{is_of_name, sequences_of, added, deleted, deleted_sequence};
 ghost use Rattle.tks_bind.specs.VirtualIndexes.{index_of, found};
 ghost use Rattle.std.specs.List.{AllByRecursion};
-ghost use Rattle.tks_bind.specs.WellFormed.{is_met, are_virtuals, WellFormedVirtuals};
+ghost use Rattle.tks_event.specs.Sequences.{is_name};
+ghost use Rattle.tks_bind.specs.WellFormed.{is_virtual_event, are_virtuals, WellFormedVirtuals};
 
 use crate::virtual_event::{VirtualEvent, has_sequence, others, with_one_more};
 use std::alloc::{AllocError, Global};
@@ -45,10 +46,10 @@ impl Virtuals {
     }
 
     /// These virtual events, in order, with no mark, so that they are made again from what there was. Their names differ,
-    /// and each has sequences, which differ.
+    /// and each has sequences of physical events, which differ.
     pub fn restore(alloc: Global, events: Vec<VirtualEvent>) -> Result<Virtuals, AllocError>
         requires names { are_virtuals events.items ≡ true }
-        requires met { AllByRecursion (λ v. is_met v ≡ true) events.items }
+        requires legal { AllByRecursion (λ v. is_virtual_event v ≡ true) events.items }
         ensures { IfOk result (λ made. made ≡ record { present = events.items; at_mark = None }) }
     {
         Ok(Virtuals {
@@ -66,7 +67,8 @@ impl Virtuals {
 
     /// How many virtual events have sequences.
     pub fn len(&self) -> usize
-        ensures { result ≡ length self.now.present }
+        ensures value { result ≡ length self.now.present }
+        ensures short { length self.now.present < 2 ^ 32 }
     {
         self.events.len()
     }
@@ -81,8 +83,10 @@ impl Virtuals {
         }
     }
 
-    /// Adds a sequence to a virtual event. One that is there stays where it is.
+    /// Adds a sequence of physical events to a virtual event. One that is there stays where it is.
     pub fn event_add(&mut self, name: &Txt, sequence: &Sequence) -> Result<(), AllocError>
+        requires name { is_name name.now ≡ true }
+        requires physical { is_of_name sequence.now ≡ false }
         ensures ok { OnOk result (self.new ≡ record self.old { present = added name.now sequence.now self.old.present }) }
         ensures err { OnErr result (self.new ≡ self.old) }
     {

@@ -12,3 +12,5 @@ pub mod Sorting
 pub mod Choices
 pub mod Digits
 pub mod Framing
+pub mod Legal
+pub mod Destroys

@@ -1,5 +1,6 @@
 //! The scripts of an event, up to their list.
-ghost use Rattle.std.specs.Prelude.{◌≡◌, None, option_copied, IfOk, OnOk};
+ghost use Rattle.std.specs.Prelude.{◌≡◌, true, None, option_copied, IfOk, OnOk};
+ghost use Rattle.tks_event.specs.Legality.{is_event};
 ghost use Rattle.tks_tree.specs.View.{window_seen};
 ghost use Rattle.tks_state.specs.Windows.{kept_of, on_kept};
 ghost use Rattle.tks_cmd.specs.Dispatch.{delivered, remembered, default_tags, tags_of, is_passed, with_more, script_of, tag_script, tag_scripts, event_scripts, begun};
@@ -17,15 +18,19 @@ use tks_tree::{Window, WindowId};
 
 // Makes of an event the one that is delivered: one of a key goes to the window that has the focus.
 fn deliver(world: &World, event: &mut Event)
-    ensures { event.new ≡ delivered world.now event.old }
+    requires { is_event event.old ≡ true }
+    ensures value { event.new ≡ delivered world.now event.old }
+    ensures legal { is_event event.new ≡ true }
 {
+    let focus = world.focus();
     if is_of_key(event.kind) {
-        event.window = world.focus().number();
+        event.window = focus.number();
     }
 }
 
 // Adds an event that is delivered to the history, where it is a physical one.
 fn remember(world: &mut World, event: &Event) -> Result<(), AllocError>
+    requires { is_event event.now ≡ true }
     ensures { OnOk result (world.new ≡ remembered event.now world.old) }
 {
     if !is_virtual(event.kind) {
@@ -174,6 +179,7 @@ fn event_scripts(
 /// scripts would pass the limit of a text, and `NoMemory`; after them nothing is said of the world.
 #[tactic(auto, unfolding(crate::specs::Dispatch::begun))]
 pub fn begin(alloc: Global, world: &mut World, event: Event, limits: &Limits) -> Result<Plan, Stop>
+    requires { is_event event ≡ true }
     ensures { LimitsSo (λ p. (p, world.new)) result (begun limits.now world.old event) }
 {
     let mut event = event;

@@ -1,7 +1,8 @@
 //! `event generate`.
-ghost use Rattle.std.specs.Prelude.{◌≡◌, Some, None, if◌then◌else◌, IfOk};
+ghost use Rattle.std.specs.Prelude.{◌≡◌, true, Some, None, if◌then◌else◌, IfOk};
 ghost use Rattle.tks_tcl.specs.Cause.{about};
 ghost use Rattle.tks_tcl.specs.Meets.{GivesSo, TellsSo};
+ghost use Rattle.tks_event.specs.Legality.{is_event};
 ghost use Rattle.tks_cmd.specs.Dispatch.{begun};
 ghost use Rattle.tks_cmd.specs.Events.{time_of, state_of, place_of, when_of, option_named, with_field, with_field_option, is_when, when_given, with_option, with_options, has_detail, first_state, first_time, first_event, is_incomplete, complete, event_of, event_read, sent, generated, generate_does};
 ghost use Rattle.tks_cmd.specs.Meets.{KeepsSo};
@@ -340,6 +341,7 @@ fn deliver(
     event: Event,
     limits: &Limits,
 ) -> Result<Plan, Interrupt>
+    requires { is_event event ≡ true }
     ensures value { GivesSo (λ p. (p, world.new)) result (begun limits.now world.old event) }
     ensures kept { KeepsSo result world.old world.new }
 {
@@ -352,6 +354,7 @@ fn deliver(
 }
 
 // Delivers an event at once, or puts it into the queue.
+#[tactic(auto, using(tks_state::proofs::Legal::in_some_window))]
 fn send(
     alloc: Global,
     world: &mut World,
@@ -359,6 +362,7 @@ fn send(
     event: Event,
     limits: &Limits,
 ) -> Result<Plan, Interrupt>
+    requires { is_event event ≡ true }
     ensures value { GivesSo (λ p. (p, world.new)) result (sent limits.now world.old when event) }
     ensures kept { KeepsSo result world.old world.new }
 {

@@ -1,5 +1,6 @@
 //! Widgets that are linked to globals.
 ghost use Rattle.std.specs.Prelude.{◌≡◌, Ok, Some, OnErr, IfOk};
+ghost use Rattle.tks_text.specs.Text.{same_text};
 ghost use Rattle.tks_tcl.specs.Cause.{within};
 ghost use Rattle.tks_tcl.specs.Meets.{GivesSo};
 ghost use Rattle.tks_vars.specs.Variables.{global_value_of};
@@ -53,6 +54,13 @@ fn make_global(
     Ok(())
 }
 
+// Whether two texts are the same.
+fn is_same(text: &Txt, other: &Txt) -> bool
+    ensures { result ≡ same_text text.now other.now }
+{
+    text.as_bytes() == other.as_bytes()
+}
+
 // Tells a global what became of the text of a widget that is linked to it.
 fn tell(
     alloc: Global,
@@ -69,12 +77,12 @@ fn tell(
         make_global(variables, name, text, limits)?;
         return Ok(());
     };
-    if link.as_bytes() != name.as_bytes() {
+    if !is_same(link, name) {
         make_global(variables, name, text, limits)?;
         return Ok(());
     }
     let before = widget.seen(alloc, variables)?.copied_text(alloc)?;
-    if before.as_bytes() != text.as_bytes() {
+    if !is_same(&before, &text) {
         set_global(variables, name, text, limits)?;
     }
     Ok(())

@@ -1,5 +1,5 @@
 //! The forms of `pack`.
-ghost use Rattle.std.specs.Prelude.{◌≡◌, ◌≤◌, ◌++◌, ◌∷◌, length, IfOk, OnOk};
+ghost use Rattle.std.specs.Prelude.{◌≡◌, ◌≤◌, ◌^◌, ◌++◌, ◌∷◌, length, IfOk, OnOk};
 ghost use Rattle.tks_tcl.specs.Words.{truth_text};
 ghost use Rattle.tks_tcl.specs.Meets.{GivesSo};
 ghost use Rattle.tks_text.specs.Truth.{truth_of_word};
@@ -18,7 +18,8 @@ use tks_tree::{Tree, WindowId};
 
 /// The window of a path, which must be there.
 pub fn window_of(world: &World, path: &Txt) -> Result<WindowId, Interrupt>
-    ensures { GivesSo (λ id. id) result (window_of world.now path.now) }
+    ensures value { GivesSo (λ id. id) result (window_of world.now path.now) }
+    ensures bound { IfOk result (λ id. id ≤ 2 ^ 62) }
 {
     let id = world.tree().resolve(path)?;
     Ok(id)

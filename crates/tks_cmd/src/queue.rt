@@ -1,6 +1,7 @@
 //! Events that are put into the queue.
-ghost use Rattle.std.specs.Prelude.{◌≡◌};
+ghost use Rattle.std.specs.Prelude.{◌≡◌, true};
 ghost use Rattle.tks_tcl.specs.Meets.{GivesSo};
+ghost use Rattle.tks_state.specs.EventLoop.{is_event_in_some_window};
 ghost use Rattle.tks_cmd.specs.Queue.{waiting, queue_within, put_within};
 ghost use Rattle.tks_cmd.specs.Meets.{KeepsSo};
 
@@ -33,7 +34,9 @@ fn check_queue(world: &World, limits: &Limits) -> Result<(), Interrupt>
 }
 
 /// Puts an event into its place in the queue. One of a key waits under `.`. No error comes of it.
+#[tactic(auto, using(crate::proofs::Legal::waits_legal))]
 pub fn put(world: &mut World, place: Place, event: Event, limits: &Limits) -> Result<(), Interrupt>
+    requires { is_event_in_some_window event ≡ true }
     ensures value { GivesSo (λ _. world.new) result (put_within limits.now place event world.old) }
     ensures kept { KeepsSo result world.old world.new }
 {

@@ -1,8 +1,11 @@
 //! `event add`, `event delete` and `event info`.
-ghost use Rattle.std.specs.Prelude.{◌≡◌, IfOk, OnOk};
+ghost use Rattle.std.specs.Prelude.{◌≡◌, true, false, IfOk, OnOk};
+ghost use Rattle.std.specs.List.{AllByRecursion};
 ghost use Rattle.tks_tcl.specs.Cause.{about};
 ghost use Rattle.tks_tcl.specs.Meets.{GivesSo, TellsSo};
+ghost use Rattle.tks_bind.specs.VirtualEvents.{is_of_name};
 ghost use Rattle.tks_event.specs.Canonical.{virtual_text};
+ghost use Rattle.tks_event.specs.Sequences.{is_name};
 ghost use Rattle.tks_cmd.specs.VirtualEvents.{name_in, name_read, physical_in, physical_read, all_read, with_all, virtuals_within, added, add_does, without_all, deleted, delete_does, names, spelled, names_text, sequences_text, info_does};
 ghost use Rattle.tks_cmd.specs.Meets.{KeepsSo};
 
@@ -67,6 +70,8 @@ fn all_read(alloc: Global, texts: &[Txt]) -> Result<Seq<Sequence>, Interrupt>
 
 // Adds sequences to a virtual event, one after the other.
 fn add_all(world: &mut World, name: &Txt, sequences: &[Sequence]) -> Result<(), AllocError>
+    requires name { is_name name.now ≡ true }
+    requires physical { AllByRecursion (λ s. is_of_name s ≡ false) sequences.now }
     ensures { OnOk result (world.new ≡ with_all name.now sequences.now world.old) }
 {
     for sequence in sequences {
@@ -89,6 +94,7 @@ fn check_virtuals(world: &World, name: &Txt, limits: &Limits) -> Result<(), Inte
 }
 
 // Adds sequences to the virtual event of a name.
+#[tactic(auto, using(crate::proofs::Legal::name_legal, crate::proofs::Legal::all_physical))]
 fn add(
     alloc: Global,
     name: &Txt,

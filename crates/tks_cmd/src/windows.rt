@@ -1,8 +1,11 @@
 //! Making and destroying windows.
-ghost use Rattle.std.specs.Prelude.{◌≡◌, true, IfOk, OnOk};
+ghost use Rattle.std.specs.Prelude.{◌≡◌, true, Ok, IfOk};
 ghost use Rattle.std.specs.List.{list_all};
+ghost use Rattle.tks_text.specs.Fault.{Gives};
 ghost use Rattle.tks_tcl.specs.Cause.{after};
 ghost use Rattle.tks_tcl.specs.Meets.{GivesSo};
+ghost use Rattle.tks_state.specs.Widget.{class_of};
+ghost use Rattle.tks_tree.specs.WellFormed.{is_widget_class};
 ghost use Rattle.tks_tree.specs.Windows.{free_path};
 ghost use Rattle.tks_cmd.specs.Changes.{creation, outcome};
 ghost use Rattle.tks_cmd.specs.Windows.{are_paired, kind_named, first_widget, new_widget, added, room, made, make_does, is_other, without_path, without_all, destroy_does};
@@ -18,7 +21,7 @@ use tks_lines::TextWidget;
 use tks_listbox::ListWidget;
 use tks_state::{Widget, World};
 use tks_tcl::{Interrupt, wrong_words};
-use tks_text::{Class, ErrorNumber, Limits, ScriptFault, Txt};
+use tks_text::{Class, ErrorNumber, Failure, Limits, ScriptFault, Txt};
 use tks_tree::{CreateFault, Tree};
 use tks_vars::Vars;
 
@@ -60,8 +63,10 @@ impl WindowKind {
     }
 
     // A window of this kind as it is at first.
+    #[tactic(auto, using(crate::proofs::Legal::first_class))]
     fn first_widget(self, alloc: Global, path: &Txt) -> Result<Widget, AllocError>
-        ensures { IfOk result (λ v. v ≡ first_widget self path.now) }
+        ensures value { IfOk result (λ v. v ≡ first_widget self path.now) }
+        ensures class { IfOk result (λ v. is_widget_class (class_of v) ≡ true) }
     {
         match self {
             WindowKind::Frame => Ok(Widget::Frame(Frame::new(alloc, path)?)),
@@ -88,7 +93,8 @@ impl WindowKind {
         variables: &mut Vars,
         limits: &Limits,
     ) -> Result<Widget, Interrupt>
-        ensures { GivesSo (λ v. (v, variables.new)) result (new_widget limits.now self path.now options.now variables.old) }
+        ensures value { GivesSo (λ v. (v, variables.new)) result (new_widget limits.now self path.now options.now variables.old) }
+        ensures class { IfOk result (λ v. is_widget_class (class_of v) ≡ true) }
     {
         let first = self.first_widget(alloc, path)?;
         let widget = configure(alloc, options, first, variables, limits)?;
@@ -153,6 +159,7 @@ fn add_window(
     widget: Widget,
     limits: &Limits,
 ) -> Result<(), Interrupt>
+    requires { is_widget_class (class_of widget) ≡ true }
     ensures value { GivesSo (λ _. world.new) result (after (room limits.now world.old) (λ _. added world.old path.now widget)) }
     ensures kept { KeepsSo result world.old world.new }
 {
@@ -219,25 +226,21 @@ fn are_others(paths: &[Txt]) -> bool
 }
 
 // Destroys the window of a path, with all that stand in it, where there is one.
-fn destroy(world: &mut World, path: &Txt) -> Result<(), AllocError>
+fn destroy(world: &mut World, path: &Txt) -> Result<(), Failure>
     requires { is_other path.now ≡ true }
-    ensures { OnOk result (world.new ≡ without_path world.old path.now) }
+    ensures { Gives (λ _. world.new) result (Ok (without_path world.old path.now)) }
 {
     let Some(window) = world.tree().find(path) else {
         return Ok(());
     };
     let id = window.id;
-    match world.remove_window(id) {
-        Ok(()) => Ok(()),
-        // `.` alone would be an error.
-        Err(_) => Err(AllocError),
-    }
+    world.remove_window(id)
 }
 
 // Destroys the windows of paths, one after the other.
-fn destroy_all(world: &mut World, paths: &[Txt]) -> Result<(), AllocError>
+fn destroy_all(world: &mut World, paths: &[Txt]) -> Result<(), Failure>
     requires { list_all is_other paths.now ≡ true }
-    ensures { OnOk result (world.new ≡ without_all world.old paths.now) }
+    ensures { Gives (λ _. world.new) result (Ok (without_all world.old paths.now)) }
 {
     for path in paths {
         destroy(world, path)?;

@@ -9,3 +9,4 @@ pub mod Canonical
 pub mod Equality
 pub mod Held
 pub mod Numbers
+pub mod Legality

@@ -9,6 +9,7 @@ mod keysym;
 mod kind;
 mod laws;
 mod lead;
+mod legality;
 mod modifiers;
 mod parsing;
 mod pattern;
@@ -27,6 +28,7 @@ pub use kind::{Kind, is_button};
 pub use laws::{
     canonical_reads_back, canonical_spells, kinds_have_numbers, one_pattern, one_sequence,
 };
+pub use legality::is_event;
 pub use modifiers::{Modifier, Modifiers};
 pub use parsing::{parse_pattern, parse_sequence};
 pub use pattern::{Pattern, Repeated};

@@ -1,5 +1,6 @@
 ghost use Rattle.std.specs.Prelude.{◌≡◌, ◌∷◌, [], IfOk, OnErr};
 ghost use Rattle.tks_text.specs.Fault.{Gives};
+ghost use Rattle.tks_text.specs.Short.{IsShort};
 ghost use Rattle.tks_text.specs.declared.class.Class.TheVariants as class;
 ghost use Rattle.tks_opt.specs.Options.{configured};
 ghost use Rattle.tks_lines.specs.Lines.{Formed, first_mark, first_lines};
@@ -77,7 +78,8 @@ impl TextWidget {
 
     /// Its tags, in the order in which they were made.
     pub fn tags(&self) -> &[Tag]
-        ensures { result.now ≡ self.now.tags }
+        ensures value { result.now ≡ self.now.tags }
+        ensures short { IsShort self.now.tags }
     {
         self.tags.as_slice()
     }
@@ -85,6 +87,7 @@ impl TextWidget {
     /// Its marks: `insert`, then the others in the order in which they were made. None is behind the last newline.
     pub fn marks(&self) -> &[Mark]
         ensures value { result.now ≡ self.now.marks }
+        ensures short { IsShort self.now.marks }
         ensures formed { Formed self.now }
     {
         self.marks.as_slice()

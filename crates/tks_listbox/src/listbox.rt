@@ -1,5 +1,6 @@
 ghost use Rattle.std.specs.Prelude.{◌≡◌, ◌≤◌, ◌<◌, ◌^◌, length, IfOk, OnOk, OnErr};
 ghost use Rattle.tks_text.specs.Fault.{Gives};
+ghost use Rattle.tks_text.specs.Short.{IsShort};
 ghost use Rattle.tks_text.specs.declared.class.Class.TheVariants as class;
 ghost use Rattle.tks_opt.specs.Options.{configured};
 ghost use Rattle.tks_listbox.specs.Listbox.{first_listbox, HasActive, has_active, restored, index_in, last_of, rounded, front_of, behind_of, is_editable, moved_on, moved_back, inserted, deleted, activated, selected};
@@ -155,7 +156,8 @@ impl ListWidget {
 
     /// Its items.
     pub fn items(&self) -> &[Item]
-        ensures { result.now ≡ self.now.items }
+        ensures value { result.now ≡ self.now.items }
+        ensures short { IsShort self.now.items }
     {
         self.items.as_slice()
     }

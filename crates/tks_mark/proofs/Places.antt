@@ -111,6 +111,12 @@ module _ {X : Type 0} where
   pub removed_clean : (marked : Bool) (slots : List (Slot X)) (p : ℕ) → marked ≡ false → AllClean slots → AllClean (without_place marked slots p)
   removed_clean marked slots p e h = rw e (went_clean slots p h)
 
+  pub went_few : (marked : Bool) (slots : List (Slot X)) (p : ℕ) → length (without_place marked slots p) ≤ length slots
+  went_few marked [] p = omega arith
+  went_few true (s ∷ slots) zero = omega arith
+  went_few false (s ∷ slots) zero = omega arith
+  went_few marked (s ∷ slots) (suc p) = let h = went_few marked slots p in omega (arith, h)
+
   pub marked_gone : (slots : List (Slot X)) (p : ℕ) (s : Slot X) → s ≡ slice_index_or slots p s
       → slice_set slots p (record s { is_gone = true }) ≡ without_place true slots p
   marked_gone [] p s e = refl

@@ -1,6 +1,6 @@
 -- What is kept of places.
 use Rattle.std.specs.List.{filter}
-use Rattle.std.proofs.Common.{◌≡◌, ℕ, ◌==◌, append_assoc, Bool, true, false, cond, not, sym, subst, List, [], ◌∷◌, ◌++◌, length, suc, Some, None, IfSome, refl, ap, ◌∙◌}
+use Rattle.std.proofs.Common.{◌≡◌, ℕ, ◌≤◌, ◌==◌, arith, append_assoc, Bool, true, false, cond, not, sym, subst, List, [], ◌∷◌, ◌++◌, length, suc, Some, None, IfSome, refl, ap, ◌∙◌}
 use Rattle.std.specs.List.Retain.{RetainsInTurn}
 use Rattle.tks_mark.specs.declared.slot.Slot.{Slot}
 use Rattle.tks_mark.specs.Views.{Views, new_slot, now_in, then_in, present_of, then_of, at_mark_of, gone_back, gone_on, kept, restored, settled, AllClean, Clean, stays_without, struck}
@@ -75,6 +75,34 @@ module _ {X : Type 0} (number_of : X → ℕ) (n : ℕ) where
 
   pub struck_clean : (marked : Bool) (slots : List (Slot X)) → marked ≡ false → AllClean slots → AllClean (kept (stays_without number_of marked n) (struck number_of n) slots)
   struck_clean marked slots e h = rw e (clean_left slots h)
+
+-- ---- how many places are left
+
+module _ {X : Type 0} where
+  pub kept_few : (stays : Slot X → Bool) (change : Slot X → Slot X) (slots : List (Slot X)) → length (kept stays change slots) ≤ length slots
+  kept_few stays change [] = omega arith
+  kept_few stays change (s ∷ slots) = by (stays s) (kept_few stays change slots)
+    where
+      by : (b : Bool) → length (kept stays change slots) ≤ length slots
+          → length (cond b (change s ∷ kept stays change slots) (kept stays change slots)) ≤ suc (length slots)
+      by true h = omega (arith, h)
+      by false h = omega (arith, h)
+
+  pub back_few : (changed : Bool) (slots : List (Slot X)) → length (gone_back changed slots) ≤ length slots
+  back_few true slots = kept_few (λ s. not s.is_new) restored slots
+  back_few false slots = omega arith
+
+  pub on_few : (changed : Bool) (slots : List (Slot X)) → length (gone_on changed slots) ≤ length slots
+  on_few true slots = kept_few (λ s. not s.is_gone) settled slots
+  on_few false slots = omega arith
+
+  pub present_few : (slots : List (Slot X)) → length (present_of slots) ≤ length slots
+  present_few [] = omega arith
+  present_few (s ∷ slots) = by s.is_gone (present_few slots)
+    where
+      by : (b : Bool) → length (present_of slots) ≤ length slots → length (cond b [] (s.item ∷ []) ++ present_of slots) ≤ suc (length slots)
+      by true h = omega (arith, h)
+      by false h = omega (arith, h)
 
 module _ {X : Type 0} where
   pub restored_present : (slots : List (Slot X)) → present_of (kept (λ s. not s.is_new) restored slots) ≡ then_of slots

@@ -1,5 +1,5 @@
 -- A list, and what it was at a mark (this project's own).
-use Rattle.std.specs.Prelude.{◌≡◌, ℕ, zero, suc, ◌==◌, ◌||◌, not, Bool, true, false, if◌then◌else◌, List, [], ◌∷◌, ◌++◌, Option, Some, None}
+use Rattle.std.specs.Prelude.{◌≡◌, ℕ, zero, suc, ◌<◌, ◌^◌, ◌==◌, ◌||◌, not, Bool, true, false, if◌then◌else◌, List, [], ◌∷◌, ◌++◌, length, Option, Some, None}
 use Rattle.std.specs.List.{AllByRecursion}
 use Rattle.tks_mark.specs.declared.slot.Slot.{Slot}
 
@@ -35,10 +35,12 @@ pub record Clean {X : Type 0} (s : Slot X) : Type 0 where
 abbrev pub AllClean : {X : Type 0} → List (Slot X) → Type 0
 AllClean slots = AllByRecursion Clean slots
 
--- where nothing was changed since the mark, each place was as it is; without a mark nothing was
+-- where nothing was changed since the mark, each place was as it is; without a mark nothing was; and there are so few places
+-- that neither list is longer than one that is kept may be
 pub record Tidy {X : Type 0} (marked changed : Bool) (slots : List (Slot X)) : Type 0 where
   pub clean : changed ≡ false → AllClean slots
   pub unchanged : marked ≡ false → changed ≡ false
+  pub few : length slots < 2 ^ 32
 
 -- the place of an item that comes now
 abbrev pub new_slot : {X : Type 0} → Bool → X → Slot X

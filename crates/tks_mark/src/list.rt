@@ -1,5 +1,5 @@
 ghost use Rattle.std.specs.Prelude.{◌≡◌, ◌++◌, [], ◌∷◌, ◌==◌, ◌&&◌, ◌||◌, not, length, Some, None, IsSome, is_some, IfSome, IfOk, OnOk, OnErr, IfErr};
-ghost use Rattle.std.specs.Prelude.{ℕ, ◌+◌, ◌<◌, ◌≤◌, slice_set};
+ghost use Rattle.std.specs.Prelude.{ℕ, ◌+◌, ◌<◌, ◌≤◌, ◌^◌, slice_set};
 ghost use Rattle.std.specs.List.{filter, insert, remove};
 ghost use Rattle.tks_mark.specs.Views.{Views, present_of, new_slot, place_in, without_place, gone_back, gone_on, kept, restored, settled, stays_without, struck};
 
@@ -9,8 +9,11 @@ use std::alloc::{AllocError, AllocFailed, Global};
 use std::marker::Model;
 use tks_share::{Copied, Numbered, copies_of};
 
-/// A list that knows what it was at a mark. Contracts see what it is now, and, where a mark stands, what it was
-/// at the mark.
+/// The most items that a list has, with those that it had at the mark.
+const MAX_LEN: usize = 4_294_967_295;
+
+/// A list of fewer than 2^32 items that knows what it was at a mark. Contracts see what it is now, and, where a mark stands,
+/// what it was at the mark.
 #[derive(Drop)]
 pub struct Marked<T> {
     slots: Vec<Slot<T>>,
@@ -50,7 +53,8 @@ impl<T> Marked<T> {
 
     /// How many items stand now.
     pub fn len(&self) -> usize
-        ensures { result ≡ length self.now.present }
+        ensures value { result ≡ length self.now.present }
+        ensures short { length self.now.present < 2 ^ 32 }
     {
         count(&self.slots)
     }
@@ -83,22 +87,29 @@ impl<T: Drop> Marked<T> {
         Ok(list)
     }
 
-    /// Adds an item at the end.
+    /// Adds an item at the end. One too many is refused as memory is.
     pub fn push(&mut self, item: T) -> Result<(), AllocError>
         ensures ok { OnOk result (self.new ≡ record self.old { present = self.old.present ++ item ∷ [] }) }
         ensures err { OnErr result (self.new ≡ self.old) }
     {
+        if self.slots.len() >= MAX_LEN {
+            return Err(AllocError);
+        }
         self.slots.push(new_slot(item, self.is_marked))?;
         self.is_changed = self.is_marked;
         Ok(())
     }
 
-    /// Adds an item before the one at an index, or at the end. Where memory is refused, it hands the item back.
+    /// Adds an item before the one at an index, or at the end. Where memory is refused, or it is one too many, it hands the item
+    /// back.
     pub fn insert(&mut self, index: usize, item: T) -> Result<(), AllocFailed<T>>
         ensures ok { OnOk result (self.new ≡ record self.old { present = insert self.old.present index item }) }
         ensures err { OnErr result (self.new ≡ self.old) }
         ensures handed_back { IfErr result (λ refused. refused.value ≡ item) }
     {
+        if self.slots.len() >= MAX_LEN {
+            return Err(AllocFailed { value: item });
+        }
         let place = place_in(&self.slots, index);
         match self.slots.insert(place, new_slot(item, self.is_marked)) {
             Ok(()) => {

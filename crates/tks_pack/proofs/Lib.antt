@@ -9,3 +9,4 @@ pub mod Noted
 pub mod Overtakes
 pub mod Ready
 pub mod Sized
+pub mod Padded

@@ -1,11 +1,12 @@
 -- The options of pack (pack(n)) and what their words stand for. That only whole words stand for sides and
--- fills, and that paddings are 0 to 1000 cells, is this project's own rule.
+-- fills is this project's own rule.
 use Rattle.std.specs.Prelude.{ℕ, false, codes, List, [], ◌∷◌, Option, Some, None, option_map, Result, Ok, Err}
 use Rattle.tks_text.specs.Fault.{fault_about}
 use Rattle.tks_text.specs.declared.fault.ErrorNumber.TheVariants.{UnknownOption, BadValue}
 use Rattle.tks_text.specs.declared.fault.ScriptFault.{ScriptFault}
 use Rattle.tks_opt.specs.Values.{named_in, number_within, boolean, anchor_named}
 use Rattle.tks_opt.specs.declared.anchor.Anchor.TheVariants as anchor
+use Rattle.tks_pack.specs.Padding.{max_padding}
 use Rattle.tks_pack.specs.declared.settings.Settings.{Settings}
 use Rattle.tks_pack.specs.declared.options.PackOption.{PackOption}
 use Rattle.tks_pack.specs.declared.options.PackOption.TheVariants as option
@@ -32,10 +33,6 @@ fills = (codes "none", fill.Neither) ∷ (codes "x", fill.X) ∷ (codes "y", fil
 
 abbrev pub fill_of : List ℕ → Option Fill
 fill_of text = named_in fills text
-
--- the greatest padding
-abbrev pub max_padding : ℕ
-max_padding = 1000
 
 abbrev pub padding_of : List ℕ → Option ℕ
 padding_of text = number_within 0 max_padding text

@@ -8,6 +8,7 @@ mod note;
 mod options;
 mod overtaking;
 mod packing;
+mod padding;
 mod settings;
 mod share;
 mod stretch;
@@ -19,4 +20,5 @@ pub use laws::{
 };
 pub use options::with_options;
 pub use packing::{Content, Packing, Requests};
+pub use padding::Padding;
 pub use settings::{Fill, Settings, Side};

@@ -2,6 +2,7 @@ ghost use Rattle.std.specs.Prelude.{◌≡◌, drop};
 ghost use Rattle.tks_text.specs.Fault.{Gives};
 ghost use Rattle.tks_pack.specs.Settings.{side_of, fill_of, padding_of, option_of, changed, with_option, with_options};
 
+use crate::padding::Padding;
 use crate::settings::{Fill, Settings, Side};
 use std::alloc::Global;
 use tks_opt::{Anchor, boolean_of, number_within};
@@ -19,9 +20,6 @@ pub enum PackOption {
     InnerPadX,
     InnerPadY,
 }
-
-/// The greatest padding, in cells.
-const MAX_PADDING: u16 = 1000;
 
 fn side_of(value: &[u8]) -> Option<Side>
     ensures { result ≡ side_of value.now }
@@ -55,10 +53,13 @@ fn fill_of(value: &[u8]) -> Option<Fill>
     }
 }
 
-fn padding_of(value: &Txt) -> Option<u16>
+fn padding_of(value: &Txt) -> Option<Padding>
     ensures { result ≡ padding_of value.now }
 {
-    number_within(0, MAX_PADDING, value)
+    match number_within(0, Padding::MAX, value) {
+        Some(cells) => Some(Padding::of(cells)),
+        None => None,
+    }
 }
 
 fn option_of(name: &[u8]) -> Option<PackOption>

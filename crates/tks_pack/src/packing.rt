@@ -1,4 +1,5 @@
 ghost use Rattle.std.specs.Prelude.{◌≡◌, ◌==◌, length, position, map, IfOk, OnOk, OnErr};
+ghost use Rattle.tks_text.specs.Short.{IsShort};
 ghost use Rattle.tks_pack.specs.Meets.{PacksSo};
 ghost use Rattle.tks_pack.specs.Packing.{nothing_packed, settings_of, put, packed, forgotten, area, areas, horizontals, verticals, places, requested};
 
@@ -9,7 +10,7 @@ use crate::settings::Settings;
 use crate::stretch::Stretch;
 use std::alloc::{AllocError, Global};
 use std::marker::Model;
-use tks_text::{ErrorNumber, Failure, ScriptFault, Txt};
+use tks_text::{ErrorNumber, Failure, ScriptFault, Seq, Txt};
 use tks_tree::WindowId;
 
 /// A packed window, and how it is packed.
@@ -36,7 +37,7 @@ pub trait Requests {
 #[derive(Drop)]
 pub struct Packing {
     alloc: Global,
-    contents: Vec<Content>,
+    contents: Seq<Content>,
     propagates: bool,
 }
 
@@ -45,7 +46,7 @@ impl Model for Packing {
 
     ghost Value = { Packed };
 
-    ghost view = { λ p. record { contents = p.contents.items; propagates = p.propagates } };
+    ghost view = { λ p. record { contents = p.contents; propagates = p.propagates } };
 }
 
 // Where a window stands among contents.
@@ -67,15 +68,26 @@ fn settings_of(contents: &[Content], window: WindowId) -> Settings
 }
 
 // Puts a content in the place of the window's present one, or behind all where it has none.
-fn put(contents: &mut Vec<Content>, content: Content) -> Result<(), AllocError>
-    ensures ok { OnOk result (contents.new.items ≡ put content.window content.settings contents.old.items) }
-    ensures err { OnErr result (contents.new.items ≡ contents.old.items) }
+fn put(contents: &mut Seq<Content>, content: Content) -> Result<(), AllocError>
+    ensures ok { OnOk result (contents.new ≡ put content.window content.settings contents.old) }
+    ensures err { OnErr result (contents.new ≡ contents.old) }
 {
-    match position(contents, content.window) {
-        Some(index) => contents[index] = content,
+    match position(contents.as_slice(), content.window) {
+        Some(index) => contents.set(index, content),
         None => contents.push(content)?,
     }
     Ok(())
+}
+
+// Equal contents.
+fn copied(alloc: Global, contents: &[Content]) -> Result<Seq<Content>, AllocError>
+    ensures { IfOk result (λ copy. copy ≡ contents.now) }
+{
+    let mut copy = Seq::new(alloc);
+    for content in contents {
+        copy.push(*content)?;
+    }
+    Ok(copy)
 }
 
 // A window's cells by its places along the axes.
@@ -152,14 +164,14 @@ impl Packing {
     {
         Packing {
             alloc,
-            contents: Vec::new(alloc),
+            contents: Seq::new(alloc),
             propagates: true,
         }
     }
 
     /// The packing with these contents, in order, so that one is made again from what it had.
-    pub fn restore(alloc: Global, contents: Vec<Content>, propagates: bool) -> Packing
-        ensures { result ≡ record { contents = contents.items; propagates = propagates } }
+    pub fn restore(alloc: Global, contents: Seq<Content>, propagates: bool) -> Packing
+        ensures { result ≡ record { contents = contents; propagates = propagates } }
     {
         Packing {
             alloc,
@@ -170,7 +182,8 @@ impl Packing {
 
     /// The packed windows in order, with their settings.
     pub fn contents(&self) -> &[Content]
-        ensures { result.now ≡ self.now.contents }
+        ensures value { result.now ≡ self.now.contents }
+        ensures short { IsShort self.now.contents }
     {
         self.contents.as_slice()
     }
@@ -195,7 +208,7 @@ impl Packing {
     {
         Ok(Packing {
             alloc: self.alloc,
-            contents: Vec::from_slice(self.alloc, self.contents.as_slice())?,
+            contents: copied(self.alloc, self.contents.as_slice())?,
             propagates: self.propagates,
         })
     }
@@ -216,7 +229,7 @@ impl Packing {
                 subject: None,
             }));
         }
-        let settings = settings_of(&self.contents, window);
+        let settings = settings_of(self.contents.as_slice(), window);
         let settings = with_options(self.alloc, settings, options)?;
         put(&mut self.contents, Content { window, settings })?;
         Ok(())
@@ -226,7 +239,7 @@ impl Packing {
     pub fn forget(&mut self, window: WindowId)
         ensures { self.new ≡ forgotten window self.old }
     {
-        if let Some(index) = position(&self.contents, window) {
+        if let Some(index) = position(self.contents.as_slice(), window) {
             self.contents.remove(index);
         }
     }
@@ -241,7 +254,7 @@ impl Packing {
         }
         let mut across = Reach::new();
         let mut down = Reach::new();
-        for content in &self.contents {
+        for content in self.contents.as_slice() {
             let size = requests.requested(content.window);
             across = across.past(&Stretch::horizontal(&content.settings, size));
             down = down.past(&Stretch::vertical(&content.settings, size));
@@ -261,8 +274,8 @@ impl Packing {
     ) -> Result<Vec<Option<Area>>, AllocError>
         ensures { IfOk result (λ v. v.items ≡ places (R.size requests.now) container self.now.contents) }
     {
-        let across = horizontals(self.alloc, &self.contents, requests)?;
-        let down = verticals(self.alloc, &self.contents, requests)?;
+        let across = horizontals(self.alloc, self.contents.as_slice(), requests)?;
+        let down = verticals(self.alloc, self.contents.as_slice(), requests)?;
         let across = spans(self.alloc, &across, container.width)?;
         let down = spans(self.alloc, &down, container.height)?;
         let areas = areas(self.alloc, &across, &down)?;

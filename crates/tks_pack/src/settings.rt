@@ -1,6 +1,7 @@
 ghost use Rattle.std.specs.Prelude.{◌≡◌};
 ghost use Rattle.tks_pack.specs.Numbers.{side_number, side_numbered, fill_number, fill_numbered};
 
+use crate::padding::Padding;
 use tks_opt::Anchor;
 
 /// The side of the cavity that a window is packed against (pack(n), `-side`).
@@ -30,13 +31,13 @@ pub struct Settings {
     /// Where the window stands in its parcel.
     pub anchor: Anchor,
     /// Left free on the left and on the right of the window each.
-    pub padx: u16,
+    pub padx: Padding,
     /// Left free above and below the window each.
-    pub pady: u16,
+    pub pady: Padding,
     /// Added to the window's requested size on the left and on the right each.
-    pub ipadx: u16,
+    pub ipadx: Padding,
     /// Added to the window's requested size above and below each.
-    pub ipady: u16,
+    pub ipady: Padding,
 }
 
 impl Side {
@@ -105,10 +106,10 @@ impl Settings {
             fill: Fill::Neither,
             expand: false,
             anchor: Anchor::Center,
-            padx: 0,
-            pady: 0,
-            ipadx: 0,
-            ipady: 0,
+            padx: Padding::of(0),
+            pady: Padding::of(0),
+            ipadx: Padding::of(0),
+            ipady: Padding::of(0),
         }
     }
 }

@@ -87,8 +87,8 @@ impl Stretch {
             fills: fills_horizontally(settings.fill),
             alignment: settings.anchor.horizontal(),
             requested: size.width,
-            inner_padding: settings.ipadx,
-            padding: settings.padx,
+            inner_padding: settings.ipadx.cells(),
+            padding: settings.padx.cells(),
         }
     }
 
@@ -102,8 +102,8 @@ impl Stretch {
             fills: fills_vertically(settings.fill),
             alignment: settings.anchor.vertical(),
             requested: size.height,
-            inner_padding: settings.ipady,
-            padding: settings.pady,
+            inner_padding: settings.ipady.cells(),
+            padding: settings.pady.cells(),
         }
     }
 

@@ -1,2 +1,3 @@
 pub mod EventQueue
 pub mod Index
+pub mod Legal

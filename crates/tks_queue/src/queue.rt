@@ -1,5 +1,7 @@
-ghost use Rattle.std.specs.Prelude.{◌≡◌, ◌<◌, length, Some, None, [], IsSome, is_some, IfSome, IfOk, IfErr, OnOk, OnErr};
+ghost use Rattle.std.specs.Prelude.{◌≡◌, ◌<◌, ◌^◌, true, length, Some, None, [], IsSome, is_some, IfSome, IfOk, IfErr, OnOk, OnErr};
 ghost use Rattle.std.specs.List.{remove};
+ghost use Rattle.tks_event.specs.Legality.{is_event};
+ghost use Rattle.tks_queue.specs.Legal.{AreLegal};
 ghost use Rattle.tks_queue.specs.EventQueue.{queued, put, first, without_first, without_window};
 ghost use Rattle.tks_queue.specs.Index.{up_to_mark, is_mark, index_for};
 
@@ -11,7 +13,7 @@ use tks_event::Event;
 use tks_mark::{Items, Marked};
 use tks_share::Copied;
 
-/// The events that wait to be delivered, the next one first. They know what they were at a mark.
+/// The events that wait to be delivered, the next one first: each is one that there is. They know what they were at a mark.
 #[derive(Drop)]
 pub struct Queue {
     alloc: Global,
@@ -25,6 +27,10 @@ impl Model for Queue {
     ghost Value = { Views Queued };
 
     ghost view = { λ q. q.events };
+
+    ghost use Rattle.tks_queue.specs.Legal.{Legal};
+
+    ghost invariant = { λ q. Legal q.events };
 }
 
 impl Queue {
@@ -40,6 +46,7 @@ impl Queue {
 
     /// The queue of these events, the next one first, with no mark, so that one is made again from what it had.
     pub fn restore(alloc: Global, events: Vec<Queued>) -> Result<Queue, AllocError>
+        requires { AreLegal events.items }
         ensures { IfOk result (λ made. made ≡ record { present = events.items; at_mark = None }) }
     {
         Ok(Queue {
@@ -50,14 +57,16 @@ impl Queue {
 
     /// The events that wait, the next one first.
     pub fn events(&self) -> Items<'_, Queued>
-        ensures { result ≡ self.now.present }
+        ensures value { result ≡ self.now.present }
+        ensures legal { AreLegal self.now.present }
     {
         self.events.items()
     }
 
     /// How many events wait.
     pub fn len(&self) -> usize
-        ensures { result ≡ length self.now.present }
+        ensures value { result ≡ length self.now.present }
+        ensures short { length self.now.present < 2 ^ 32 }
     {
         self.events.len()
     }
@@ -65,6 +74,7 @@ impl Queue {
     /// Puts an event into its place. Where memory is refused, it hands the event back.
     #[tactic(auto, using(crate::proofs::Putting::put_at_index))]
     pub fn put(&mut self, place: Place, event: Event) -> Result<(), AllocFailed<Event>>
+        requires { is_event event ≡ true }
         ensures ok { OnOk result (self.new ≡ record self.old { present = put place event self.old.present }) }
         ensures err { OnErr result (self.new ≡ self.old) }
         ensures handed_back { IfErr result (λ refused. refused.value ≡ event) }
@@ -85,6 +95,7 @@ impl Queue {
     /// Takes out the first event, and hands out a copy of it.
     pub fn take(&mut self) -> Result<Option<Event>, AllocError>
         ensures value { IfOk result (λ event. event ≡ first self.old.present) }
+        ensures legal { IfOk result (λ o. IfSome o (λ event. is_event event ≡ true)) }
         ensures ok { OnOk result (self.new ≡ record self.old { present = without_first self.old.present }) }
         ensures err { OnErr result (self.new ≡ self.old) }
     {

@@ -14,7 +14,7 @@ use Rattle.tks_share.specs.Lists.{Fits, Rises}
 
 module _ {X : Type 0} where
   pub whole : (xs : List X) → Fits xs → counted xs ≡ length xs
-  whole xs fits = min-eq_left fits
+  whole xs fits = min-eq_left (omega (arith, fits))
 
   -- what is still to come from an item on
   pub from_item : (xs : List X) (i : ℕ) (x : X) → slice_get xs i ≡ Some x → drop i xs ≡ x ∷ drop (i + 1) xs

@@ -1,10 +1,10 @@
 -- Lists of items, as contracts see them.
-use Rattle.std.specs.Prelude.{◌≡◌, ⊤, ℕ, ◌+◌, ◌-◌, ◌^◌, ◌≤◌, Bool, List, [], ◌∷◌, length, slice_get, slice_set, Some}
+use Rattle.std.specs.Prelude.{◌≡◌, ⊤, ℕ, ◌+◌, ◌^◌, ◌<◌, ◌≤◌, Bool, List, [], ◌∷◌, length, slice_get, slice_set, Some}
 use Rattle.std.specs.Borrow.{Bor}
 
--- a number of 64 bits tells how many there are
+-- no list or map that is kept is longer
 abbrev pub Fits : {X : Type 0} → List X → Type 0
-Fits xs = length xs ≤ 2 ^ 64 - 1
+Fits xs = length xs < 2 ^ 32
 
 -- the numbers of items rise, from one on
 abbrev pub Rises : {X : Type 0} → (X → ℕ) → ℕ → List X → Type 0

@@ -1,10 +1,11 @@
 ghost use Rattle.std.specs.Prelude.{◌≡◌, ◌++◌, [], ◌∷◌, ◌==◌, ◌<◌, Bool, length, slice_get, slice_set, position, None, IfOk, IfSome, IfNone, OnOk, OnErr, option_copied};
 ghost use Rattle.std.specs.List.{filter};
-ghost use Rattle.tks_share.specs.Lists.{Rises, Says};
+ghost use Rattle.tks_share.specs.Lists.{Fits, Rises, Says};
 
 use crate::change::Change;
 use crate::copied::Copied;
 use crate::items::Items;
+use crate::map::MAX_LEN;
 use crate::numbered::Numbered;
 use crate::places;
 use crate::shared::Shared;
@@ -12,7 +13,7 @@ use crate::tree::Tree;
 use std::alloc::{AllocError, Global};
 use std::marker::Model;
 
-/// A list of items by their places. Copies share what they have in common, so to make one costs next to nothing; a change costs
+/// A list of fewer than 2^32 items by their places. Copies share what they have in common, so to make one costs next to nothing; a change costs
 /// as much as the items on one way down a balanced tree.
 #[derive(Drop)]
 pub struct SharedList<T> {
@@ -57,7 +58,8 @@ impl<T: Drop> SharedList<T> {
 
     /// How many items there are.
     pub fn len(&self) -> usize
-        ensures { result ≡ length self.now }
+        ensures value { result ≡ length self.now }
+        ensures short { Fits self.now }
     {
         self.tree.count()
     }
@@ -72,12 +74,12 @@ impl<T: Drop> SharedList<T> {
         }
     }
 
-    /// Adds an item at the end.
+    /// Adds an item at the end. One too many is refused as memory is.
     pub fn push(&mut self, item: T) -> Result<(), AllocError>
         ensures ok { OnOk result (self.new ≡ self.old ++ item ∷ []) }
         ensures err { OnErr result (self.new ≡ self.old) }
     {
-        if self.len() == usize::MAX {
+        if self.len() >= MAX_LEN {
             return Err(AllocError);
         }
         let item = Shared::new(self.alloc, item)?;

@@ -1,4 +1,4 @@
-ghost use Rattle.std.specs.Prelude.{◌≡◌, IfOk, IfSome, IfNone, None, OnOk, OnErr, option_copied};
+ghost use Rattle.std.specs.Prelude.{◌≡◌, ◌<◌, ◌^◌, IfOk, IfSome, IfNone, None, OnOk, OnErr, option_copied};
 ghost use Rattle.std.specs.FinMap as map;
 
 use crate::change::Change;
@@ -10,7 +10,10 @@ use crate::tree::Tree;
 use std::alloc::{AllocError, Global};
 use std::marker::Model;
 
-/// A finite map from names to values, in the order of the names' bytes. Copies share what they have in common, so to make one
+/// The most names of a map, and the most items of a list.
+pub(crate) const MAX_LEN: usize = 4_294_967_295;
+
+/// A finite map from fewer than 2^32 names to values, in the order of the names' bytes. Copies share what they have in common, so to make one
 /// costs next to nothing; a change costs as much as the names on one way down a balanced tree.
 #[derive(Drop)]
 pub struct SharedMap<V> {
@@ -24,6 +27,7 @@ impl<V> Model for SharedMap<V> {
     ghost use Rattle.std.specs.FinMap as map;
     ghost use Rattle.std.specs.FinMap.Entries.{is_sorted};
     ghost use Rattle.std.specs.Coded.{coded_list, coded_ℕ};
+    ghost use Rattle.tks_share.specs.Lists.{Fits};
     ghost use Rattle.tks_share.specs.Names.{order};
 
     ghost Value = { map.FinMap order V };
@@ -32,7 +36,7 @@ impl<V> Model for SharedMap<V> {
 
     ghost view = { λ m. map.from_sorted m.tree };
 
-    ghost invariant = { λ m. T (is_sorted order m.tree) × (m.len ≡ length m.tree) };
+    ghost invariant = { λ m. T (is_sorted order m.tree) × (m.len ≡ length m.tree) × Fits m.tree };
 }
 
 impl<V: Drop> SharedMap<V> {
@@ -60,7 +64,8 @@ impl<V: Drop> SharedMap<V> {
 
     /// How many names there are.
     pub fn len(&self) -> usize
-        ensures { result ≡ map.len self.now }
+        ensures value { result ≡ map.len self.now }
+        ensures short { map.len self.now < 2 ^ 32 }
     {
         self.len
     }
@@ -79,7 +84,7 @@ impl<V: Drop> SharedMap<V> {
         names::get(&self.tree, name)
     }
 
-    /// Puts a value under a name, in the place of the one that is there.
+    /// Puts a value under a name, in the place of the one that is there. One name too many is refused as memory is.
     pub fn insert(&mut self, name: &[u8], value: V) -> Result<(), AllocError>
         ensures ok { OnOk result (self.new ≡ map.insert self.old name.now value) }
         ensures err { OnErr result (self.new ≡ self.old) }
@@ -93,15 +98,16 @@ impl<V: Drop> SharedMap<V> {
 
     // How many names there are with this one.
     fn len_with(&self, name: &[u8]) -> Result<usize, AllocError>
-        ensures { IfOk result (λ n. (value : V) → n ≡ map.len (map.insert self.now name.now value)) }
+        ensures value { IfOk result (λ n. (value : V) → n ≡ map.len (map.insert self.now name.now value)) }
+        ensures short { IfOk result (λ n. n < 2 ^ 32) }
     {
         if self.contains(name) {
             return Ok(self.len);
         }
-        match self.len.checked_add(1) {
-            Some(len) => Ok(len),
-            None => Err(AllocError),
+        if self.len >= MAX_LEN {
+            return Err(AllocError);
         }
+        Ok(self.len + 1)
     }
 
     /// Takes a name out.

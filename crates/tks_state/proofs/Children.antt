@@ -300,4 +300,4 @@ kept_rises t ks f = kept_rise 0 t.windows t.next ks f.in_step f.windows.numbered
 -- ---- the first windows
 
 pub first_well : trees.WellFormed first_windows
-first_well = record { first = ([], refl); numbered = (omega arith, omega arith); bounded = omega arith; founded = (record { path = refl; new = refl; parent = tt }, tt) }
+first_well = record { first = ([], refl); numbered = (omega arith, omega arith); bounded = omega arith; founded = (record { path = refl; new = refl; parent = tt }, tt); classes = (refl, tt) }

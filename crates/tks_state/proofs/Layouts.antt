@@ -113,3 +113,16 @@ last_of (q ∷ before) p x y = ap (or_this (covers q.area x y) q) (last_of befor
     by : (b : Bool) → or_this (covers q.area x y) q (if b then Some p else last_over before x y) ≡ (if b then Some p else or_this (covers q.area x y) q (last_over before x y))
     by true = refl
     by false = refl
+
+-- it lies where all of them lie
+pub last_inside : (g : grid.Extent) (ps : List Placed) (x y : ℕ) → AllLieOn g ps → IfSome (last_over ps x y) (λ p. LiesOn g p.area)
+last_inside g [] x y all = tt
+last_inside g (p ∷ ps) x y all = by (last_over ps x y) (last_inside g ps x y all.1)
+  where
+    alone : (b : Bool) → IfSome (if b then Some p else None) (λ p. LiesOn g p.area)
+    alone true = all.0
+    alone false = tt
+
+    by : (o : Option Placed) → IfSome o (λ p. LiesOn g p.area) → IfSome (or_this (covers p.area x y) p o) (λ p. LiesOn g p.area)
+    by None later = alone (covers p.area x y)
+    by (Some q) later = later

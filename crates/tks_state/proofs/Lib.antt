@@ -7,5 +7,6 @@ mod Linked
 mod Holding
 pub mod Restored
 pub mod Possible
+pub mod Legal
 mod Looping
 mod Standing

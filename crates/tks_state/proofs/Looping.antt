@@ -1,17 +1,21 @@
 -- What turns work on is of windows that are there, whatever is done to it and to the windows.
-use Rattle.std.proofs.Common.{◌≡◌, ℕ, Bool, true, false, List, [], ◌∷◌, ◌++◌, Option, Some, None, is_some, Ok, refl, sym, subst, ◌∙◌}
+use Rattle.std.proofs.Common.{◌≡◌, ◌≤◌, ◌^◌, ℕ, Bool, true, false, List, [], ◌∷◌, ◌++◌, Option, Some, None, is_some, Ok, refl, sym, subst, ◌∙◌}
 use Rattle.std.specs.Prelude.{◌&&◌, ◌==◌, if◌then◌else◌}
 use Rattle.std.specs.List.{filter, list_all}
 use Rattle.std.proofs.lemmas.Bool.{and_from, and_parts}
 use Rattle.std.proofs.lemmas.List.Folds.{list_all-append}
 use Rattle.tks_text.specs.declared.class.Class.{Class}
+use Rattle.tks_event.specs.Legality.{is_event}
 use Rattle.tks_event.specs.declared.event.Event.{Event}
 use Rattle.tks_queue.specs.declared.place.Place.{Place}
 use Rattle.tks_queue.specs.declared.place.Place.TheVariants as place
 use Rattle.tks_queue.specs.declared.queued.Queued.{Queued}
 use Rattle.tks_queue.specs.EventQueue.{queued, some_with_mark, put_with_mark, put, without_first}
 use Rattle.tks_tree.specs.Windows.{Window, Windows, root, of_number, created}
-use Rattle.tks_state.specs.EventLoop.{EventLoop, is_there, is_for, is_press, all_in, left_focus, left_pressed, left, Stay}
+use Rattle.tks_tree.specs.WellFormed.{WellFormed}
+use Rattle.tks_tree.proofs.Below.{there_below}
+use Rattle.tks_state.specs.EventLoop.{EventLoop, is_event_in_some_window, is_there, is_for, is_press, all_in, left_focus, left_pressed, left, Stay}
+use Rattle.tks_state.proofs.Legal.{in_window}
 use Rattle.tks_state.proofs.Marks.{made, created_made}
 
 -- ---- the three tests
@@ -24,6 +28,14 @@ parts ws x h =
 all_there : (ws : List Window) (x : EventLoop) → is_there ws x.focus ≡ true → list_all (is_for ws) x.queue ≡ true → is_press ws x.pressed ≡ true → all_in ws x ≡ true
 all_there ws x focus queue pressed =
     and_from (is_there ws x.focus) (list_all (is_for ws) x.queue && is_press ws x.pressed) focus (and_from (list_all (is_for ws) x.queue) (is_press ws x.pressed) queue pressed)
+
+-- the focus is that of a window, so its number is within the bound
+pub focus_below : (t : Windows) (x : EventLoop) → WellFormed t → all_in t.windows x ≡ true → x.focus ≤ 2 ^ 62
+focus_below t x f h = there_below t x.focus f (parts t.windows x h).0
+
+-- an event that there is but for its window is one if a window has that number
+pub legal_there : (t : Windows) (e : Event) → WellFormed t → is_there t.windows e.window ≡ true → is_event_in_some_window e ≡ true → is_event e ≡ true
+legal_there t e f there h = in_window e e.window (there_below t e.window f there) h
 
 -- ---- the windows change
 

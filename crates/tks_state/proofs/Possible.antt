@@ -2,16 +2,17 @@
 use Rattle.std.proofs.Common.{◌≡◌, ℕ, true, false, map, List, [], ◌∷◌, length, Some, refl, ap}
 use Rattle.std.specs.Prelude.{◌==◌, ◌^◌, nat_le}
 use Rattle.std.specs.List.{AllByRecursion, IsDistinct, list_all}
-use Rattle.std.proofs.lemmas.Bool.{eq-eqb, le-leb}
+use Rattle.std.proofs.lemmas.Bool.{and_from, eq-eqb, le-leb}
 use Rattle.tks_text.specs.declared.class.Class.{Class}
 use Rattle.tks_bind.specs.History.{max_history}
 use Rattle.tks_opt.specs.Numbers.{class_number}
 use Rattle.tks_tree.specs.Windows as tree
 use Rattle.tks_state.specs.Events.{max_faults}
-use Rattle.tks_state.specs.Restoring.{is_kept_of, are_in_step, is_among, are_distinct, is_number, packs_children, is_possible}
+use Rattle.tks_state.specs.Restoring.{is_kept_of, are_in_step, is_among, are_distinct, is_number, packs_children, are_windows, counts_fit, is_possible}
 use Rattle.tks_state.specs.WellFormed.{WellFormed, AllPackChildren, InStep, packed_windows, mark_of, window_mark}
 use Rattle.tks_state.specs.Widget.{class_of}
-use Rattle.tks_state.specs.World.{World}
+use Rattle.tks_state.specs.EventLoop.{all_in}
+use Rattle.tks_state.specs.World.{World, windows_of, loop_of}
 use Rattle.tks_state.specs.declared.kept.Kept.{Kept}
 
 first_or : {X : Type 0} → X → List X → X
@@ -66,9 +67,13 @@ pub possible : (w : World) → WellFormed w → is_possible w ≡ true
 unfolding is_possible
 possible w h =
     let counted : nat_le w.accepted (2 ^ 62) ≡ true = le-leb w.accepted (2 ^ 62) h.counted in
+    let clock : nat_le w.clock (2 ^ 62) ≡ true = le-leb w.clock (2 ^ 62) h.event_loop.clock in
     let step = in_step w.tree.windows w.kept h.windows.in_step in
     let each = packs w.tree w.kept h.windows.packs in
     let remembered : nat_le (length w.history) max_history ≡ true = le-leb (length w.history) max_history h.events.history in
     let faults : nat_le (length w.faults) max_faults ≡ true = le-leb (length w.faults) max_faults h.events.faults in
     let rests : (length w.variables.locals == 0) ≡ true = eq-eqb (length w.variables.locals) 0 (ap length h.rests) in
-    rw (counted, rests, step, each, remembered, faults, h.there) refl
+    and_from (counts_fit w.accepted w.clock) _ (and_from (nat_le w.accepted (2 ^ 62)) (nat_le w.clock (2 ^ 62)) counted clock)
+    (and_from (length w.variables.locals == 0) _ rests
+    (and_from (are_windows (windows_of w)) _ (and_from (are_in_step w.tree.windows w.kept) (list_all (packs_children w.tree) w.kept) step each)
+    (and_from (nat_le (length w.history) max_history) _ remembered (and_from (nat_le (length w.faults) max_faults) (all_in w.tree.windows (loop_of w)) faults h.there))))

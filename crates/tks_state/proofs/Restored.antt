@@ -2,7 +2,7 @@
 use Rattle.std.proofs.Common.{◌≡◌, ℕ, zero, suc, ◌+◌, Bool, true, false, ◌&&◌, ◌||◌, not, true≢false, map, List, [], ◌∷◌, length, ◌<◌, Option, Some, None, refl, sym, ap, ◌∙◌, drop, arith}
 use Rattle.std.specs.Prelude.{slice_get, ◌≢◌, ◌==◌, ◌≤◌, ◌^◌, nat_le, if◌then◌else◌}
 use Rattle.std.specs.List.{AllByRecursion, IsDistinct, list_all}
-use Rattle.std.proofs.lemmas.Bool.{eqb-true, eq-eqb, le-leb, lt-leb}
+use Rattle.std.proofs.lemmas.Bool.{and_from, eqb-true, eq-eqb, le-leb}
 use Rattle.tks_text.specs.declared.class.Class.{Class}
 use Rattle.tks_text.specs.declared.class.Class.TheVariants as class
 use Rattle.tks_opt.specs.Numbers.{class_number, class_numbered}
@@ -14,7 +14,7 @@ use Rattle.tks_state.specs.World.{World, windows_of, events_of, loop_of}
 use Rattle.tks_state.specs.declared.restoring.WorldParts.{WorldParts}
 use Rattle.tks_tree.specs.WellFormed as trees
 use Rattle.tks_tree.specs.Windows as tree
-use Rattle.tks_state.specs.Restoring.{kept_with, kept_of_parts, is_kept_of, are_in_step, is_among, are_distinct, is_number, packs_children, are_windows, is_possible, world_of, restored}
+use Rattle.tks_state.specs.Restoring.{kept_with, kept_of_parts, is_kept_of, are_in_step, is_among, are_distinct, is_number, packs_children, are_windows, counts_fit, is_possible, world_of, restored}
 use Rattle.tks_state.specs.WellFormed.{WellFormedWindows, PacksChildren, AllPackChildren, InStep, packed_windows, mark_of, window_mark}
 use Rattle.tks_state.specs.Widget.{class_of}
 use Rattle.tks_state.specs.Windows.{Windows}
@@ -158,19 +158,21 @@ told false y x h = absurd (some_is_none (sym h))
 abbrev made : WorldParts → Windows → Events → World
 made p x e = record (world_of p) { tree = x.tree; kept = x.kept; bindings = e.bindings; virtuals = e.virtuals; history = e.history; faults = e.faults }
 
-pub possible : (p : WorldParts) (x : Windows) (e : Events) → p.accepted ≤ 2 ^ 62 → length p.variables.locals ≡ 0 → all_in p.tree.windows (loop_of (world_of p)) ≡ true → length p.history.present ≤ max_history
+pub possible : (p : WorldParts) (x : Windows) (e : Events) → counts_fit p.accepted p.clock ≡ true → length p.variables.locals ≡ 0 → all_in p.tree.windows (loop_of (world_of p)) ≡ true → length p.history.present ≤ max_history
     → (if are_windows (windows_of (world_of p)) then Some (windows_of (world_of p)) else None) ≡ Some x
     → (if nat_le (length p.faults) max_faults then Some (events_of (world_of p)) else None) ≡ Some e
     → Some (made p x e) ≡ restored p
 unfolding is_possible
-possible p x e few none there short windows events =
+possible p x e counts none there short windows events =
     let w = world_of p in
     let a = told (are_windows (windows_of w)) (windows_of w) x windows in
     let b = told (nat_le (length p.faults) max_faults) (events_of w) e events in
-    let counted : nat_le w.accepted (2 ^ 62) ≡ true = le-leb w.accepted (2 ^ 62) few in
     let remembered : nat_le (length w.history) max_history ≡ true = le-leb (length w.history) max_history short in
     let rests : (length w.variables.locals == 0) ≡ true = eq-eqb (length w.variables.locals) 0 none in
-    let all : is_possible w ≡ true = rw (counted, rests, a.0, remembered, b.0, there) refl in
+    let all : is_possible w ≡ true =
+    and_from (counts_fit w.accepted w.clock) _ counts
+    (and_from (length w.variables.locals == 0) _ rests
+    (and_from (are_windows (windows_of w)) _ a.0 (and_from (nat_le (length w.history) max_history) _ remembered (and_from (nat_le (length w.faults) max_faults) _ b.0 there)))) in
     ap (λ (v : Windows). Some (made p v e)) (sym a.1) ∙ ap (λ (v : Events). Some (made p (windows_of w) v)) (sym b.1) ∙ ap (λ (t : Bool). if t then Some w else None) (sym all)
 
 -- what is of windows that are there is of those that are made again
@@ -201,11 +203,11 @@ lost w h = rw h refl
 rest_of : World → Bool
 rest_of w = are_windows (windows_of w) && (nat_le (length w.history) max_history && (nat_le (length w.faults) max_faults && all_in w.tree.windows (loop_of w)))
 
-pub too_many : (p : WorldParts) → 2 ^ 62 < p.accepted → None ≡ restored p
+pub too_many : (p : WorldParts) → counts_fit p.accepted p.clock ≡ false → None ≡ restored p
 unfolding is_possible rest_of
 too_many p many =
     let w = world_of p in
-    lost w (no_first (nat_le w.accepted (2 ^ 62)) ((length w.variables.locals == 0) && rest_of w) (lt-leb w.accepted (2 ^ 62) many))
+    lost w (no_first (counts_fit w.accepted w.clock) ((length w.variables.locals == 0) && rest_of w) many)
 
 -- where no frame may stand, but one does
 pub frames_stand : (p : WorldParts) → 0 < length p.variables.locals → None ≡ restored p
@@ -213,7 +215,7 @@ unfolding is_possible rest_of
 frames_stand p some =
     let w = world_of p in
     let none = length w.variables.locals == 0 in
-    lost w (no_second (nat_le w.accepted (2 ^ 62)) (none && rest_of w) (no_first none (rest_of w) (other (length w.variables.locals) some)))
+    lost w (no_second (counts_fit w.accepted w.clock) (none && rest_of w) (no_first none (rest_of w) (other (length w.variables.locals) some)))
   where
     other : (n : ℕ) → 0 < n → (n == 0) ≡ false
     other n l = by (n == 0) refl
@@ -226,7 +228,7 @@ lost_behind : (w : World) → rest_of w ≡ false → is_possible w ≡ false
 unfolding is_possible rest_of
 lost_behind w h =
     let none = length w.variables.locals == 0 in
-    no_second (nat_le w.accepted (2 ^ 62)) (none && rest_of w) (no_second none (rest_of w) h)
+    no_second (counts_fit w.accepted w.clock) (none && rest_of w) (no_second none (rest_of w) h)
 
 -- where the windows fit but what stands behind them doesn't
 no_others : (w : World) → (nat_le (length w.history) max_history && (nat_le (length w.faults) max_faults && all_in w.tree.windows (loop_of w))) ≡ false → is_possible w ≡ false

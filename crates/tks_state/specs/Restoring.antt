@@ -5,11 +5,8 @@ use Rattle.std.specs.List.{list_all}
 use Rattle.tks_bind.specs.History.{max_history}
 use Rattle.tks_opt.specs.Numbers.{class_number}
 use Rattle.tks_tree.specs.Windows as tree
-use Rattle.tks_text.specs.Size.{Extent}
-use Rattle.tks_app.specs.declared.memories.Memory.{Memory}
-use Rattle.tks_vars.specs.Variables.{Variables}
-use Rattle.tks_state.specs.EventLoop.{EventLoop, all_in}
-use Rattle.tks_state.specs.Events.{Events, max_faults}
+use Rattle.tks_state.specs.EventLoop.{all_in}
+use Rattle.tks_state.specs.Events.{max_faults}
 use Rattle.tks_state.specs.Widget.{class_of}
 use Rattle.tks_state.specs.WellFormed.{packed_windows}
 use Rattle.tks_state.specs.Windows.{Windows}
@@ -62,10 +59,14 @@ are_windows x = are_in_step x.tree.windows x.kept && list_all (packs_children x.
 
 -- ---- the world
 
+-- whether so many inputs may have been accepted, and the clock may stand so
+abbrev pub counts_fit : ℕ → ℕ → Bool
+counts_fit accepted clock = nat_le accepted (2 ^ 62) && nat_le clock (2 ^ 62)
+
 -- whether a world with such a tree is one that there may be
 unfoldable pub is_possible : World → Bool
 is_possible w =
-    nat_le w.accepted (2 ^ 62)
+    counts_fit w.accepted w.clock
     && ((length w.variables.locals == 0)
     && (are_windows (windows_of w) && (nat_le (length w.history) max_history && (nat_le (length w.faults) max_faults && all_in w.tree.windows (loop_of w)))))
 
@@ -88,27 +89,6 @@ world_of p = record {
   memories = p.memories;
   faults = p.faults;
   grid = p.grid;
-}
-
--- the world of these parts
-abbrev pub world_with : ℕ → Windows → Variables → Events → EventLoop → List Memory → Extent → World
-world_with accepted windows variables events loop memories grid = record {
-  accepted = accepted;
-  clock = loop.clock;
-  tree = windows.tree;
-  kept = windows.kept;
-  variables = variables;
-  bindings = events.bindings;
-  virtuals = events.virtuals;
-  history = events.history;
-  queue = loop.queue;
-  timers = loop.timers;
-  focus = loop.focus;
-  held = loop.held;
-  pressed = loop.pressed;
-  memories = memories;
-  faults = events.faults;
-  grid = grid;
 }
 
 -- the same, where there may be such a world

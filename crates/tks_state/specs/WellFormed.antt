@@ -6,11 +6,13 @@ use Rattle.tks_tree.specs.Windows as tree
 use Rattle.tks_tree.specs.WellFormed as trees
 use Rattle.tks_bind.specs.History.{max_history}
 use Rattle.tks_bind.specs.WellFormed.{AreBindings, AreVirtuals}
+use Rattle.tks_event.specs.Legality.{AreEvents}
+use Rattle.tks_queue.specs.Legal.{AreLegal}
 use Rattle.tks_timer.specs.WellFormed.{AreWaiting}
 use Rattle.tks_state.specs.Events.{Events, max_faults}
 use Rattle.tks_state.specs.Widget.{class_of}
 use Rattle.tks_state.specs.Windows.{Windows}
-use Rattle.tks_state.specs.EventLoop.{all_in}
+use Rattle.tks_state.specs.EventLoop.{EventLoop, all_in}
 use Rattle.tks_state.specs.World.{World, windows_of, events_of, loop_of}
 use Rattle.tks_state.specs.declared.kept.Kept.{Kept}
 
@@ -48,10 +50,20 @@ pub record WellFormedWindows (x : Windows) : Type 0 where
 pub record WellFormedEvents (x : Events) : Type 0 where
   -- numbers are below the next one, and bindings differ in them and in their tags or sequences
   pub bindings : AreBindings x.bindings
-  -- names differ, and each has sequences, which differ
+  -- names differ, and each has sequences of physical events, which differ
   pub virtuals : AreVirtuals x.virtuals
+  -- each is an event that there is
+  pub events : AreEvents x.history
   pub history : length x.history ≤ max_history
   pub faults : length x.faults ≤ max_faults
+
+-- what holds of what turns work on
+pub record WellFormedLoop (x : EventLoop) : Type 0 where
+  pub clock : x.clock ≤ 2 ^ 62
+  -- each is an event that there is
+  pub queue : AreLegal x.queue
+  -- ids rise and differ
+  pub timers : AreWaiting x.timers
 
 pub record WellFormed (w : World) : Type 0 where
   pub counted : w.accepted ≤ 2 ^ 62
@@ -59,7 +71,6 @@ pub record WellFormed (w : World) : Type 0 where
   pub rests : w.variables.locals ≡ []
   pub windows : WellFormedWindows (windows_of w)
   pub events : WellFormedEvents (events_of w)
-  -- the focus, the events that wait and the last press are of windows that are there, and what waits has ids that rise and
-  -- differ
+  pub event_loop : WellFormedLoop (loop_of w)
+  -- the focus, the events that wait and the last press are of windows that are there
   pub there : all_in w.tree.windows (loop_of w) ≡ true
-  pub timers : AreWaiting w.timers

@@ -55,26 +55,30 @@ pub record World : Type 0 where
   pub faults : List (List ℕ)
   pub grid : Extent
 
--- the world before any input, for an application whose commands have these names
-abbrev pub first_world : Extent → List (List ℕ) → World
-first_world grid names = record {
-  accepted = 0;
-  clock = first_loop.clock;
-  tree = first_windows.tree;
-  kept = first_windows.kept;
-  variables = no_variables;
-  bindings = first_events.bindings;
-  virtuals = first_events.virtuals;
-  history = first_events.history;
-  queue = first_loop.queue;
-  timers = first_loop.timers;
-  focus = first_loop.focus;
-  held = first_loop.held;
-  pressed = first_loop.pressed;
-  memories = first_memories names;
-  faults = first_events.faults;
+-- the world of these parts
+abbrev pub world_with : ℕ → Windows → Variables → Events → EventLoop → List Memory → Extent → World
+world_with accepted windows variables events loop memories grid = record {
+  accepted = accepted;
+  clock = loop.clock;
+  tree = windows.tree;
+  kept = windows.kept;
+  variables = variables;
+  bindings = events.bindings;
+  virtuals = events.virtuals;
+  history = events.history;
+  queue = loop.queue;
+  timers = loop.timers;
+  focus = loop.focus;
+  held = loop.held;
+  pressed = loop.pressed;
+  memories = memories;
+  faults = events.faults;
   grid = grid;
 }
+
+-- the world before any input, for an application whose commands have these names
+abbrev pub first_world : Extent → List (List ℕ) → World
+first_world grid names = world_with 0 first_windows no_variables first_events first_loop (first_memories names) grid
 
 -- ---- the windows
 

@@ -1,13 +1,14 @@
 //! What turns work on: the clock, what waits to be delivered or run, the focus, and what is held down.
-ghost use Rattle.std.specs.Prelude.{◌≡◌, true, ◌↔◌, ◌≤◌, ◌^◌, Err, is_some, IfOk, IfErr, OnOk, OnErr};
+ghost use Rattle.std.specs.Prelude.{◌≡◌, true, ◌↔◌, ◌≤◌, ◌^◌, Err, is_some, IfSome, IfOk, IfErr, OnOk, OnErr};
 ghost use Rattle.std.specs.List.{list_all};
+ghost use Rattle.tks_event.specs.Legality.{is_event};
 ghost use Rattle.tks_queue.specs.EventQueue.{put, first, without_first};
 ghost use Rattle.tks_timer.specs.After as after;
 ghost use Rattle.tks_timer.specs.After.{script_in, kept_under, with_script};
 ghost use Rattle.tks_tree.specs.Windows.{of_number};
-ghost use Rattle.tks_timer.specs.WellFormed.{AreWaiting};
 ghost use Rattle.tks_state.specs.EventLoop.{first_loop, is_there, is_for, is_press, all_in, left_queue, left_focus, left_pressed, left};
 ghost use Rattle.tks_state.specs.Lost.{first_lost};
+ghost use Rattle.tks_state.specs.WellFormed.{WellFormedLoop};
 
 use std::alloc::{AllocError, AllocFailed, Global};
 use std::marker::Model;
@@ -19,7 +20,7 @@ use tks_text::Txt;
 use tks_timer::{AfterFault, Timers};
 use tks_tree::{Tree, WindowId};
 
-/// What turns work on. Copies share the events and scripts that wait, as long as none of them changes them.
+/// What turns work on. The clock is at most 2^62. Copies share the events and scripts that wait, as long as none of them changes them.
 #[derive(Drop)]
 pub struct EventLoop {
     alloc: Global,
@@ -37,6 +38,10 @@ impl Model for EventLoop {
     ghost Value = { EventLoop };
 
     ghost view = { λ x. record { clock = x.clock; queue = x.queue.present; timers = x.timers.present; focus = x.focus; held = x.held; pressed = x.pressed } };
+
+    ghost use Rattle.std.specs.Prelude.{◌≤◌, ◌^◌};
+
+    ghost invariant = { λ x. x.clock ≤ 2 ^ 62 };
 }
 
 impl EventLoop {
@@ -65,6 +70,7 @@ impl EventLoop {
         held: Held,
         pressed: Option<WindowId>,
     ) -> Result<EventLoop, AllocError>
+        requires { clock ≤ 2 ^ 62 }
         ensures { IfOk result (λ x. x ≡ record { clock = clock; queue = queue.present; timers = timers.present; focus = focus; held = held; pressed = pressed }) }
     {
         Ok(EventLoop {
@@ -89,13 +95,15 @@ impl EventLoop {
 
     /// The time, in milliseconds.
     pub fn clock(&self) -> u64
-        ensures { result ≡ self.now.clock }
+        ensures value { result ≡ self.now.clock }
+        ensures bound { self.now.clock ≤ 2 ^ 62 }
     {
         self.clock
     }
 
     /// Sets the clock.
     pub fn set_clock(&mut self, time: u64)
+        requires { time ≤ 2 ^ 62 }
         ensures { self.new ≡ record self.old { clock = time } }
     {
         self.clock = time;
@@ -110,6 +118,7 @@ impl EventLoop {
 
     /// Puts an event into its place. Where memory is refused, it hands the event back.
     pub fn put_event(&mut self, place: Place, event: Event) -> Result<(), AllocFailed<Event>>
+        requires { is_event event ≡ true }
         ensures ok { OnOk result (self.new ≡ record self.old { queue = put place event self.old.queue }) }
         ensures err { OnErr result (self.new ≡ self.old) }
         ensures handed_back { IfErr result (λ refused. refused.value ≡ event) }
@@ -123,6 +132,7 @@ impl EventLoop {
     /// Takes out the first event.
     pub fn take_event(&mut self) -> Result<Option<Event>, AllocError>
         ensures value { IfOk result (λ event. event ≡ first self.old.queue) }
+        ensures legal { IfOk result (λ o. IfSome o (λ event. is_event event ≡ true)) }
         ensures ok { OnOk result (self.new ≡ record self.old { queue = without_first self.old.queue }) }
         ensures err { OnErr result (self.new ≡ self.old) }
     {
@@ -132,9 +142,11 @@ impl EventLoop {
     /// The scripts that wait to be run.
     pub fn timers(&self) -> &Timers
         ensures value { result.now.present ≡ self.now.timers }
-        ensures formed { AreWaiting self.now.timers }
+        ensures formed { WellFormedLoop self.now }
     {
-        // What holds of all timers is asked for here.
+        // What holds of the clock, of all queues and of all timers is asked for here.
+        let _ = self.clock();
+        let _ = self.queue.get().events();
         let _ = self.timers.get().next();
         self.timers.get()
     }
@@ -335,7 +347,7 @@ fn first_lost(queue: &Queue, tree: &Tree) -> usize
 
 // Whether no event is of a window that is not there.
 fn all_stay(queue: &Queue, tree: &Tree) -> bool
-    ensures { result ≡ true → left_queue tree.now.windows queue.now.present ≡ queue.now.present }
+    ensures { (result ≡ true) ↔ (left_queue tree.now.windows queue.now.present ≡ queue.now.present) }
 {
     first_lost(queue, tree) >= queue.len()
 }

@@ -1,9 +1,11 @@
 //! What scripts bound to events rest on: the bindings, virtual events, the history, and the faults of such scripts.
-ghost use Rattle.std.specs.Prelude.{◌≡◌, true, ◌≢◌, ◌↔◌, ◌≤◌, ◌^◌, [], Some, None, if◌then◌else◌, nat_le, Err, length, option_copied, IfOk, IfErr, OnOk, OnErr};
+ghost use Rattle.std.specs.Prelude.{◌≡◌, true, false, ◌≢◌, ◌↔◌, ◌≤◌, ◌^◌, [], Some, None, if◌then◌else◌, nat_le, Err, length, option_copied, IfOk, IfErr, OnOk, OnErr};
 ghost use Rattle.tks_bind.specs.Binding.{bound};
 ghost use Rattle.tks_bind.specs.Choosing.{chosen};
 ghost use Rattle.tks_bind.specs.History as history;
-ghost use Rattle.tks_bind.specs.VirtualEvents.{added, deleted, deleted_sequence};
+ghost use Rattle.tks_bind.specs.VirtualEvents.{is_of_name, added, deleted, deleted_sequence};
+ghost use Rattle.tks_event.specs.Legality.{is_event};
+ghost use Rattle.tks_event.specs.Sequences.{is_name};
 ghost use Rattle.tks_tree.specs.Path.{begins_dot};
 ghost use Rattle.tks_state.specs.Events.{max_faults, first_events, with_fault, is_held, held};
 ghost use Rattle.tks_state.specs.Lost.{first_lost};
@@ -131,8 +133,10 @@ impl Events {
         self.virtuals.get()
     }
 
-    /// Adds a sequence to a virtual event. One that is there stays where it is.
+    /// Adds a sequence of physical events to a virtual event. One that is there stays where it is.
     pub fn add_virtual(&mut self, name: &Txt, sequence: &Sequence) -> Result<(), AllocError>
+        requires name { is_name name.now ≡ true }
+        requires physical { is_of_name sequence.now ≡ false }
         ensures ok { OnOk result (self.new ≡ record self.old { virtuals = added name.now sequence.now self.old.virtuals }) }
         ensures err { OnErr result (self.new ≡ self.old) }
     {
@@ -173,6 +177,7 @@ impl Events {
 
     /// Adds an event to the history. Where memory is refused, it hands the event back.
     pub fn add_event(&mut self, event: Event) -> Result<(), AllocFailed<Event>>
+        requires { is_event event ≡ true }
         ensures ok { OnOk result (self.new ≡ record self.old { history = history.with_event event self.old.history }) }
         ensures err { OnErr result (self.new ≡ self.old) }
         ensures handed_back { IfErr result (λ refused. refused.value ≡ event) }
@@ -236,7 +241,7 @@ fn first_lost(bindings: &Bindings, tree: &Tree) -> usize
 
 // Whether no binding is of a window that is not there.
 fn all_stay(bindings: &Bindings, tree: &Tree) -> bool
-    ensures { result ≡ true → held tree.now.windows bindings.now.present ≡ bindings.now.present }
+    ensures { (result ≡ true) ↔ (held tree.now.windows bindings.now.present ≡ bindings.now.present) }
 {
     first_lost(bindings, tree) >= bindings.len()
 }

@@ -2,7 +2,7 @@
 ghost use Rattle.std.specs.Prelude.{◌≡◌, ◌+◌, ◌≤◌, ◌<◌, ◌^◌, ◌++◌, [], IfOk, IfSome, OnOk};
 ghost use Rattle.std.specs.List.{AllByRecursion};
 ghost use Rattle.tks_pack.specs.Laws.{LiesInside};
-ghost use Rattle.tks_state.specs.Layout.{size_of, sizes, on_grid, with_content, with_contents, with_contents_of, placed_in, with_area, extent_of, grid_area, shown_of, shown_windows, covers, last_over, topmost, AllInside, AllLieOn};
+ghost use Rattle.tks_state.specs.Layout.{size_of, sizes, on_grid, with_content, with_contents, with_contents_of, placed_in, with_area, extent_of, grid_area, shown_of, shown_windows, covers, last_over, topmost, LiesOn, AllInside, AllLieOn};
 
 use crate::by_window::ByWindow;
 use crate::kept::Kept;
@@ -238,7 +238,8 @@ fn last_over(shown: &[Placed], column: u32, row: u32) -> Option<Placed>
 impl World {
     /// The window that is seen in a cell of the grid: the last in drawing order that covers it.
     pub fn topmost(&self, column: u32, row: u32) -> Result<Option<Placed>, AllocError>
-        ensures { IfOk result (λ seen. seen ≡ topmost self.now column row) }
+        ensures value { IfOk result (λ seen. seen ≡ topmost self.now column row) }
+        ensures inside { IfOk result (λ seen. IfSome seen (λ p. LiesOn self.now.grid p.area)) }
     {
         let shown = self.shown_windows()?;
         Ok(last_over(&shown, column, row))

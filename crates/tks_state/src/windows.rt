@@ -1,5 +1,5 @@
 //! The windows: the tree of their numbers, paths and classes, and what is kept of each.
-ghost use Rattle.std.specs.Prelude.{◌≡◌, option_map, if◌then◌else◌, Some, None, IfOk, IfSome, OnOk, OnErr, is_some, map};
+ghost use Rattle.std.specs.Prelude.{◌≡◌, true, option_map, if◌then◌else◌, Some, None, IfOk, IfSome, OnOk, OnErr, is_some, map};
 ghost use Rattle.tks_text.specs.Fault.{Gives};
 ghost use Rattle.tks_tree.specs.Windows.{of_number};
 ghost use Rattle.tks_tree.specs.Meets.{MakesSo};
@@ -8,6 +8,7 @@ ghost use Rattle.tks_state.specs.Widget.{class_of};
 ghost use Rattle.tks_state.specs.Windows.{kept_of, replaced, with_widget_at, with_tags_at, packed_at, forgotten_at, propagating, still_there, first_windows, created, destroyed, changed, tagged, packed, unpacked, with_propagation};
 ghost use Rattle.tks_state.specs.EventLoop.{Stay};
 ghost use Rattle.tks_state.specs.WellFormed.{WellFormedWindows, mark_of};
+ghost use Rattle.tks_tree.specs.WellFormed.{is_widget_class};
 ghost use Rattle.tks_state.specs.Restoring.{are_windows};
 
 use crate::kept::Kept;
@@ -239,8 +240,9 @@ impl Windows {
         find(&self.kept, window)
     }
 
-    /// Makes a window, which is this widget. The path has to be one that no window has, in a window that is there.
+    /// Makes a window other than `.`, which is this widget. The path has to be one that no window has, in a window that is there.
     pub fn add(&mut self, path: &Txt, widget: Widget) -> Result<WindowId, CreateFault>
+        requires { is_widget_class (class_of widget) ≡ true }
         ensures value { MakesSo (λ id. (id, self.new)) result (created self.old path.now widget) }
         ensures err { OnErr result (self.new ≡ self.old) }
         ensures stay { Stay self.old.tree.windows self.new.tree.windows }

@@ -1,17 +1,21 @@
-ghost use Rattle.std.specs.Prelude.{◌≡◌, true, ◌≢◌, ◌↔◌, ◌≤◌, ◌+◌, ◌<◌, ◌^◌, [], Err, option_map, option_copied, IfOk, IfErr, IfSome, OnOk, OnErr};
+ghost use Rattle.std.specs.Prelude.{◌≡◌, true, false, ◌≢◌, ◌↔◌, ◌≤◌, ◌+◌, ◌<◌, ◌^◌, [], Err, option_map, option_copied, IfOk, IfErr, IfSome, OnOk, OnErr};
 ghost use Rattle.tks_text.specs.Fault.{Gives};
 ghost use Rattle.tks_bind.specs.Choosing.{chosen};
+ghost use Rattle.tks_bind.specs.VirtualEvents.{is_of_name};
+ghost use Rattle.tks_event.specs.Legality.{is_event};
+ghost use Rattle.tks_event.specs.Sequences.{is_name};
 ghost use Rattle.tks_tree.specs.Meets.{MakesSo};
 ghost use Rattle.tks_tree.specs.WellFormed as trees;
+ghost use Rattle.tks_tree.specs.WellFormed.{is_widget_class};
 ghost use Rattle.tks_state.specs.Widget.{class_of};
 ghost use Rattle.tks_state.specs.Windows.{kept_of};
-ghost use Rattle.tks_state.specs.EventLoop.{all_in};
+ghost use Rattle.tks_state.specs.EventLoop.{is_event_in_some_window, all_in};
 ghost use Rattle.tks_state.specs.WellFormed.{WellFormed};
-ghost use Rattle.tks_state.specs.Restoring.{is_possible, restored, world_with};
+ghost use Rattle.tks_state.specs.Restoring.{counts_fit, restored};
 ghost use Rattle.tks_queue.specs.EventQueue.{first};
 ghost use Rattle.tks_timer.specs.After.{script_in, kept_under};
 ghost use Rattle.tks_state.specs.World.{with_virtual, without_virtual, without_virtual_sequence, with_clock, queued, without_event, with_timer, with_idle, without_id, without_script, focused, holding, pressed_in};
-ghost use Rattle.tks_state.specs.World.{first_world, with_window, with_widget, unpacked, destroyed, tagged, packed, with_propagation, bound_to, with_event, with_fault, scene};
+ghost use Rattle.tks_state.specs.World.{world_with, first_world, with_window, with_widget, unpacked, destroyed, tagged, packed, with_propagation, bound_to, with_event, with_fault, scene};
 
 use crate::event_loop::{EventLoop, is_there, left_pressed};
 use crate::events::Events;
@@ -32,8 +36,8 @@ use tks_timer::{AfterFault, Timers};
 use tks_tree::{CreateFault, Tree, WindowId};
 use tks_vars::Vars;
 
-/// No more inputs are accepted.
-const MAX_ACCEPTED: u64 = 1 << 62;
+/// No number of a world is above this.
+const MAX_NUMBER: u64 = 1 << 62;
 
 /// What is kept between inputs. Copies share what none of them has changed.
 #[derive(Drop)]
@@ -66,6 +70,13 @@ impl Model for World {
     ghost invariant = { λ w. (w.accepted ≤ 2 ^ 62) × (all_in w.windows.tree.windows w.event_loop ≡ true) × (w.variables.locals ≡ []) };
 }
 
+// Whether so many inputs may have been accepted, and the clock may stand so.
+fn counts_fit(accepted: u64, clock: u64) -> bool
+    ensures { result ≡ counts_fit accepted clock }
+{
+    accepted <= MAX_NUMBER && clock <= MAX_NUMBER
+}
+
 impl World {
     /// The world before any input, with a grid of this size, for an application whose commands have these names.
     pub fn first(alloc: Global, grid: Size, names: &[Txt]) -> Result<World, AllocError>
@@ -84,11 +95,24 @@ impl World {
     }
 
     /// The world of these parts, where there may be such a world: one of these is kept of each window, of its class; what is
-    /// packed in a window are distinct windows that stand right in it; no more inputs were accepted than may be, and no more
-    /// faults are kept; no frame of variables stands; and the focus, the events that wait and the last press are of windows
+    /// packed in a window are distinct windows that stand right in it; no more inputs were accepted than may be, the clock is no
+    /// later, and no more faults are kept; no frame of variables stands; and the focus, the events that wait and the last press are of windows
     /// that are there.
-    #[tactic(auto, unfolding(crate::specs::Restoring::is_possible))]
+    #[tactic(auto, using(crate::proofs::Restored::too_many))]
     pub fn restore(alloc: Global, parts: WorldParts) -> Result<Option<World>, AllocError>
+        ensures { IfOk result (λ world. world ≡ restored parts) }
+    {
+        if !counts_fit(parts.accepted, parts.clock) {
+            return Ok(None);
+        }
+        World::of_parts(alloc, parts)
+    }
+
+    // The same, where no number is too great.
+    #[tactic(auto, unfolding(crate::specs::Restoring::is_possible))]
+    fn of_parts(alloc: Global, parts: WorldParts) -> Result<Option<World>, AllocError>
+        requires counted { parts.accepted ≤ 2 ^ 62 }
+        requires clock { parts.clock ≤ 2 ^ 62 }
         ensures { IfOk result (λ world. world ≡ restored parts) }
     {
         let WorldParts {
@@ -114,7 +138,7 @@ impl World {
         let variables = Shared::new(alloc, variables)?;
         let kept = kept_of_parts(alloc, &tree, windows)?;
         let event_loop = EventLoop::restore(alloc, clock, queue, timers, focus, held, pressed)?;
-        if accepted > MAX_ACCEPTED || variables.get().depth() > 0 || !event_loop.is_in(&tree) {
+        if variables.get().depth() > 0 || !event_loop.is_in(&tree) {
             return Ok(None);
         }
         let Some(windows) = Windows::restore(alloc, tree, kept) else {
@@ -227,8 +251,9 @@ impl World {
         self.accepted += 1;
     }
 
-    /// Makes a window, which is this widget. The path has to be one that no window has, in a window that is there.
+    /// Makes a window other than `.`, which is this widget. The path has to be one that no window has, in a window that is there.
     pub fn add_window(&mut self, path: &Txt, widget: Widget) -> Result<WindowId, CreateFault>
+        requires { is_widget_class (class_of widget) ≡ true }
         ensures value { MakesSo (λ id. (id, self.new)) result (with_window self.old path.now widget) }
         ensures err { OnErr result (self.new ≡ self.old) }
     {
@@ -340,8 +365,10 @@ impl World {
         self.events.virtuals()
     }
 
-    /// Adds a sequence to a virtual event. One that is there stays where it is.
+    /// Adds a sequence of physical events to a virtual event. One that is there stays where it is.
     pub fn add_virtual(&mut self, name: &Txt, sequence: &Sequence) -> Result<(), AllocError>
+        requires name { is_name name.now ≡ true }
+        requires physical { is_of_name sequence.now ≡ false }
         ensures ok { OnOk result (self.new ≡ with_virtual name.now sequence.now self.old) }
         ensures err { OnErr result (self.new ≡ self.old) }
     {
@@ -370,6 +397,7 @@ impl World {
 
     /// Adds an event that is delivered to the history. Where memory is refused, it hands the event back.
     pub fn add_event(&mut self, event: Event) -> Result<(), AllocFailed<Event>>
+        requires { is_event event ≡ true }
         ensures ok { OnOk result (self.new ≡ with_event event self.old) }
         ensures err { OnErr result (self.new ≡ self.old) }
         ensures handed_back { IfErr result (λ refused. refused.value ≡ event) }
@@ -387,13 +415,15 @@ impl World {
 
     /// The time, in milliseconds.
     pub fn clock(&self) -> u64
-        ensures { result ≡ self.now.clock }
+        ensures value { result ≡ self.now.clock }
+        ensures bound { self.now.clock ≤ 2 ^ 62 }
     {
         self.event_loop.clock()
     }
 
     /// Sets the clock.
     pub fn set_clock(&mut self, time: u64)
+        requires { time ≤ 2 ^ 62 }
         ensures { self.new ≡ with_clock time self.old }
     {
         self.event_loop.set_clock(time);
@@ -408,6 +438,7 @@ impl World {
 
     /// Puts an event into its place. Where no window has its number, nothing is done.
     pub fn put_event(&mut self, place: Place, event: Event) -> Result<(), AllocError>
+        requires { is_event_in_some_window event ≡ true }
         ensures ok { OnOk result (self.new ≡ queued place event self.old) }
         ensures err { OnErr result (self.new ≡ self.old) }
     {
@@ -420,6 +451,7 @@ impl World {
     /// Takes out the event that is delivered next.
     pub fn take_event(&mut self) -> Result<Option<Event>, AllocError>
         ensures value { IfOk result (λ event. event ≡ first self.old.queue) }
+        ensures legal { IfOk result (λ o. IfSome o (λ event. is_event event ≡ true)) }
         ensures ok { OnOk result (self.new ≡ without_event self.old) }
         ensures err { OnErr result (self.new ≡ self.old) }
     {
@@ -480,8 +512,11 @@ impl World {
 
     /// The window that has the focus.
     pub fn focus(&self) -> WindowId
-        ensures { result ≡ self.now.focus }
+        ensures value { result ≡ self.now.focus }
+        ensures bound { self.now.focus ≤ 2 ^ 62 }
     {
+        // What holds of all windows is asked for here.
+        let _ = self.windows.get().tree();
         self.event_loop.focus()
     }
 

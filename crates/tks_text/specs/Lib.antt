@@ -1,5 +1,6 @@
 pub mod Text
 pub mod Limits
+pub mod Short
 pub mod Size
 pub mod Fault
 pub mod Run

@@ -1,9 +1,14 @@
 ghost use Rattle.std.specs.Prelude.{◌≡◌, ◌<◌, ◌==◌, ◌++◌, [], ◌∷◌, length, slice_set, OnOk, OnErr};
+ghost use Rattle.std.specs.List.{remove};
+ghost use Rattle.tks_text.specs.Short.{IsShort};
 
 use std::alloc::{AllocError, Global};
 use std::marker::Model;
 
-/// A list inside a value that contracts compare: they see its items alone, and no capacity.
+/// The most bytes of a text, and the most items of a list.
+pub(crate) const MAX_LEN: usize = 4_294_967_295;
+
+/// A list of fewer than 2^32 items inside a value that contracts compare: they see its items alone, and no capacity.
 #[derive(Drop)]
 pub struct Seq<T> {
     items: Vec<T>,
@@ -11,10 +16,13 @@ pub struct Seq<T> {
 
 impl<T> Model for Seq<T> {
     ghost use Rattle.std.specs.Prelude.{List};
+    ghost use Rattle.tks_text.specs.Short.{IsShort};
 
     ghost Value = { List T };
 
     ghost view = { λ s. s.items.items };
+
+    ghost invariant = { λ s. IsShort s.items.items };
 }
 
 impl<T> Seq<T> {
@@ -29,7 +37,8 @@ impl<T> Seq<T> {
 
     /// How many items there are.
     pub fn len(&self) -> usize
-        ensures { result ≡ length self.now }
+        ensures value { result ≡ length self.now }
+        ensures short { IsShort self.now }
     {
         self.items.len()
     }
@@ -50,18 +59,22 @@ impl<T> Seq<T> {
 
     /// The items, in order.
     pub fn as_slice(&self) -> &[T]
-        ensures { result.now ≡ self.now }
+        ensures value { result.now ≡ self.now }
+        ensures short { IsShort self.now }
     {
         self.items.as_slice()
     }
 }
 
 impl<T: Drop> Seq<T> {
-    /// Adds an item at the end.
+    /// Adds an item at the end. One too many is refused as memory is.
     pub fn push(&mut self, item: T) -> Result<(), AllocError>
         ensures ok { OnOk result (self.new ≡ self.old ++ item ∷ []) }
         ensures err { OnErr result (self.new ≡ self.old) }
     {
+        if self.items.len() >= MAX_LEN {
+            return Err(AllocError);
+        }
         self.items.push(item)?;
         Ok(())
     }
@@ -72,5 +85,13 @@ impl<T: Drop> Seq<T> {
         ensures { self.new ≡ slice_set self.old index item }
     {
         self.items[index] = item;
+    }
+
+    /// Takes out the item at an index, counted from 0.
+    pub fn remove(&mut self, index: usize)
+        requires { index < length self.old }
+        ensures { self.new ≡ remove self.old index }
+    {
+        self.items.remove(index);
     }
 }

@@ -1,13 +1,15 @@
 ghost use Rattle.std.specs.Prelude.{◌≡◌, ℕ, ◌↔◌, ◌++◌, [], ◌∷◌, ◌==◌, take, Some, position, length, IfOk, OnOk, OnErr, not, true, false};
+ghost use Rattle.tks_text.specs.Short.{IsShort};
 ghost use Rattle.tks_text.specs.Text.{is_text_byte, is_text, IsText};
 
+use crate::list::MAX_LEN;
 use std::alloc::{AllocError, Global};
 use std::hash::{Hash, Hasher};
 use std::marker::Model;
 use thiserror::Error;
 
-/// A text: bytes each of which is a tab, a newline or a printing character of ASCII (32 to 126).
-/// Contracts see it as the list of its bytes.
+/// A text: fewer than 2^32 bytes, each of which is a tab, a newline or a printing character of ASCII (32 to 126). What would
+/// be longer is refused as memory is. Contracts see it as the list of its bytes.
 #[derive(Debug, Drop)]
 pub struct Txt {
     bytes: Vec<u8>,
@@ -15,13 +17,14 @@ pub struct Txt {
 
 impl Model for Txt {
     ghost use Rattle.std.specs.Prelude.{List, ℕ};
+    ghost use Rattle.tks_text.specs.Short.{IsShort};
     ghost use Rattle.tks_text.specs.Text.{IsText};
 
     ghost Value = { List ℕ };
 
     ghost view = { λ t. t.bytes.items };
 
-    ghost invariant = { λ t. IsText t.bytes.items };
+    ghost invariant = { λ t. IsText t.bytes.items × IsShort t.bytes.items };
 }
 
 /// Why bytes make no text.
@@ -89,6 +92,9 @@ impl Txt {
         requires { IsText bytes.now }
         ensures { IfOk result (λ t. t ≡ bytes.now) }
     {
+        if bytes.len() > MAX_LEN {
+            return Err(AllocError);
+        }
         Ok(Txt {
             bytes: Vec::from_slice(alloc, bytes)?,
         })
@@ -117,6 +123,9 @@ impl Txt {
         ensures ok { OnOk result (self.new ≡ self.old ++ byte ∷ []) }
         ensures err { OnErr result (self.new ≡ self.old) }
     {
+        if self.bytes.len() >= MAX_LEN {
+            return Err(AllocError);
+        }
         self.bytes.push(byte)?;
         Ok(())
     }
@@ -127,7 +136,11 @@ impl Txt {
         ensures ok { OnOk result (self.new ≡ self.old ++ more.now) }
         ensures err { OnErr result (self.new ≡ self.old) }
     {
-        self.bytes.extend_from_slice(more.as_bytes())?;
+        let bytes = more.as_bytes();
+        if bytes.len() > MAX_LEN - self.bytes.len() {
+            return Err(AllocError);
+        }
+        self.bytes.extend_from_slice(bytes)?;
         Ok(())
     }
 
@@ -139,6 +152,9 @@ impl Txt {
     {
         let bytes = more.as_bytes();
         let count = count.min(bytes.len());
+        if count > MAX_LEN - self.bytes.len() {
+            return Err(AllocError);
+        }
         self.bytes.extend_from_slice(&bytes[..count])?;
         Ok(())
     }
@@ -147,6 +163,7 @@ impl Txt {
     pub fn as_bytes(&self) -> &[u8]
         ensures value { result.now ≡ self.now }
         ensures text { IsText self.now }
+        ensures short { IsShort self.now }
     {
         &self.bytes
     }

@@ -120,14 +120,16 @@ impl Timers {
 
     /// How many timers there are.
     pub fn timer_count(&self) -> usize
-        ensures { result ≡ length self.now.present.timers }
+        ensures value { result ≡ length self.now.present.timers }
+        ensures short { length self.now.present.timers < 2 ^ 32 }
     {
         self.timers.len()
     }
 
     /// How many idle scripts there are.
     pub fn idle_count(&self) -> usize
-        ensures { result ≡ length self.now.present.idles }
+        ensures value { result ≡ length self.now.present.idles }
+        ensures short { length self.now.present.idles < 2 ^ 32 }
     {
         self.idles.len()
     }

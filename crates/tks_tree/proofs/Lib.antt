@@ -6,4 +6,5 @@ pub mod Preorders
 pub mod Families
 pub mod Once
 pub mod Parents
+pub mod Below
 pub mod Earlier

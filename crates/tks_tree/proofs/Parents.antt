@@ -11,7 +11,7 @@ use Rattle.tks_text.specs.declared.class.Class.{Class}
 use Rattle.tks_text.specs.declared.fault.ErrorNumber.TheVariants.{NotAllowedOnRoot}
 use Rattle.tks_text.specs.declared.fault.ScriptFault.{ScriptFault}
 use Rattle.tks_tree.specs.Windows.{Window, Windows, Refusal, OutOfNumbers, root, on_window, of_path, of_number, has_path, max_number, free_path, after, numbered, created, with_window, without, destroyed, number_at, parent}
-use Rattle.tks_tree.specs.WellFormed.{Rise, AllFollow, WellFormed}
+use Rattle.tks_tree.specs.WellFormed.{Rise, AllFollow, is_widget_class, WellFormed}
 use Rattle.tks_tree.proofs.Trees.{either, both, true_or, or_true, first_true, second_true, has_more, from_some, some_is_none, parent_cut, Free, free, well_with}
 use Rattle.tks_tree.proofs.Removals.{stays, well_left, found_passes}
 
@@ -248,12 +248,12 @@ abbrev WhenMade : Windows → Result (ℕ × Windows) Refusal → Type 0
 WhenMade t (Ok x) = Made t x.1
 WhenMade t (Err why) = Unit {0}
 
-when_made : (t : Windows) (path : List ℕ) (class : Class) → WellFormed t → WhenMade t (created t path class)
-when_made t path class w = by (free_path t.windows path) refl
+when_made : (t : Windows) (path : List ℕ) (class : Class) → WellFormed t → is_widget_class class ≡ true → WhenMade t (created t path class)
+when_made t path class w widget = by (free_path t.windows path) refl
   where
     with_number : (b : Bool) → nat_lt t.next max_number ≡ b → Free t.windows path → WhenMade t (if b then Ok (t.next, with_window t path class) else Err OutOfNumbers)
     with_number true e f = record {
-      well = well_with t path class w f.is_one f.new f.found (ltb-true _ _ e);
+      well = well_with t path class w f.is_one f.new f.found (ltb-true _ _ e) widget;
       stands = λ number container h. has_parent (with_window t path class) number container (child_still _ t.windows number container (child_at t number container h));
     }
     with_number false e f = tt
@@ -262,8 +262,8 @@ when_made t path class w = by (free_path t.windows path) refl
     by (Ok x) e = with_number (nat_lt t.next max_number) refl (free t.windows path e)
     by (Err why) e = tt
 
-pub made_so : (t u : Windows) (path : List ℕ) (number : ℕ) (class : Class) → WellFormed t → created t path class ≡ Ok (number, u) → Made t u
-made_so t u path number class w e = subst (WhenMade t) e (when_made t path class w)
+pub made_so : (t u : Windows) (path : List ℕ) (number : ℕ) (class : Class) → WellFormed t → is_widget_class class ≡ true → created t path class ≡ Ok (number, u) → Made t u
+made_so t u path number class w widget e = subst (WhenMade t) e (when_made t path class w widget)
 
 -- ---- a window less
 

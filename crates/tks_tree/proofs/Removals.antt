@@ -13,7 +13,7 @@ use Rattle.std.proofs.lemmas.Bool.{ltb-false, eqb-true, eq-eqb}
 use Rattle.tks_tree.specs.View.{others}
 use Rattle.tks_tree.specs.Windows.{Window, Windows, root, on_window, of_path, of_number, has_path, without, destroyed}
 use Rattle.tks_text.specs.declared.fault.ErrorNumber.TheVariants.{NotAllowedOnRoot}
-use Rattle.tks_tree.specs.WellFormed.{StandsIn, Follows, AllFollow, WellFormed}
+use Rattle.tks_tree.specs.WellFormed.{StandsIn, Follows, AllFollow, has_own_class, HaveOwnClasses, WellFormed}
 use Rattle.tks_tree.proofs.Trees.{rise_filter, within_child, true_or, has_more, from_some, some_is_none}
 
 module _ (q : List ℕ) where
@@ -86,6 +86,14 @@ module _ (q : List ℕ) where
       at_root (b ∷ []) h = and_false (46 == b)
       at_root (b ∷ c ∷ q) h = and_false (46 == b)
 
+  classes_left : (ws : List Window) → HaveOwnClasses ws → HaveOwnClasses (filter stays ws)
+  classes_left [] all = all
+  classes_left (w ∷ ws) all = by (stays w) (classes_left ws all.1)
+    where
+      by : (b : Bool) → HaveOwnClasses (filter stays ws) → HaveOwnClasses (cond b (w ∷ filter stays ws) (filter stays ws))
+      by true rest = (all.0, rest)
+      by false rest = rest
+
   pub well_left : (t : Windows) → WellFormed t → is_path q ≡ true → same_text q root_path ≡ false → WellFormed (record t { windows = filter stays t.windows })
   well_left t w h k =
       record {
@@ -93,6 +101,7 @@ module _ (q : List ℕ) where
         numbered = rise_filter stays 0 t.windows t.next w.numbered;
         bounded = w.bounded;
         founded = all_left [] t.windows w.founded;
+        classes = classes_left t.windows w.classes;
       }
 
 -- a window other than the first isn't `.`

@@ -12,7 +12,7 @@ use Rattle.tks_text.specs.Text.{same_text}
 use Rattle.tks_text.specs.declared.class.Class.{Class}
 use Rattle.tks_tree.specs.Path.{root_path, is_dot, before_dot, before_last_dot, or_root, parent_of, goes_on, is_within, is_path, are_names_behind_dot}
 use Rattle.tks_tree.specs.Windows.{Window, Windows, root, Refusal, of_path, has_path, max_number, parent_found, free_path, after, numbered, created, with_window, refused, OutOfNumbers}
-use Rattle.tks_tree.specs.WellFormed.{Rise, StandsIn, Follows, AllFollow, WellFormed}
+use Rattle.tks_tree.specs.WellFormed.{Rise, StandsIn, Follows, AllFollow, is_widget_class, has_own_class, HaveOwnClasses, WellFormed}
 
 -- ---- numbers
 
@@ -215,9 +215,13 @@ made t path class h below =
     ap (λ r. after r (λ _. numbered t path class)) h
     ∙ ap (λ (b : Bool). if b then Ok (t.next, with_window t path class) else Err OutOfNumbers) (lt-ltb t.next max_number below)
 
+classes_end : (ws : List Window) (v : Window) → HaveOwnClasses ws → has_own_class v ≡ true → HaveOwnClasses (ws ++ v ∷ [])
+classes_end [] v all h = (h, tt)
+classes_end (w ∷ ws) v all h = (all.0, classes_end ws v all.1 h)
+
 pub well_with : (t : Windows) (path : List ℕ) (class : Class) → WellFormed t → is_path path ≡ true → has_path t.windows path ≡ false
-    → parent_found t.windows (parent_of path) ≡ Ok (tt {0}) → t.next < max_number → WellFormed (with_window t path class)
-well_with t path class w h new found below =
+    → parent_found t.windows (parent_of path) ≡ Ok (tt {0}) → t.next < max_number → is_widget_class class ≡ true → WellFormed (with_window t path class)
+well_with t path class w h new found below widget =
     let v : Window = record { number = t.next; path = path; class = class } in
     record {
       first = (w.first.0 ++ v ∷ [], ap (λ ws. ws ++ v ∷ []) w.first.1);
@@ -229,10 +233,11 @@ well_with t path class w h new found below =
         parent = subst (λ ws. StandsIn (parent_of path) ws) (sym w.first.1)
             (stands w.first.0 path h (sym (ap (λ ws. has_path ws path) w.first.1) ∙ new) (sym (ap (λ ws. parent_found ws (parent_of path)) w.first.1) ∙ found));
       });
+      classes = classes_end t.windows v w.classes (or_true (t.next == 0) (is_widget_class class) widget);
     }
 
 -- ---- numbers skipped
 
 pub well_skipped : (t : Windows) (n : ℕ) → WellFormed t → t.next ≤ n → n ≤ max_number → WellFormed (record t { next = n })
 well_skipped t n w above bounded =
-    record { first = w.first; numbered = rise_to 0 t.windows t.next n above w.numbered; bounded = bounded; founded = w.founded }
+    record { first = w.first; numbered = rise_to 0 t.windows t.next n above w.numbered; bounded = bounded; founded = w.founded; classes = w.classes }

@@ -1,5 +1,8 @@
 -- What holds of all windows (this project's own rules).
-use Rattle.std.specs.Prelude.{◌≡◌, ⊤, ℕ, ◌+◌, ◌≤◌, true, false, List, [], ◌∷◌, ◌++◌, Option, Some, None}
+use Rattle.std.specs.Prelude.{◌≡◌, ⊤, ℕ, ◌+◌, ◌≤◌, Bool, true, false, ◌||◌, ◌==◌, List, [], ◌∷◌, ◌++◌, Option, Some, None}
+use Rattle.std.specs.List.{AllByRecursion}
+use Rattle.tks_text.specs.declared.class.Class.{Class}
+use Rattle.tks_text.specs.declared.class.Class.TheVariants.{Root}
 use Rattle.tks_tree.specs.Path.{is_path, parent_of}
 use Rattle.tks_tree.specs.Windows.{Window, Windows, root, max_number, has_path}
 pub use Rattle.tks_share.specs.Lists.{Rises}
@@ -26,10 +29,24 @@ abbrev pub AllFollow : List Window → List Window → Type 0
 AllFollow before [] = ⊤
 AllFollow before (w ∷ later) = Follows before w × AllFollow (before ++ w ∷ []) later
 
--- `.` is the first window, numbers rise and are below the next one, paths differ, and a parent stands
--- before those in it
+-- whether it is a class of windows other than `.`
+abbrev pub is_widget_class : Class → Bool
+is_widget_class Root = false
+is_widget_class class = true
+
+-- whether a window that has the root's class is `.`
+abbrev pub has_own_class : Window → Bool
+has_own_class w = (w.number == 0) || is_widget_class w.class
+
+-- only `.` has the root's class
+abbrev pub HaveOwnClasses : List Window → Type 0
+HaveOwnClasses windows = AllByRecursion (λ w. has_own_class w ≡ true) windows
+
+-- `.` is the first window, and it alone has the root's class; numbers rise and are below the next one, paths differ, and a
+-- parent stands before those in it
 pub record WellFormed (t : Windows) : Type 0 where
   pub first : (later : List Window) × (t.windows ≡ root ∷ later)
   pub numbered : Rise 0 t.windows t.next
   pub bounded : t.next ≤ max_number
   pub founded : AllFollow [] t.windows
+  pub classes : HaveOwnClasses t.windows

@@ -14,4 +14,4 @@ pub use laws::{
 };
 pub use path::is_path;
 pub use tree::Tree;
-pub use window::{Window, WindowId};
+pub use window::{Window, WindowId, is_widget_class};

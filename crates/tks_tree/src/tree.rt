@@ -1,9 +1,9 @@
-ghost use Rattle.std.specs.Prelude.{◌≡◌, ◌↔◌, ◌==◌, ◌++◌, ℕ, Bool, Some, ◌<◌, not, position, length, reverse, slice_get, IfOk, IfSome, OnOk, OnErr, option_map};
+ghost use Rattle.std.specs.Prelude.{◌≡◌, ◌↔◌, ◌≤◌, true, ◌==◌, ◌++◌, ℕ, Bool, Some, ◌<◌, not, position, length, reverse, slice_get, IfOk, IfSome, OnOk, OnErr, option_map};
 ghost use Rattle.tks_tree.specs.Path.{parent_of, is_child, is_within};
 ghost use Rattle.tks_text.specs.Fault.{Gives};
-ghost use Rattle.tks_tree.specs.Windows.{first_windows, of_path, has_path, of_number, parent_found, free_path, created, may_skip, skipped, destroyed, resolved, number_at, parent, children, preorder, others_behind, Chooses};
+ghost use Rattle.tks_tree.specs.Windows.{max_number, first_windows, of_path, has_path, of_number, parent_found, free_path, created, may_skip, skipped, destroyed, resolved, number_at, parent, children, preorder, others_behind, Chooses};
 ghost use Rattle.tks_tree.specs.Families.{families, childless, with_child};
-ghost use Rattle.tks_tree.specs.WellFormed.{WellFormed};
+ghost use Rattle.tks_tree.specs.WellFormed.{is_widget_class, WellFormed};
 ghost use Rattle.tks_tree.specs.View.{window_seen, others, Indexes};
 ghost use Rattle.tks_tree.specs.Meets.{MakesSo};
 
@@ -119,8 +119,11 @@ impl Tree {
 
     /// The number of the window of a path, which must be there: else the error is about the path.
     pub fn resolve(&self, path: &Txt) -> Result<WindowId, Failure>
-        ensures { Gives (λ id. id) result (resolved self.now path.now) }
+        ensures value { Gives (λ id. id) result (resolved self.now path.now) }
+        ensures bound { IfOk result (λ id. id ≤ max_number) }
     {
+        // What holds of all windows is asked for here.
+        let _ = self.len();
         match self.find(path) {
             Some(window) => Ok(window.id),
             None => Err(Failure::Script(ScriptFault::about(ErrorNumber::NoSuchWindow, path)?)),
@@ -157,8 +160,9 @@ impl Tree {
         Ok(())
     }
 
-    /// Makes a window, where one may be made under the path.
+    /// Makes a window of a class that isn't the root's, where one may be made under the path.
     pub fn create(&mut self, path: &Txt, class: Class) -> Result<WindowId, CreateFault>
+        requires { is_widget_class class ≡ true }
         ensures value { MakesSo (λ id. (id, self.new)) result (created self.old path.now class) }
         ensures err { OnErr result (self.new ≡ self.old) }
     {

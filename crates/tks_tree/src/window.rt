@@ -1,4 +1,5 @@
 ghost use Rattle.std.specs.Prelude.{◌≡◌, ◌==◌};
+ghost use Rattle.tks_tree.specs.WellFormed.{is_widget_class};
 
 use std::marker::Model;
 use tks_share::Numbered;
@@ -47,6 +48,22 @@ impl WindowId {
         ensures { result ≡ self }
     {
         self.number
+    }
+}
+
+/// Whether a class is one of windows other than `.`.
+pub fn is_widget_class(class: Class) -> bool
+    ensures { result ≡ is_widget_class class }
+{
+    match class {
+        Class::Root => false,
+        Class::Frame
+        | Class::Label
+        | Class::Button
+        | Class::Checkbutton
+        | Class::Entry
+        | Class::Listbox
+        | Class::Text => true,
     }
 }
 

@@ -1,6 +1,7 @@
 pub mod Changes
 pub mod Frames
 pub mod Entries
+pub mod Naming
 pub mod Keeping
 pub mod Scripting
 pub mod Linking

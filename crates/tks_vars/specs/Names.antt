@@ -1,6 +1,7 @@
 -- The names of variables (Tcl(n), rule 8; set(n)).
 use Rattle.std.specs.Prelude.{ℕ, Bool, false, is_none, ◌+◌, ◌-◌, ◌==◌, if◌then◌else◌, List, [], ◌∷◌, length, take, drop, Option, Some, None, option_map, position, codes}
 use Rattle.tks_text.specs.Text.{same_text}
+use Rattle.tks_vars.specs.Table.{IsName}
 
 -- a variable, and, where an element of it is named, the index
 pub record Name : Type 0 where
@@ -43,3 +44,13 @@ is_whole (Some name) = is_none name.index
 -- before the first `(`, and none where nothing stands before it; any other is that of a whole variable
 abbrev pub named : List ℕ → Option Name
 named text = named_in text (halves text)
+
+-- an index, if there is one, is a text
+abbrev pub IsIndex : Option (List ℕ) → Type 0
+IsIndex None = Unit {0}
+IsIndex (Some index) = IsName index
+
+-- its parts are texts
+pub record IsSpelled (name : Name) : Type 0 where
+  pub variable : IsName name.variable
+  pub index : IsIndex name.index

@@ -2,6 +2,8 @@ ghost use Rattle.std.specs.Prelude.{◌≡◌, IfOk, OnErr, None, Some, Ok};
 ghost use Rattle.tks_text.specs.Fault.{Gives};
 ghost use Rattle.tks_vars.specs.Growth.{lengthened};
 ghost use Rattle.tks_vars.specs.Meets.{AnswersSo, index_seen};
+ghost use Rattle.tks_vars.specs.Names.{IsIndex};
+ghost use Rattle.tks_vars.specs.Table.{IsName};
 ghost use Rattle.tks_vars.specs.Variables.{about, value_in, updated, taken, is_there, grown_inside};
 
 use crate::growth::lengthen_element;
@@ -30,6 +32,7 @@ pub enum Local {
 impl Content {
     /// A new variable with a value: a scalar, or an array with one element.
     pub fn of(alloc: Global, index: Option<&[u8]>, value: ListText) -> Result<Content, AllocError>
+        requires { IsIndex (index_seen index) }
         ensures { IfOk result (λ made. updated None (index_seen index.entry) value ≡ Ok made) }
     {
         match index {
@@ -73,6 +76,7 @@ impl Content {
         index: Option<&[u8]>,
         value: ListText,
     ) -> Result<Content, Failure>
+        requires { IsIndex (index_seen index) }
         ensures { Gives (λ c. c) result (about name.now (updated (Some self.now) (index_seen index.entry) value)) }
     {
         match (self, index) {

@@ -1,12 +1,14 @@
-ghost use Rattle.std.specs.Prelude.{◌≡◌, IfOk, IfSome, IfNone, None, OnOk, OnErr, option_copied};
+ghost use Rattle.std.specs.Prelude.{◌≡◌, ◌<◌, ◌^◌, IfOk, IfSome, IfNone, None, OnOk, OnErr, option_copied};
 ghost use Rattle.std.specs.FinMap as map;
+ghost use Rattle.std.specs.List.{AllByRecursion};
+ghost use Rattle.tks_vars.specs.Table.{IsName, HasName};
 
 use std::alloc::{AllocError, Global};
 use std::marker::Model;
 use tks_share::{Change, Copied, Iter, SharedMap};
 use tks_text::Txt;
 
-/// A finite map from names to values, in the order of the names' bytes. Copies share what they have in common.
+/// A finite map from names, which are texts, to values, in the order of the names' bytes. Copies share what they have in common.
 #[derive(Drop)]
 pub struct Table<V> {
     entries: SharedMap<V>,
@@ -23,6 +25,10 @@ impl<V> Model for Table<V> {
     ghost coded = { map.code (coded_list coded_ℕ) V.code };
 
     ghost view = { λ t. t.entries };
+
+    ghost use Rattle.tks_vars.specs.Table.{AreNames};
+
+    ghost invariant = { λ t. AreNames t.entries };
 }
 
 impl<V: Drop> Table<V> {
@@ -58,14 +64,16 @@ impl<V: Drop> Table<V> {
 
     /// The names with what is under each, in the order of the names' bytes.
     pub fn iter(&self) -> Iter<'_, V>
-        ensures { result ≡ map.entries self.now }
+        ensures value { result ≡ map.entries self.now }
+        ensures names { AllByRecursion HasName (map.entries self.now) }
     {
         self.entries.iter()
     }
 
     /// How many names there are.
     pub fn len(&self) -> usize
-        ensures { result ≡ map.len self.now }
+        ensures value { result ≡ map.len self.now }
+        ensures short { map.len self.now < 2 ^ 32 }
     {
         self.entries.len()
     }
@@ -86,6 +94,7 @@ impl<V: Drop> Table<V> {
 
     /// Puts a value under a name, in the place of the one that is there.
     pub fn insert(&mut self, name: &[u8], value: V) -> Result<(), AllocError>
+        requires { IsName name.now }
         ensures ok { OnOk result (self.new ≡ map.insert self.old name.now value) }
         ensures err { OnErr result (self.new ≡ self.old) }
     {

@@ -4,7 +4,8 @@ ghost use Rattle.tks_text.specs.Fault.{Gives};
 ghost use Rattle.tks_vars.specs.View.{name_seen};
 ghost use Rattle.tks_vars.specs.Variables.{about, is_link, with_link};
 ghost use Rattle.tks_vars.specs.Parts.{put_global, put_local, without_name, take_global, take_local};
-ghost use Rattle.tks_vars.specs.Names.{element};
+ghost use Rattle.tks_vars.specs.Names.{element, IsSpelled};
+ghost use Rattle.tks_vars.specs.Table.{IsName};
 
 use crate::content::{Content, Local};
 use crate::name::{Name, named};
@@ -21,6 +22,7 @@ pub fn write_global(
     part: Name<'_>,
     value: ListText,
 ) -> Result<(), Failure>
+    requires { IsSpelled (name_seen part) }
     ensures value { Gives (λ _. globals.new) result (about name.now (put_global globals.old (name_seen part.entry) value)) }
     ensures err { OnErr result (globals.new ≡ globals.old) }
 {
@@ -45,7 +47,8 @@ pub fn write_local(
     part: Name<'_>,
     value: ListText,
 ) -> Result<(), Failure>
-    requires { is_link (map.get frame.old part.variable.now) ≡ false }
+    requires own { is_link (map.get frame.old part.variable.now) ≡ false }
+    requires spelled { IsSpelled (name_seen part) }
     ensures value { Gives (λ _. frame.new) result (about name.now (put_local frame.old (name_seen part.entry) value)) }
     ensures err { OnErr result (frame.new ≡ frame.old) }
 {
@@ -66,6 +69,7 @@ pub fn write_local(
 
 /// Takes a global, or an element of one, out. The error tells the name.
 pub fn take_global(globals: &mut Table<Content>, name: &Txt, part: Name<'_>) -> Result<(), Failure>
+    requires { IsSpelled (name_seen part) }
     ensures value { Gives (λ _. globals.new) result (about name.now (take_global globals.old (name_seen part.entry))) }
     ensures err { OnErr result (globals.new ≡ globals.old) }
 {
@@ -77,7 +81,8 @@ pub fn take_global(globals: &mut Table<Content>, name: &Txt, part: Name<'_>) -> 
 
 /// The same of a procedure's own variable.
 pub fn take_local(frame: &mut Table<Local>, name: &Txt, part: Name<'_>) -> Result<(), Failure>
-    requires { is_link (map.get frame.old part.variable.now) ≡ false }
+    requires own { is_link (map.get frame.old part.variable.now) ≡ false }
+    requires spelled { IsSpelled (name_seen part) }
     ensures value { Gives (λ _. frame.new) result (about name.now (take_local frame.old (name_seen part.entry))) }
     ensures err { OnErr result (frame.new ≡ frame.old) }
 {
@@ -106,6 +111,7 @@ fn take_global_element(
     variable: &[u8],
     index: &[u8],
 ) -> Result<(), Failure>
+    requires { IsName variable.now }
     ensures value { Gives (λ _. globals.new) result (about name.now (take_global globals.old (element variable.now index.now))) }
     ensures err { OnErr result (globals.new ≡ globals.old) }
 {
@@ -126,7 +132,8 @@ fn take_local_element(
     variable: &[u8],
     index: &[u8],
 ) -> Result<(), Failure>
-    requires { is_link (map.get frame.old variable.now) ≡ false }
+    requires own { is_link (map.get frame.old variable.now) ≡ false }
+    requires spelled { IsName variable.now }
     ensures value { Gives (λ _. frame.new) result (about name.now (take_local frame.old (element variable.now index.now))) }
     ensures err { OnErr result (frame.new ≡ frame.old) }
 {

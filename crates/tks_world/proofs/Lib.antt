@@ -6,3 +6,4 @@ pub mod Wider
 pub mod Stepping
 pub mod Words
 pub mod Resting
+pub mod Legal

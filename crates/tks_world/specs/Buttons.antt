@@ -1,7 +1,7 @@
 -- Buttons that go down and up over cells of the grid (bind(n), "Event types": what events of buttons carry; that a release
 -- goes to the window that took the last press, and that all of it is fixed when the input is accepted, are this project's
 -- own rules).
-use Rattle.std.specs.Prelude.{pos, ◌-ℤ◌, ℕ, Bool, true, false, ◌&&◌, ◌==◌, nat_le, nat_lt, if◌then◌else◌, [], Option, Some, None, decimal}
+use Rattle.std.specs.Prelude.{pos, ◌-ℤ◌, ℕ, ◌≤◌, Bool, true, false, ◌&&◌, ◌==◌, nat_le, nat_lt, if◌then◌else◌, [], Option, Some, None, decimal}
 use Rattle.std.specs.List.{find}
 use Rattle.tks_text.specs.declared.limits.Limits.{Limits}
 use Rattle.tks_event.specs.Held.{state_of, with_button}
@@ -30,6 +30,10 @@ on_grid w x y = nat_lt x w.grid.width && nat_lt y w.grid.height
 abbrev pub target_placed : ℕ → Option Placed → Target
 target_placed window None = record { window = window; column = 0; row = 0 }
 target_placed window (Some p) = record { window = window; column = p.area.x; row = p.area.y }
+
+-- its top left cell is one that some grid has
+abbrev pub IsNear : Target → Type 0
+IsNear t = (t.column ≤ 200) × (t.row ≤ 100)
 
 -- the topmost window of a cell; `.` has those that no other has
 abbrev pub seen_target : Option Placed → Target

@@ -1,9 +1,11 @@
 //! Buttons that go down and up over cells of the grid.
-ghost use Rattle.std.specs.Prelude.{◌≡◌, ◌==◌, option_copied, IfOk, IfErr, OnErr};
+ghost use Rattle.std.specs.Prelude.{◌≡◌, ◌≤◌, ◌^◌, ◌==◌, true, option_copied, IfOk, IfErr, IfSome, OnErr};
 ghost use Rattle.std.specs.List.{find};
+ghost use Rattle.tks_text.specs.Size.{IsGridSize};
+ghost use Rattle.tks_state.specs.EventLoop.{is_event_in_some_window};
 ghost use Rattle.tks_world.specs.Meets.{RefusedSo};
 ghost use Rattle.tks_world.specs.Stepped.{Accepts};
-ghost use Rattle.tks_world.specs.Buttons.{is_button_number, on_grid, target_placed, target_at, target_of, release_target, button_event, press_gesture, release_gesture, press_step, release_step};
+ghost use Rattle.tks_world.specs.Buttons.{is_button_number, on_grid, target_placed, target_at, target_of, release_target, IsNear, button_event, press_gesture, release_gesture, press_step, release_step};
 
 use crate::gestures::{Gesture, accept_gesture};
 use std::alloc::{AllocError, Global};
@@ -38,9 +40,20 @@ fn is_on_grid(world: &World, x: u16, y: u16) -> bool
     x < grid.width() && y < grid.height()
 }
 
+// What holds of the grid and the clock of each world.
+fn bounds(world: &World)
+    ensures grid { IsGridSize world.now.grid.width world.now.grid.height }
+    ensures clock { world.now.clock ≤ 2 ^ 62 }
+{
+    let _ = world.grid().width();
+    let _ = world.clock();
+}
+
 // A window with its top left cell, which counts as that of the grid where it is not shown.
 fn target_placed(window: WindowId, placed: Option<Placed>) -> Target
-    ensures { result ≡ target_placed window placed }
+    requires { IfSome placed (λ p. (p.area.x ≤ 200) × (p.area.y ≤ 100)) }
+    ensures value { result ≡ target_placed window placed }
+    ensures near { IsNear result }
 {
     match placed {
         Some(placed) => Target {
@@ -58,8 +71,10 @@ fn target_placed(window: WindowId, placed: Option<Placed>) -> Target
 
 // The window that is seen in a cell; `.` has those that no other has.
 fn target_at(world: &World, x: u16, y: u16) -> Result<Target, AllocError>
-    ensures { IfOk result (λ t. t ≡ target_at world.now x y) }
+    ensures value { IfOk result (λ t. t ≡ target_at world.now x y) }
+    ensures near { IfOk result IsNear }
 {
+    bounds(world);
     match world.topmost(u32::from(x), u32::from(y))? {
         Some(placed) => Ok(target_placed(placed.window, Some(placed))),
         None => Ok(target_placed(WindowId::root(), None)),
@@ -80,15 +95,18 @@ fn placed(shown: &[Placed], window: WindowId) -> Option<Placed>
 
 // The window of a number.
 fn target_of(world: &World, window: WindowId) -> Result<Target, AllocError>
-    ensures { IfOk result (λ t. t ≡ target_of world.now window) }
+    ensures value { IfOk result (λ t. t ≡ target_of world.now window) }
+    ensures near { IfOk result IsNear }
 {
+    bounds(world);
     let shown = world.shown_windows()?;
     Ok(target_placed(window, placed(&shown, window)))
 }
 
 // The window that a release goes to.
 fn release_target(world: &World, x: u16, y: u16) -> Result<Target, AllocError>
-    ensures { IfOk result (λ t. t ≡ release_target world.now x y) }
+    ensures value { IfOk result (λ t. t ≡ release_target world.now x y) }
+    ensures near { IfOk result IsNear }
 {
     match world.pressed() {
         Some(window) => {
@@ -136,10 +154,14 @@ fn press_gesture(
     x: u16,
     y: u16,
 ) -> Result<Gesture, AllocError>
-    ensures { IfOk result (λ g. g ≡ press_gesture button x y (target_at world.now x y) world.now) }
+    requires button { is_button_number button ≡ true }
+    requires cell { on_grid world.now x y ≡ true }
+    ensures value { IfOk result (λ g. g ≡ press_gesture button x y (target_at world.now x y) world.now) }
+    ensures legal { IfOk result (λ g. is_event_in_some_window g.event ≡ true) }
 {
     let target = target_at(world, x, y)?;
     let event = button_event(alloc, world, Kind::ButtonPress, button, x, y, &target)?;
+    bounds(world);
     let mut held = world.held();
     held.set_button(button, true);
     Ok(Gesture {
@@ -157,10 +179,14 @@ fn release_gesture(
     x: u16,
     y: u16,
 ) -> Result<Gesture, AllocError>
-    ensures { IfOk result (λ g. g ≡ release_gesture button x y (release_target world.now x y) world.now) }
+    requires button { is_button_number button ≡ true }
+    requires cell { on_grid world.now x y ≡ true }
+    ensures value { IfOk result (λ g. g ≡ release_gesture button x y (release_target world.now x y) world.now) }
+    ensures legal { IfOk result (λ g. is_event_in_some_window g.event ≡ true) }
 {
     let target = release_target(world, x, y)?;
     let event = button_event(alloc, world, Kind::ButtonRelease, button, x, y, &target)?;
+    bounds(world);
     let mut held = world.held();
     held.set_button(button, false);
     Ok(Gesture {

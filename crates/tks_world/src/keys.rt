@@ -1,5 +1,8 @@
 //! Keys that go down and up.
-ghost use Rattle.std.specs.Prelude.{◌≡◌, IfOk, IfErr, OnErr};
+ghost use Rattle.std.specs.Prelude.{◌≡◌, true, IfOk, IfErr, OnErr};
+ghost use Rattle.tks_bind.specs.Percents.{is_of_key};
+ghost use Rattle.tks_event.specs.Keysyms.{is_keysym};
+ghost use Rattle.tks_state.specs.EventLoop.{is_event_in_some_window};
 ghost use Rattle.tks_world.specs.Meets.{RefusedSo};
 ghost use Rattle.tks_world.specs.Stepped.{Accepts};
 ghost use Rattle.tks_world.specs.Keys.{key_event, key_step, key_press_step, key_release_step};
@@ -13,8 +16,12 @@ use tks_text::{Limits, Txt};
 use tks_tree::WindowId;
 
 // The event of a key, which waits under `.`: a key goes to the window that has the focus when it is delivered.
+#[tactic(auto, using(crate::proofs::Legal::key_legal))]
 fn key_event(alloc: Global, world: &World, kind: Kind, key: &Txt) -> Result<Event, AllocError>
-    ensures { IfOk result (λ e. e ≡ key_event kind key.now world.now) }
+    requires kind { is_of_key kind ≡ true }
+    requires key { is_keysym key.now ≡ true }
+    ensures value { IfOk result (λ e. e ≡ key_event kind key.now world.now) }
+    ensures legal { IfOk result (λ e. is_event_in_some_window e ≡ true) }
 {
     Ok(Event {
         window: WindowId::root().number(),
@@ -39,6 +46,7 @@ fn step_key(
     held: Held,
     limits: &Limits,
 ) -> Result<Reply, Refused>
+    requires { is_of_key kind ≡ true }
     ensures accepted { IfOk result (λ reply. key_step limits.now kind key.now held world.old ≡ Accepts world.new reply) }
     ensures refused { IfErr result (λ why. RefusedSo why (key_step limits.now kind key.now held world.old)) }
     ensures unchanged { OnErr result (world.new ≡ world.old) }

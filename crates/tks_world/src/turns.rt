@@ -1,7 +1,9 @@
 //! A turn: one thing that waits is done.
-ghost use Rattle.std.specs.Prelude.{◌≡◌, [], IfOk, IfErr, OnErr};
+ghost use Rattle.std.specs.Prelude.{◌≡◌, true, [], IfOk, IfErr, OnErr};
 ghost use Rattle.tks_eval.specs.Meets.{EndsSo};
+ghost use Rattle.tks_event.specs.Legality.{is_event};
 ghost use Rattle.tks_world.specs.Stepped.{Accepts};
+ghost use Rattle.tks_world.specs.Things.{IsLegal};
 ghost use Rattle.tks_world.specs.Turns.{script_runs, event_runs, thing_does, finished, turn_does, turn_step};
 ghost use Rattle.tks_world.specs.Meets.{RefusedSo, ReachesSo};
 
@@ -52,6 +54,7 @@ fn run_event<T: AppMeaning, B: AppBody>(
     event: Event,
     limits: &Limits,
 ) -> Result<Ended, Stop>
+    requires { is_event event ≡ true }
     ensures { EndsSo (event_runs T.meaning limits.now event host.old variables.old) result host.new variables.new }
 {
     let plan = begin(alloc, &mut host.world, event, limits)?;
@@ -67,6 +70,7 @@ fn run_thing<T: AppMeaning, B: AppBody>(
     thing: Thing,
     limits: &Limits,
 ) -> Result<Ended, Stop>
+    requires { IsLegal thing }
     ensures { EndsSo (thing_does T.meaning limits.now thing host.old variables.old) result host.new variables.new }
 {
     match thing {
@@ -90,7 +94,8 @@ fn finish<T: AppMeaning, B: AppBody>(
     text: Txt,
     limits: &Limits,
 ) -> Result<Reply, Refused>
-    requires { variables.locals ≡ [] }
+    requires rests { variables.locals ≡ [] }
+    requires legal { IsLegal thing }
     ensures { ReachesSo (finished text (thing_does T.meaning limits.now thing host.old variables)) result host.new.world }
 {
     let mut variables = variables;

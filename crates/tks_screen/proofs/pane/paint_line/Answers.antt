@@ -15,4 +15,4 @@ returns-then-line-area c =
 pub returns : goal.returns
 returns c =
     all_painted c.args.pane.now c.args.line c.loop-column.column c.args.cells.now c.loop-column.cells c.loop-column.invariant.long c.loop-column.invariant.painted
-    (subst (λ n. min (c.args.pane.now.area.x + c.args.pane.now.area.width) n ≤ c.loop-column.column) c.len.ensures (omega arith))
+    (subst (λ n. min (c.args.pane.now.area.x + c.args.pane.now.area.width) n ≤ c.loop-column.column) c.len.ensures.value (omega arith))

@@ -1,7 +1,10 @@
-use Rattle.std.proofs.Common.{◌≡◌, take}
+use Rattle.std.proofs.Common.{◌≡◌, ◌≤◌, length, drop}
 use Rattle.tks_app.specs.Memories.{first_memories}
 use Rattle.tks_app.proofs.memories.Memories.first.Given as goal
 
--- the memories so far
-abbrev pub invariant-loop-name : goal.invariant-loop-name
-invariant-loop-name l = l.items.items ≡ first_memories (take l.name-index l.names)
+-- the memories of the names further on
+abbrev pub invariant-loop-index : goal.invariant-loop-index
+invariant-loop-index l = (l.index ≤ length l.fn.names) × (l.memories ≡ first_memories (drop l.index l.fn.names))
+
+abbrev pub decreases-loop-index : goal.decreases-loop-index
+decreases-loop-index l = l.index

@@ -2,7 +2,7 @@ use Rattle.std.proofs.Common.{rules, ◌≡◌, false, [], ◌∷◌, ◌++◌, 
 use Rattle.tks_bind.specs.VirtualEvents.{has_sequence}
 use Rattle.tks_bind.specs.VirtualIndexes.{found}
 use Rattle.tks_bind.specs.declared.virtual_event.VirtualEvent.{VirtualEvent}
-use Rattle.tks_bind.proofs.VirtualForming.{pushed_apart, replaced_apart, found_differs, met_more}
+use Rattle.tks_bind.proofs.VirtualForming.{pushed_apart, replaced_apart, found_legal, legal_first, legal_more}
 use Rattle.tks_bind.proofs.Virtually.{added_new, added_same, added_more, found_inside}
 use Rattle.tks_bind.proofs.virtuals.Virtuals.event_add.Goals as goal
 
@@ -34,7 +34,8 @@ pub invariant_of-self-in_default : goal.invariant_of-self-in_default
 invariant_of-self-in_default c =
     let gone : found c.args.name.now c.self.inside.events.present ≡ None = search rules in
     let new : VirtualEvent = record { name = c.args.name.now; sequences = c.args.sequence.now ∷ [] } in
-    let all = pushed_apart new c.self.inside.events.present gone refl c.self.invariant.present in
+    let legal = legal_first c.args.name.now c.args.sequence.now c.requires.name c.requires.physical in
+    let all = pushed_apart new c.self.inside.events.present gone legal c.self.invariant.present in
     rw (c.in_ok-push.ensures.ok, c.in_ok-event.ensures) (record { present = all; at_mark = c.self.invariant.at_mark })
 
 pub invariant_of-self-2 : goal.invariant_of-self-2
@@ -43,8 +44,8 @@ invariant_of-self-2 c =
     let lacks : has_sequence c.args.sequence.now c.in-Some.event.now.sequences ≡ false = search rules in
     let name : c.in_ok-try_clone.field-0 ≡ c.in-Some.event.now.name = search rules in
     let more : c.in_ok-with_one_more.field-0 ≡ c.in-Some.event.now.sequences ++ c.args.sequence.now ∷ [] = search rules in
-    let differ = found_differs c.args.name.now c.in-Some.event.now c.self.inside.events.present there c.self.invariant.present in
-    let met = met_more c.in-Some.event.now.name c.args.sequence.now c.in-Some.event.now.sequences differ lacks in
+    let old = found_legal c.args.name.now c.in-Some.event.now c.self.inside.events.present there c.self.invariant.present in
+    let legal = legal_more c.in-Some.event.now c.args.sequence.now old lacks c.requires.physical in
     let new : VirtualEvent = record { name = c.in-Some.event.now.name; sequences = c.in-Some.event.now.sequences ++ c.args.sequence.now ∷ [] } in
-    let all = replaced_apart c.args.name.now c.in-Some.event.now new c.self.inside.events.present there refl met c.self.invariant.present in
+    let all = replaced_apart c.args.name.now c.in-Some.event.now new c.self.inside.events.present there refl legal c.self.invariant.present in
     rw (c.in_ok-replace.ensures.ok, name, more, c.index_of-index.ensures) (record { present = all; at_mark = c.self.invariant.at_mark })

@@ -2,7 +2,7 @@ use Rattle.std.proofs.Common.{rules, ◌≡◌, ◌==◌, false, length, Some, N
 use Rattle.tks_bind.specs.VirtualEvents.{other_sequences}
 use Rattle.tks_bind.specs.VirtualIndexes.{found}
 use Rattle.tks_bind.specs.declared.virtual_event.VirtualEvent.{VirtualEvent}
-use Rattle.tks_bind.proofs.VirtualForming.{removed_apart, replaced_apart, found_differs, met_less}
+use Rattle.tks_bind.proofs.VirtualForming.{removed_apart, replaced_apart, found_legal, legal_less}
 use Rattle.tks_bind.proofs.Virtually.{none_deleted, last_deleted, one_deleted, found_inside, empty_list}
 use Rattle.tks_bind.proofs.virtuals.Virtuals.event_delete_sequence.Goals as goal
 
@@ -48,8 +48,8 @@ invariant_of-self-2 c =
     let name : c.in_ok-try_clone.field-0 ≡ c.in-Some.event.now.name = search rules in
     let gives : c.in_ok-left.left ≡ other_sequences c.args.sequence.now c.in-Some.event.now.sequences = search rules in
     let some : (length c.in_ok-left.left == 0) ≡ false = search rules in
-    let differ = found_differs c.args.name.now c.in-Some.event.now c.self.inside.events.present there c.self.invariant.present in
-    let met = met_less c.in-Some.event.now.name c.args.sequence.now c.in-Some.event.now.sequences c.in_ok-left.left differ gives some in
+    let old = found_legal c.args.name.now c.in-Some.event.now c.self.inside.events.present there c.self.invariant.present in
+    let legal = legal_less c.in-Some.event.now c.args.sequence.now c.in_ok-left.left old gives some in
     let new : VirtualEvent = record { name = c.in-Some.event.now.name; sequences = c.in_ok-left.left } in
-    let all = replaced_apart c.args.name.now c.in-Some.event.now new c.self.inside.events.present there refl met c.self.invariant.present in
+    let all = replaced_apart c.args.name.now c.in-Some.event.now new c.self.inside.events.present there refl legal c.self.invariant.present in
     rw (c.in_ok-replace.ensures.ok, name, c.index_of-index.ensures) (record { present = all; at_mark = c.self.invariant.at_mark })

@@ -1,4 +1,4 @@
-use Rattle.std.proofs.Common.{◌∙◌, ap}
+use Rattle.std.proofs.Common.{◌∙◌, ◌<◌, ◌^◌, ap, subst}
 use Rattle.std.specs.FinMap as fin
 use Rattle.tks_share.proofs.AtFork.{some_through, none_through}
 use Rattle.tks_share.proofs.Mapped.{found, sound, changed_in}
@@ -8,7 +8,7 @@ pub invariant_of-self : goal.invariant_of-self
 invariant_of-self g c =
     let told = c.change.ensures in
     let kept = sound c.self.inside.tree c.args.self.now c.self.view_is c.self.invariant.0 (g.C.Change.gives c.args.change.now) c.args.name.now c.change.new.tree c.change.result told.some told.none told.err in
-    (kept.0, c.self.invariant.1 ∙ kept.1)
+    (kept.0, c.self.invariant.1 ∙ kept.1, subst (λ n. n < 2 ^ 32) kept.1 c.self.invariant.2)
 
 pub returns-clause-some : goal.returns-clause-some
 returns-clause-some g c =

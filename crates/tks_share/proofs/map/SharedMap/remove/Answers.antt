@@ -17,9 +17,11 @@ overflow_sub-self g c =
 pub invariant_of-self-2 : goal.invariant_of-self-2
 invariant_of-self-2 g c =
     let there : fin.contains_key c.args.self.now c.args.name.now ≡ true = search rules in
-    let out = c.in_ok-remove.ensures.ok c.self.invariant.0 in (
+    let out = c.in_ok-remove.ensures.ok c.self.invariant.0 in
+    let fewer = one_fewer c.self.inside.tree c.args.self.now c.self.view_is c.self.invariant.0 c.args.name.now c.remove.new.tree c.self.inside.len c.self.invariant.1 there out in (
       sorted_out c.self.inside.tree c.args.self.now c.self.view_is c.self.invariant.0 c.args.name.now c.remove.new.tree out,
-      (one_fewer c.self.inside.tree c.args.self.now c.self.view_is c.self.invariant.0 c.args.name.now c.remove.new.tree c.self.inside.len c.self.invariant.1 there out).1,
+      fewer.1,
+      omega (arith, fewer.0, fewer.1, c.self.invariant.1, c.self.invariant.2),
     )
 
 pub returns-clause-ok : goal.returns-clause-ok

@@ -1,6 +1,7 @@
 use Rattle.std.proofs.Common.{◌≡◌, ◌++◌, ◌∷◌, [], Ok, ap, sym, subst, ◌∙◌}
 use Rattle.tks_opt.specs.Options.{Options}
 use Rattle.tks_tree.specs.Windows as tree
+use Rattle.tks_tree.specs.WellFormed.{is_widget_class}
 use Rattle.tks_tree.proofs.Parents.{made_so}
 use Rattle.tks_state.specs.EventLoop.{Stay}
 use Rattle.tks_state.specs.Windows.{Windows, new_kept}
@@ -21,7 +22,7 @@ invariant_of-self-2 c =
     let k = new_kept window c.args.widget in
     let made : tree.created t path class ≡ Ok (window, u) = ap (λ x. tree.created x path class) (sym c.in_ok-tree.ensures) ∙ c.in_ok-window.ensures.value in
     let own = c.class-class.ensures.value ∙ ap (λ (o : Options). o.class) c.options.ensures in
-    let behind = made_so t u path window class c.self.invariant.windows made in
+    let behind = made_so t u path window class c.self.invariant.windows (ap is_widget_class own ∙ c.requires) made in
     let grown = sym (c.in_ok-push.ensures.ok ∙ ap (λ k. old ++ k ∷ []) c.in_ok-new.ensures) in
     record {
       windows = behind.well;

@@ -24,7 +24,7 @@ invariant_of-self-2 c =
     ∙ ap (λ p. fin.insert c.self.inside.index p c.of-id.result) c.as_bytes.ensures.value
     ∙ ap (fin.insert c.self.inside.index path) c.of-id.ensures in (
       subst (λ vs. WellFormed (record { windows = vs; next = n + 1 })) (sym pushed)
-          (well_with (record { windows = ws; next = n }) path class c.self.invariant.0 f.is_one f.new f.found (omega (arith, c.if-self-ge-MAX_NUMBER.false))),
+          (well_with (record { windows = ws; next = n }) path class c.self.invariant.0 f.is_one f.new f.found (omega (arith, c.if-self-ge-MAX_NUMBER.false)) c.requires),
       λ q.
           ap (λ m. fin.get m q) indexed ∙ one_more c.self.inside.index ws (record { number = n; path = path; class = class }) c.self.invariant.1 f.new q
           ∙ ap (λ vs. number_at vs (Some q)) (sym pushed),

@@ -11,7 +11,7 @@ returns-in-Some c =
     let of = λ (w : Window). children_among ws w.path in
     let place = c.in-Some.place in
     let list = c.index-lists-place.result in
-    c.as_slice.ensures ∙ c.index-lists-place.is ∙ ap (λ lists. get_or lists place list) c.requires
+    c.as_slice.ensures.value ∙ c.index-lists-place.is ∙ ap (λ lists. get_or lists place list) c.requires
     ∙ at_place of ws place list (place_inside (λ (w : Window). w.number == c.args.id) ws place c.in-Some.ensures)
     ∙ sym (ap (λ o. on_window o [] of) (found_at (λ (w : Window). w.number == c.args.id) ws place c.in-Some.ensures))
 

@@ -13,6 +13,7 @@ first_formed = record {
   numbered = (omega arith, omega arith);
   bounded = omega arith;
   founded = (record { path = refl; new = refl; parent = tt }, tt);
+  classes = (refl, tt);
 }
 
 pub invariant_of-result : goal.invariant_of-result

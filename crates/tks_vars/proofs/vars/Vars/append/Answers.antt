@@ -3,7 +3,6 @@ use Rattle.std.specs.Prelude.{reverse}
 use Rattle.std.proofs.lemmas.Result.{err_from_is_err_and}
 use Rattle.tks_vars.specs.Names.{named}
 use Rattle.tks_vars.specs.View.{name_seen}
-use Rattle.tks_vars.specs.Variables.{Variables, is_global, innermost}
 use Rattle.tks_vars.specs.Growth.{lengthen_local}
 use Rattle.tks_vars.proofs.Frames.{found_own, innermost_set, holding, lengthens}
 use Rattle.tks_vars.proofs.Changes.{about_after, about_failed, failed}

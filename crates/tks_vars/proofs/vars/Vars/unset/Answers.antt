@@ -3,7 +3,7 @@ use Rattle.std.specs.Prelude.{reverse}
 use Rattle.std.proofs.lemmas.Result.{err_from_is_err_and}
 use Rattle.tks_vars.specs.Names.{named}
 use Rattle.tks_vars.specs.View.{name_seen}
-use Rattle.tks_vars.specs.Variables.{Variables, is_global, innermost, about}
+use Rattle.tks_vars.specs.Variables.{about}
 use Rattle.tks_vars.specs.Parts.{take_local}
 use Rattle.tks_vars.proofs.Frames.{found_own, innermost_set, holding, takes}
 use Rattle.tks_vars.proofs.Changes.{about_after, about_failed, failed}

@@ -1,15 +1,16 @@
 use Rattle.std.proofs.Common.{rules, ◌≡◌, ◌≤◌, ◌^◌, Some, None, length, if◌then◌else◌, true, false, sym, ap, ◌∙◌, arith}
 use Rattle.std.specs.Prelude.{nat_le}
+use Rattle.std.proofs.lemmas.Bool.{and_from, le-leb}
 use Rattle.std.proofs.lemmas.List.{nil_from_length}
 use Rattle.tks_bind.specs.History.{max_history}
 use Rattle.tks_vars.specs.Variables.{Variables}
 use Rattle.tks_state.specs.Events.{max_faults}
 use Rattle.tks_state.specs.EventLoop.{all_in}
-use Rattle.tks_state.specs.Restoring.{are_windows, world_of, world_with}
-use Rattle.tks_state.specs.World.{windows_of, events_of}
-use Rattle.tks_state.proofs.Restored.{possible, there_again, too_many, frames_stand, not_there, no_windows, no_events}
-use Rattle.tks_state.proofs.world.World.restore.Goals as goal
-use Rattle.tks_state.proofs.world.World.restore.Goals.{then-accepted-gt-MAX_ACCEPTED-via-then-accepted-gt-MAX_ACCEPTED, then-accepted-gt-MAX_ACCEPTED-via-else-accepted-gt-MAX_ACCEPTED+then-depth-gt0, then-accepted-gt-MAX_ACCEPTED-via-else-accepted-gt-MAX_ACCEPTED+else-depth-gt0+then-not-is_in}
+use Rattle.tks_state.specs.Restoring.{are_windows, world_of}
+use Rattle.tks_state.specs.World.{world_with, windows_of, events_of}
+use Rattle.tks_state.proofs.Restored.{possible, there_again, frames_stand, not_there, no_windows, no_events}
+use Rattle.tks_state.proofs.world.World.of_parts.Goals as goal
+use Rattle.tks_state.proofs.world.World.of_parts.Goals.{then-depth-gt0-via-then-depth-gt0, then-depth-gt0-via-else-depth-gt0+then-not-is_in}
 
 pub of-requires-clause-there : goal.of-requires-clause-there
 of-requires-clause-there c =
@@ -27,7 +28,7 @@ of-requires-clause-rests c =
 pub returns : goal.returns
 returns c =
     let p = c.args.parts in
-    let few : p.accepted ≤ 2 ^ 62 = search rules in
+    let counts = and_from (nat_le p.accepted (2 ^ 62)) (nat_le p.clock (2 ^ 62)) (le-leb p.accepted (2 ^ 62) c.requires.counted) (le-leb p.clock (2 ^ 62) c.requires.clock) in
     let frames = c.depth.ensures ∙ ap (λ (v : Variables). length v.locals) (c.get.ensures ∙ c.in_ok-variables.ensures) in
     let none : length p.variables.locals ≡ 0 = omega (arith, c.if-depth-gt0.false, frames) in
     let there : all_in p.tree.windows c.in_ok-event_loop.event_loop ≡ true = search rules in
@@ -35,18 +36,17 @@ returns c =
     let windows : (if are_windows (windows_of (world_of p)) then Some (windows_of (world_of p)) else None) ≡ Some c.in-Some.windows = search rules in
     let events : (if nat_le (length p.faults) max_faults then Some (events_of (world_of p)) else None) ≡ Some c.in-Some-2.events = search rules in
     ap Some (c.in_ok-world.ensures ∙ (λ i. world_with p.accepted c.in-Some.windows (c.in_ok-variables.ensures i) c.in-Some-2.events (c.in_ok-event_loop.ensures i) p.memories p.grid))
-    ∙ possible p c.in-Some.windows c.in-Some-2.events few none (ap (all_in p.tree.windows) (sym c.in_ok-event_loop.ensures) ∙ there) short windows events
+    ∙ possible p c.in-Some.windows c.in-Some-2.events counts none (ap (all_in p.tree.windows) (sym c.in_ok-event_loop.ensures) ∙ there) short windows events
 
-pub returns-then-accepted-gt-MAX_ACCEPTED : goal.returns-then-accepted-gt-MAX_ACCEPTED
-returns-then-accepted-gt-MAX_ACCEPTED c =
+pub returns-then-depth-gt0 : goal.returns-then-depth-gt0
+returns-then-depth-gt0 c =
     let p = c.args.parts in
     let all_there = ap (all_in p.tree.windows) (sym c.in_ok-event_loop.ensures) in
-    elim c.then-accepted-gt-MAX_ACCEPTED.branch [
-      | then-accepted-gt-MAX_ACCEPTED-via-then-accepted-gt-MAX_ACCEPTED w ↦ too_many p w.if-accepted-gt-MAX_ACCEPTED.true
-      | then-accepted-gt-MAX_ACCEPTED-via-else-accepted-gt-MAX_ACCEPTED+then-depth-gt0 w ↦
-          let frames = w.depth.ensures ∙ ap (λ (v : Variables). length v.locals) (w.get.ensures ∙ c.in_ok-variables.ensures) in
+    elim c.then-depth-gt0.branch [
+      | then-depth-gt0-via-then-depth-gt0 w ↦
+          let frames = c.depth.ensures ∙ ap (λ (v : Variables). length v.locals) (c.get.ensures ∙ c.in_ok-variables.ensures) in
           frames_stand p (omega (arith, w.if-depth-gt0.true, frames))
-      | then-accepted-gt-MAX_ACCEPTED-via-else-accepted-gt-MAX_ACCEPTED+else-depth-gt0+then-not-is_in w ↦
+      | then-depth-gt0-via-else-depth-gt0+then-not-is_in w ↦
           let gone : all_in p.tree.windows c.in_ok-event_loop.event_loop ≡ false = search rules in
           not_there p (all_there ∙ gone)
     ]
