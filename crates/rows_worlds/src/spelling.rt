@@ -2,7 +2,7 @@
 
 use crate::own::Body;
 use std::alloc::Global;
-use tks_codec_world::{has_spelling, write_world};
+use tks_codec_world::write_world;
 use tks_desk::{own_apps, run};
 use tks_disk::MemoryDisk;
 use tks_session::Session;
@@ -13,11 +13,8 @@ use tks_text::{Limits, Size};
 /// How many inputs may wait for a commit: more than any session has.
 const PENDING: u32 = 10_000;
 
-/// A world's bytes, where it has a spelling.
+/// A world's bytes.
 pub fn spelled(alloc: Global, world: &World) -> Option<Vec<u8>> {
-    if !has_spelling(world) {
-        return None;
-    }
     let mut bytes = Vec::new(alloc);
     write_world(alloc, world, &mut bytes).ok()?;
     Some(bytes)

@@ -1,8 +1,6 @@
 //! Reading and writing again.
 use std::alloc::Global;
-use tks_codec::{
-    CodecFault, Header, has_spelling, read_header, read_input, write_header, write_input,
-};
+use tks_codec::{CodecFault, Header, read_header, read_input, write_header, write_input};
 use tks_input::Input;
 
 /// What reading comes to: the value's spelling, as it is written again, or where the fault is.
@@ -15,9 +13,6 @@ pub enum Read {
 /// An input's spelling behind other bytes, which stay.
 pub fn input_spelled(alloc: Global, input: &Input) -> Option<Vec<u8>> {
     let mut out = Vec::from_slice(alloc, b"!").ok()?;
-    if !has_spelling(input) {
-        return None;
-    }
     write_input(input, &mut out).ok()?;
     if out.remove(0) != b'!' {
         return None;

@@ -3,9 +3,9 @@ ghost use Rattle.std.specs.Prelude.{◌≤◌, ◌^◌};
 
 use std::alloc::Global;
 use tks_codec_events::{
-    Member, all_have_spellings, bindings_of, event_of, held_of, history_of, items_have_spellings,
-    memories_of, put_bindings, put_event, put_held, put_history, put_memories, put_queue,
-    put_sequence, put_virtuals, put_waiting, queue_of, sequence_of, virtuals_of, waiting_of,
+    bindings_of, event_of, held_of, history_of, memories_of, put_bindings, put_event, put_held,
+    put_history, put_memories, put_queue, put_sequence, put_virtuals, put_waiting, queue_of,
+    sequence_of, virtuals_of, waiting_of,
 };
 
 // What was written, and the bytes behind what was read.
@@ -20,9 +20,6 @@ pub fn event_again(alloc: Global, bytes: &[u8]) -> Option<Vec<u8>> {
     let Ok((event, rest)) = event_of(alloc, bytes) else {
         return None;
     };
-    if !event.has_spelling() {
-        return None;
-    }
     put_event(&mut out, &event).ok()?;
     with_rest(out, rest)
 }
@@ -33,9 +30,6 @@ pub fn sequence_again(alloc: Global, bytes: &[u8]) -> Option<Vec<u8>> {
     let Ok((sequence, rest)) = sequence_of(alloc, bytes) else {
         return None;
     };
-    if !sequence.has_spelling() {
-        return None;
-    }
     put_sequence(&mut out, &sequence).ok()?;
     with_rest(out, rest)
 }
@@ -48,9 +42,6 @@ pub fn bindings_again(alloc: Global, next: u64, bytes: &[u8]) -> Option<Vec<u8>>
     let Ok((bindings, rest)) = bindings_of(alloc, next, bytes) else {
         return None;
     };
-    if bindings.len() >= 1 << 32 || !items_have_spellings(bindings.bindings()) {
-        return None;
-    }
     put_bindings(&mut out, &bindings).ok()?;
     with_rest(out, rest)
 }
@@ -61,9 +52,6 @@ pub fn virtuals_again(alloc: Global, bytes: &[u8]) -> Option<Vec<u8>> {
     let Ok((virtuals, rest)) = virtuals_of(alloc, bytes) else {
         return None;
     };
-    if virtuals.len() >= 1 << 32 || !items_have_spellings(virtuals.events()) {
-        return None;
-    }
     put_virtuals(&mut out, &virtuals).ok()?;
     with_rest(out, rest)
 }
@@ -74,9 +62,6 @@ pub fn history_again(alloc: Global, bytes: &[u8]) -> Option<Vec<u8>> {
     let Ok((history, rest)) = history_of(alloc, bytes) else {
         return None;
     };
-    if !all_have_spellings(history.events()) {
-        return None;
-    }
     put_history(&mut out, &history).ok()?;
     with_rest(out, rest)
 }
@@ -87,9 +72,6 @@ pub fn queue_again(alloc: Global, bytes: &[u8]) -> Option<Vec<u8>> {
     let Ok((queue, rest)) = queue_of(alloc, bytes) else {
         return None;
     };
-    if queue.len() >= 1 << 32 || !items_have_spellings(queue.events()) {
-        return None;
-    }
     put_queue(&mut out, &queue).ok()?;
     with_rest(out, rest)
 }
@@ -102,12 +84,6 @@ pub fn waiting_again(alloc: Global, next: u64, bytes: &[u8]) -> Option<Vec<u8>>
     let Ok((timers, rest)) = waiting_of(alloc, next, bytes) else {
         return None;
     };
-    if timers.timer_count() >= 1 << 32 || timers.idle_count() >= 1 << 32 {
-        return None;
-    }
-    if !items_have_spellings(timers.timers()) || !items_have_spellings(timers.idles()) {
-        return None;
-    }
     put_waiting(&mut out, &timers).ok()?;
     with_rest(out, rest)
 }
@@ -128,9 +104,6 @@ pub fn memories_again(alloc: Global, bytes: &[u8]) -> Option<Vec<u8>> {
     let Ok((memories, rest)) = memories_of(alloc, bytes) else {
         return None;
     };
-    if memories.all().len() >= 1 << 32 || !all_have_spellings(memories.all()) {
-        return None;
-    }
     put_memories(&mut out, &memories).ok()?;
     with_rest(out, rest)
 }

@@ -3,7 +3,7 @@ use crate::again::{
     sequence_again, virtuals_again, waiting_again,
 };
 use std::alloc::Global;
-use tks_codec_events::{Member, put_sequence};
+use tks_codec_events::put_sequence;
 use tks_event::parse_sequence;
 use tks_text::Txt;
 
@@ -321,9 +321,6 @@ fn written(alloc: Global, text: &[u8]) -> Option<Vec<u8>> {
     let text = Txt::from_bytes(alloc, text).ok()?;
     let sequence = parse_sequence(alloc, &text).ok()?;
     let mut out = Vec::new(alloc);
-    if !sequence.has_spelling() {
-        return None;
-    }
     put_sequence(&mut out, &sequence).ok()?;
     Some(out)
 }

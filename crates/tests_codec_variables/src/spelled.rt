@@ -1,6 +1,6 @@
 //! Variables that are set, as bytes, and read again.
 use std::alloc::Global;
-use tks_codec_variables::{has_spelling, put_variables, variables_of};
+use tks_codec_variables::{put_variables, variables_of};
 use tks_text::{Seq, Txt};
 use tks_vars::{Parameter, Procedure, Vars};
 
@@ -51,9 +51,6 @@ fn variables(alloc: Global) -> Option<Vars> {
 
 // Variables as bytes.
 fn spelled(alloc: Global, vars: &Vars) -> Option<Vec<u8>> {
-    if !has_spelling(vars) {
-        return None;
-    }
     let mut out = Vec::new(alloc);
     put_variables(&mut out, vars).ok()?;
     Some(out)
@@ -84,16 +81,6 @@ fn set_is(alloc: Global, bytes: &[u8]) -> bool {
     }
 }
 
-// Whether variables have no spelling while a frame is begun, and one once it has ended.
-fn frames_have_none(alloc: Global) -> bool {
-    let mut vars = Vars::new(alloc);
-    if vars.push_frame().is_err() || has_spelling(&vars) {
-        return false;
-    }
-    vars.pop_frame();
-    has_spelling(&vars)
-}
-
 // The value of an element that was read.
 fn element(alloc: Global) -> Option<Txt> {
     let (vars, _) = variables_of(alloc, BYTES).ok()?;
@@ -113,7 +100,6 @@ fn element_is_v(alloc: Global) -> bool {
 fn set_and_written(rt: HostRuntime) {
     assert!(rt; set_is(rt.alloc(), BYTES));
     assert!(rt; is(spelled(rt.alloc(), &Vars::new(rt.alloc())), NOTHING));
-    assert!(rt; frames_have_none(rt.alloc()));
 }
 
 #[test]

@@ -1,9 +1,6 @@
 //! Options, tags, and how windows are packed.
 use std::alloc::Global;
-use tks_codec_windows::{
-    are_short, has_paddings, has_short_values, options_of, packing_of, put_options, put_packing,
-    put_tags, tags_of,
-};
+use tks_codec_windows::{options_of, packing_of, put_options, put_packing, put_tags, tags_of};
 use tks_opt::Options;
 use tks_text::{Class, Txt};
 
@@ -21,9 +18,6 @@ const TAGS: &[u8] = b"\x01\x00\x00\x00\x02\x00\x00\x00\x01a\x00\x00\x00\x02bc";
 fn frame_spelled(alloc: Global) -> Option<Vec<u8>> {
     let path = Txt::from_bytes(alloc, b".a").ok()?;
     let options = Options::new(alloc, Class::Frame, &path).ok()?;
-    if !has_short_values(&options) {
-        return None;
-    }
     let mut out = Vec::new(alloc);
     put_options(&mut out, &options).ok()?;
     Some(out)
@@ -32,7 +26,7 @@ fn frame_spelled(alloc: Global) -> Option<Vec<u8>> {
 // Options of a class that are read, as bytes again.
 fn options_again(alloc: Global, class: Class, bytes: &[u8]) -> Option<Vec<u8>> {
     let (options, rest) = options_of(alloc, class, bytes).ok()?;
-    if !rest.is_empty() || !has_short_values(&options) {
+    if !rest.is_empty() {
         return None;
     }
     let mut out = Vec::new(alloc);
@@ -42,29 +36,25 @@ fn options_again(alloc: Global, class: Class, bytes: &[u8]) -> Option<Vec<u8>> {
 
 // How a window is packed, read, as bytes again.
 fn packing_again(alloc: Global, bytes: &[u8]) -> Option<Vec<u8>> {
-    let (packing, rest) = packing_of(bytes).ok()?;
-    if !rest.is_empty() {
-        return None;
-    }
-    if let Some(settings) = &packing {
-        if !has_paddings(settings) {
-            return None;
-        }
-    }
     let mut out = Vec::new(alloc);
-    put_packing(&mut out, packing).ok()?;
-    Some(out)
+    match packing_of(bytes) {
+        Ok((packing, rest)) if rest.is_empty() => {
+            put_packing(&mut out, packing).ok()?;
+            Some(out)
+        }
+        _ => None,
+    }
 }
 
 // Tags that are read, as bytes again.
 fn tags_again(alloc: Global, bytes: &[u8]) -> Option<Vec<u8>> {
     let (tags, rest) = tags_of(alloc, bytes).ok()?;
     let tags = tags?;
-    if !rest.is_empty() || !are_short(tags.as_slice()) {
+    if !rest.is_empty() {
         return None;
     }
     let mut out = Vec::new(alloc);
-    put_tags(&mut out, Some(tags.as_slice())).ok()?;
+    put_tags(&mut out, Some(&tags)).ok()?;
     Some(out)
 }
 

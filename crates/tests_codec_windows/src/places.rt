@@ -1,7 +1,7 @@
 //! Windows made again of their places.
 use std::alloc::Global;
 use tks_codec_windows::{Place, placed};
-use tks_pack::{Packing, Settings};
+use tks_pack::{Packing, Padding, Settings};
 use tks_text::{Class, Seq, Txt};
 use tks_tree::{Tree, WindowId};
 
@@ -33,7 +33,7 @@ fn place(
 }
 
 // Settings with so much space at the left and at the right.
-fn padded(padx: u16) -> Settings {
+fn padded(padx: Padding) -> Settings {
     let mut settings = Settings::new();
     settings.padx = padx;
     settings
@@ -63,7 +63,7 @@ fn is_packed(alloc: Global, tree: &Tree, packings: &[Packing], padx: u16) -> Opt
     let content = packings[0].contents()[0];
     let asks = packings[0].propagates() && !packings[1].propagates();
     let is_that = window.number() == 3 && content.window.number() == 3;
-    Some(is_that && content.settings.padx == padx && asks)
+    Some(is_that && content.settings.padx.cells() == padx && asks)
 }
 
 // Whether these are places of windows, of which `.a` is packed in `.` with a padding of 2.
@@ -78,11 +78,19 @@ fn are_made(alloc: Global, places: Option<Vec<Place>>, next: u64) -> Option<bool
 fn places_make_windows(rt: HostRuntime) {
     let alloc = rt.alloc();
     assert_eq!(rt;
-        are_made(alloc, two(alloc, 3, 3, b".a", Some(padded(2))), 4),
+        are_made(
+            alloc,
+            two(alloc, 3, 3, b".a", Some(padded(Padding::of(2)))),
+            4
+        ),
         Some(true)
     );
     assert_eq!(rt;
-        are_made(alloc, two(alloc, 3, 3, b".a", Some(padded(2))), 9),
+        are_made(
+            alloc,
+            two(alloc, 3, 3, b".a", Some(padded(Padding::of(2)))),
+            9
+        ),
         Some(true)
     );
 }
@@ -92,7 +100,11 @@ fn other_places_make_none(rt: HostRuntime) {
     let alloc = rt.alloc();
     // The next number was given out.
     assert_eq!(rt;
-        are_made(alloc, two(alloc, 3, 3, b".a", Some(padded(2))), 3),
+        are_made(
+            alloc,
+            two(alloc, 3, 3, b".a", Some(padded(Padding::of(2)))),
+            3
+        ),
         Some(false)
     );
     // It is packed, but has no settings; it has settings, but isn't packed.
@@ -101,12 +113,20 @@ fn other_places_make_none(rt: HostRuntime) {
         Some(false)
     );
     assert_eq!(rt;
-        are_made(alloc, two(alloc, 5, 3, b".a", Some(padded(2))), 4),
+        are_made(
+            alloc,
+            two(alloc, 5, 3, b".a", Some(padded(Padding::of(2)))),
+            4
+        ),
         Some(false)
     );
     // There is `.` already, its number is given out, and there is no `.b`.
     assert_eq!(rt;
-        are_made(alloc, two(alloc, 3, 3, b".", Some(padded(2))), 4),
+        are_made(
+            alloc,
+            two(alloc, 3, 3, b".", Some(padded(Padding::of(2)))),
+            4
+        ),
         Some(false)
     );
     assert_eq!(rt;
@@ -114,7 +134,11 @@ fn other_places_make_none(rt: HostRuntime) {
         Some(false)
     );
     assert_eq!(rt;
-        are_made(alloc, two(alloc, 3, 3, b".b.a", Some(padded(2))), 4),
+        are_made(
+            alloc,
+            two(alloc, 3, 3, b".b.a", Some(padded(Padding::of(2)))),
+            4
+        ),
         Some(false)
     );
 }

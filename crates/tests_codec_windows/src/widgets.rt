@@ -1,9 +1,6 @@
 //! What widgets hold.
 use std::alloc::Global;
-use tks_codec_windows::{
-    entry_of, has_short_items, has_short_parts, lines_of, listbox_of, put_entry, put_lines,
-    put_listbox,
-};
+use tks_codec_windows::{entry_of, lines_of, listbox_of, put_entry, put_lines, put_listbox};
 use tks_opt::Options;
 use tks_text::{Class, Txt};
 
@@ -31,9 +28,6 @@ fn entry_again(alloc: Global, bytes: &[u8]) -> Option<Vec<u8>> {
         return None;
     };
     let (entry, _) = entry_of(alloc, options, bytes).ok()?;
-    if 1 << 32 <= entry.text().len() {
-        return None;
-    }
     let mut out = Vec::new(alloc);
     put_entry(&mut out, &entry).ok()?;
     Some(out)
@@ -46,9 +40,6 @@ fn listbox_again(alloc: Global, bytes: &[u8]) -> Option<Vec<u8>> {
         return None;
     };
     let (listbox, _) = listbox_of(alloc, options, bytes).ok()?;
-    if !has_short_items(&listbox) {
-        return None;
-    }
     let mut out = Vec::new(alloc);
     put_listbox(&mut out, &listbox).ok()?;
     Some(out)
@@ -61,9 +52,6 @@ fn lines_again(alloc: Global, bytes: &[u8]) -> Option<Vec<u8>> {
         return None;
     };
     let (widget, _) = lines_of(alloc, options, bytes).ok()?;
-    if !has_short_parts(&widget) {
-        return None;
-    }
     let mut out = Vec::new(alloc);
     put_lines(alloc, &mut out, &widget).ok()?;
     Some(out)

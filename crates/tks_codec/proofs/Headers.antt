@@ -6,7 +6,7 @@ use Rattle.std.proofs.lemmas.List.{length-append}
 use Rattle.std.proofs.lemmas.Bool.{le-leb}
 use Rattle.std.specs.Prelude.{nat_le, ◌&&◌}
 use Rattle.tks_text.specs.Size.{Extent, IsGridSize}
-use Rattle.tks_text.specs.Text.{IsText}
+use Rattle.tks_text.specs.Short.{IsShort}
 use Rattle.tks_codec.specs.declared.header.Header.{Header}
 use Rattle.tks_codec.specs.Spelling.{Lawful, AreLegal, number, Rise, text}
 use Rattle.tks_codec.specs.Header.{is_width, is_height, width, height, grid, name, names, header, AreNames}
@@ -38,12 +38,12 @@ header_lawful =
 
 -- ---- which headers have a spelling
 
-all_legal : (before : Option (List ℕ)) (ns : List (List ℕ)) → AllByRecursion (λ n. length n < 2 ^ 32) ns → AllByRecursion IsText ns → Rise (λ name. name) before ns → AreLegal name before ns
-all_legal before [] p q r = tt
-all_legal before (n ∷ ns) p q r = (((p.0, q.0), r.0), all_legal (Some n) ns p.1 q.1 r.1)
+all_legal : (before : Option (List ℕ)) (ns : List (List ℕ)) → AllByRecursion text.Legal ns → Rise (λ name. name) before ns → AreLegal name before ns
+all_legal before [] p r = tt
+all_legal before (n ∷ ns) p r = ((p.0, r.0), all_legal (Some n) ns p.1 r.1)
 
-pub names_legal : (ns : List (List ℕ)) → AreNames ns → AllByRecursion IsText ns → names.Legal ns
-names_legal ns p q = (p.count, all_legal None ns p.lengths q p.rise)
+pub names_legal : (ns : List (List ℕ)) → AreNames ns → IsShort ns → AllByRecursion text.Legal ns → names.Legal ns
+names_legal ns r count p = (count, all_legal None ns p r)
 
 is_legal : (size : Extent) → IsGridSize size.width size.height → grid.Legal size
 is_legal size g = ((omega (arith, g.1), in_range 200 size.width g.0 g.1), ((omega (arith, g.3), in_range 100 size.height g.2 g.3), refl))
@@ -51,5 +51,8 @@ is_legal size g = ((omega (arith, g.1), in_range 200 size.width g.0 g.1), ((omeg
     in_range : (most n : ℕ) → 1 ≤ n → n ≤ most → (nat_le 1 n && nat_le n most) ≡ true
     in_range most n p q = rw (le-leb 1 n p, le-leb n most q) refl
 
-pub header_legal : (h : Header) → h.generation < 2 ^ 64 → IsGridSize h.grid.width h.grid.height → AreNames h.names → AllByRecursion IsText h.names → h.world_length < 2 ^ 64 → header.Legal h
-header_legal h a g n t b = (a, (is_legal h.grid g, (names_legal h.names n t, (b, refl))))
+pub header_of : (h : Header) → h.generation < 2 ^ 64 → IsGridSize h.grid.width h.grid.height → names.Legal h.names → h.world_length < 2 ^ 64 → header.Legal h
+header_of h a g n b = (a, (is_legal h.grid g, (n, (b, refl))))
+
+pub header_legal : (h : Header) → h.generation < 2 ^ 64 → IsGridSize h.grid.width h.grid.height → AreNames h.names → IsShort h.names → AllByRecursion text.Legal h.names → h.world_length < 2 ^ 64 → header.Legal h
+header_legal h a g n s t = header_of h a g (names_legal h.names n s t)

@@ -1,6 +1,5 @@
 -- The header of a side (this project's own format): from its generation to the length of its world.
-use Rattle.std.specs.Prelude.{ℕ, ◌<◌, ◌^◌, Bool, ◌&&◌, List, length, Option, None, nat_le}
-use Rattle.std.specs.List.{AllByRecursion}
+use Rattle.std.specs.Prelude.{ℕ, Bool, ◌&&◌, List, Option, None, nat_le}
 use Rattle.std.specs.Int.{w16, w64}
 use Rattle.tks_text.specs.Size.{Extent}
 use Rattle.tks_codec.specs.declared.header.Header.{Header}
@@ -52,8 +51,6 @@ header =
 unfoldable pub header_at : List ℕ → Read Header
 header_at bytes = header.read bytes
 
--- names that have a spelling
-pub record AreNames (names : List (List ℕ)) : Type 0 where
-  pub count : length names < 2 ^ 32
-  pub lengths : AllByRecursion (λ name. length name < 2 ^ 32) names
-  pub rise : Rise (λ name. name) None names
+-- names that a header may have: they rise
+abbrev pub AreNames : List (List ℕ) → Type 0
+AreNames names = Rise (λ name. name) None names

@@ -28,8 +28,7 @@ pub struct Header {
 }
 
 impl Header {
-    /// Whether it has a spelling: the names rise by their bytes, and there are fewer than 2^32 of them, each
-    /// of fewer than 2^32 bytes.
+    /// Whether it has a spelling: the names rise by their bytes.
     pub fn has_spelling(&self) -> bool
         ensures { (result ≡ true) ↔ AreNames self.now.names }
     {
@@ -116,7 +115,7 @@ fn put_header(header: &Header, out: &mut Vec<u8>) -> Result<(), AllocError>
     put_u64(out, header.generation)?;
     put_u16(out, header.grid.width())?;
     put_u16(out, header.grid.height())?;
-    put_names(out, header.names.as_slice())?;
+    put_names(out, &header.names)?;
     put_u64(out, header.world_length)?;
     Ok(())
 }

@@ -1,14 +1,13 @@
 //! Inputs as bytes.
 
-ghost use Rattle.std.specs.Prelude.{◌≡◌, ℕ, ◌<◌, ◌^◌, ◌↔◌, ◌++◌, ◌∷◌, List, length, take, true, Ok, Err, IfOk, OnOk, OnErr};
+ghost use Rattle.std.specs.Prelude.{◌≡◌, ℕ, ◌<◌, ◌^◌, ◌++◌, ◌∷◌, List, take, true, Ok, Err, IfOk, OnOk, OnErr};
 ghost use Rattle.std.specs.Int.{w16, w64, to_be_bytes};
-ghost use Rattle.tks_text.specs.Text.{IsText};
 ghost use Rattle.tks_input.specs.declared.input.Input.{Input};
 ghost use Rattle.tks_input.specs.declared.input.Input.TheVariants.{Script, KeyPress, KeyRelease, Press, Release, Clock};
 ghost use Rattle.tks_codec.specs.Spelling.{byte, such_that};
 ghost use Rattle.tks_codec.specs.Spelling as spellings;
 ghost use Rattle.tks_codec.specs.Input as inputs;
-ghost use Rattle.tks_codec.specs.Input.{input_at, of_text, of_button, of_time, text_of};
+ghost use Rattle.tks_codec.specs.Input.{input_at, of_text, of_button, of_time};
 ghost use Rattle.tks_codec.specs.Reading.{Gives, FindsSo, StopsAt};
 ghost use Rattle.tks_codec.specs.Writing.{PutsSo};
 
@@ -139,9 +138,8 @@ pub fn read_input(alloc: Global, bytes: &[u8]) -> Result<(Input, usize), CodecFa
 // Adds a tag and a text.
 #[tactic(auto, using(crate::proofs::Puts::put_behind))]
 fn put_tagged_text(out: &mut Vec<u8>, tag: u8, text: &Txt) -> Result<(), AllocError>
-    requires { length text.now < 2 ^ 32 }
     ensures puts { PutsSo result out.old.items out.new.items (tag ∷ spellings.text.write text.now) }
-    ensures text { OnOk result (IsText text.now) }
+    ensures legal { OnOk result (spellings.text.Legal text.now) }
 {
     put_u8(out, tag)?;
     put_text(out, text)?;
@@ -172,7 +170,6 @@ fn put_tagged_time(out: &mut Vec<u8>, tag: u8, time: u64) -> Result<(), AllocErr
 
 // Adds the spelling; where memory is refused, perhaps a front of it.
 fn put_input(input: &Input, out: &mut Vec<u8>) -> Result<(), AllocError>
-    requires { length (text_of input.now) < 2 ^ 32 }
     ensures puts { PutsSo result out.old.items out.new.items (inputs.input.write input.now) }
     ensures legal { OnOk result (inputs.input.Legal input.now) }
 {
@@ -187,22 +184,8 @@ fn put_input(input: &Input, out: &mut Vec<u8>) -> Result<(), AllocError>
     }
 }
 
-/// Whether an input has a spelling: a text in it has fewer than 2^32 bytes.
-pub fn has_spelling(input: &Input) -> bool
-    ensures { (result ≡ true) ↔ (length (text_of input.now) < 2 ^ 32) }
-{
-    match input {
-        Input::Script(text) | Input::KeyPress(text) | Input::KeyRelease(text) => {
-            text.len() < 1 << 32
-        }
-        _ => true,
-    }
-}
-
-/// Adds the input's spelling at the end, which it has to have (`has_spelling`). Where memory is refused, the
-/// bytes are as they were.
+/// Adds the input's spelling at the end. Where memory is refused, the bytes are as they were.
 pub fn write_input(input: &Input, out: &mut Vec<u8>) -> Result<(), AllocError>
-    requires { length (text_of input.now) < 2 ^ 32 }
     ensures ok { OnOk result (out.new.items ≡ out.old.items ++ inputs.input.write input.now) }
     // It is read back, by the law of inputs.
     ensures legal { OnOk result (inputs.input.Legal input.now) }

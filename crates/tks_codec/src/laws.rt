@@ -3,18 +3,18 @@
 ghost use Rattle.std.specs.Prelude.{◌≡◌, ℕ, ◌<◌, ◌^◌, ◌++◌, ◌∷◌, [], List, codes};
 ghost use Rattle.std.specs.List.{AllByRecursion, flat_map};
 ghost use Rattle.tks_text.specs.Size.{IsGridSize};
-ghost use Rattle.tks_text.specs.Text.{IsText};
+ghost use Rattle.tks_text.specs.Short.{IsShort};
 ghost use Rattle.tks_input.specs.declared.input.Input.{Input};
 ghost use Rattle.tks_input.specs.declared.input.Input.TheVariants.{Script, Press};
 ghost use Rattle.tks_codec.specs.declared.header.Header.{Header};
-ghost use Rattle.tks_codec.specs.Spelling.{Lawful};
+ghost use Rattle.tks_codec.specs.Spelling.{Lawful, text};
 ghost use Rattle.tks_codec.specs.Header.{AreNames, header};
 ghost use Rattle.tks_codec.specs.Input.{IsInput, input};
 
 /// Each header has one spelling, no spelling of a header is a proper front of another, and what reading
 /// says of bytes is what these spellings say.
 pub fn one_header()
-    ensures spelled { (h : Header) → h.generation < 2 ^ 64 → IsGridSize h.grid.width h.grid.height → AreNames h.names → AllByRecursion IsText h.names → h.world_length < 2 ^ 64 → header.Legal h }
+    ensures spelled { (h : Header) → h.generation < 2 ^ 64 → IsGridSize h.grid.width h.grid.height → AreNames h.names → IsShort h.names → AllByRecursion text.Legal h.names → h.world_length < 2 ^ 64 → header.Legal h }
     ensures one { (a b : Header) (x y : List ℕ) → header.Legal a → header.Legal b → header.write a ++ x ≡ header.write b ++ y → (a ≡ b) × (x ≡ y) }
     ensures lawful { Lawful header }
 {}

@@ -12,6 +12,6 @@ pub mod writing;
 
 pub use fault::CodecFault;
 pub use header::{Header, read_header, write_header};
-pub use input::{has_spelling, read_input, write_input};
+pub use input::{read_input, write_input};
 pub use laws::{one_header, one_input, two_inputs};
 pub use unread::Unread;

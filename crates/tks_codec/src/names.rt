@@ -1,9 +1,9 @@
 //! Names that rise by their bytes.
 
-ghost use Rattle.std.specs.Prelude.{◌≡◌, ◌<◌, ◌^◌, ◌↔◌, length, nat_lt, true, None, OnOk};
-ghost use Rattle.std.specs.List.{AllByRecursion, list_all};
-ghost use Rattle.tks_text.specs.Text.{IsText};
-ghost use Rattle.tks_codec.specs.Spelling.{list_at, list_by, members_at, members, last_of, Rise};
+ghost use Rattle.std.specs.Prelude.{◌≡◌, ◌↔◌, true, None, OnOk};
+ghost use Rattle.std.specs.List.{AllByRecursion};
+ghost use Rattle.tks_codec.specs.Spelling.{list_at, members_at, members, last_of, text};
+ghost use Rattle.tks_codec.specs.Header as headers;
 ghost use Rattle.tks_codec.specs.Header.{may_follow, name, AreNames};
 ghost use Rattle.tks_codec.specs.Reading.{Gives};
 ghost use Rattle.tks_codec.specs.Writing.{PutsSo};
@@ -61,9 +61,8 @@ pub fn names_of(alloc: Global, bytes: &[u8]) -> Result<(Seq<Txt>, &[u8]), Unread
 
 // Adds each of the names.
 fn put_each(out: &mut Vec<u8>, names: &[Txt]) -> Result<(), AllocError>
-    requires { AllByRecursion (λ name. length name < 2 ^ 32) names.now }
     ensures puts { PutsSo result out.old.items out.new.items (members name None names.now) }
-    ensures texts { OnOk result (AllByRecursion IsText names.now) }
+    ensures legal { OnOk result (AllByRecursion text.Legal names.now) }
 {
     for name in names {
         put_text(out, name)?;
@@ -71,27 +70,20 @@ fn put_each(out: &mut Vec<u8>, names: &[Txt]) -> Result<(), AllocError>
     Ok(())
 }
 
-/// Adds the names.
-pub fn put_names(out: &mut Vec<u8>, names: &[Txt]) -> Result<(), AllocError>
+/// Adds the names, which have to rise.
+pub fn put_names(out: &mut Vec<u8>, names: &Seq<Txt>) -> Result<(), AllocError>
     requires { AreNames names.now }
-    ensures puts { PutsSo result out.old.items out.new.items ((list_by name).write names.now) }
-    ensures texts { OnOk result (AllByRecursion IsText names.now) }
+    ensures puts { PutsSo result out.old.items out.new.items (headers.names.write names.now) }
+    ensures legal { OnOk result (headers.names.Legal names.now) }
 {
     put_u32(out, names.len() as u32)?;
-    put_each(out, names)?;
+    put_each(out, names.as_slice())?;
     Ok(())
 }
 
-// Whether each is short enough for its length to be told.
-fn are_short(names: &[Txt]) -> bool
-    ensures { result ≡ list_all (λ name. nat_lt (length name) (2 ^ 32)) names.now }
-{
-    names.iter().all(|name| name.len() < 1 << 32)
-}
-
-// Whether each is behind the one before it.
-fn rise(names: &[Txt]) -> bool
-    ensures { (result ≡ true) ↔ Rise (λ name. name) None names.now }
+/// Whether each is behind the one before it.
+pub fn are_names(names: &[Txt]) -> bool
+    ensures { (result ≡ true) ↔ AreNames names.now }
 {
     for index in 0..names.len() {
         let (before, _) = names.split_at(index);
@@ -100,17 +92,4 @@ fn rise(names: &[Txt]) -> bool
         }
     }
     true
-}
-
-/// Whether names have a spelling.
-pub fn are_names(names: &[Txt]) -> bool
-    ensures { (result ≡ true) ↔ AreNames names.now }
-{
-    if 1 << 32 <= names.len() {
-        return false;
-    }
-    if !are_short(names) {
-        return false;
-    }
-    rise(names)
 }

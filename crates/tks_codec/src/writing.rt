@@ -1,9 +1,9 @@
 //! Writers of single values. Each adds a value's spelling to the bytes.
 
-ghost use Rattle.std.specs.Prelude.{◌≡◌, ◌<◌, ◌^◌, ◌++◌, ◌∷◌, [], length, OnOk};
+ghost use Rattle.std.specs.Prelude.{◌≡◌, ◌∷◌, [], OnOk};
 ghost use Rattle.std.specs.Int.{w16, w32, w64, to_be_bytes};
-ghost use Rattle.tks_text.specs.Text.{IsText};
 ghost use Rattle.tks_codec.specs.Spelling.{flag_of, flag, signed};
+ghost use Rattle.tks_codec.specs.Spelling as spellings;
 ghost use Rattle.tks_codec.specs.Writing.{PutsSo};
 
 use std::alloc::AllocError;
@@ -74,14 +74,14 @@ pub fn put_flag(out: &mut Vec<u8>, value: bool) -> Result<(), AllocError>
     Ok(())
 }
 
-/// Adds a text of fewer than 2^32 bytes.
+/// Adds a text.
 #[tactic(auto, using(crate::proofs::Puts::still, crate::proofs::Puts::put_behind))]
 pub fn put_text(out: &mut Vec<u8>, text: &Txt) -> Result<(), AllocError>
-    requires { length text.now < 2 ^ 32 }
-    ensures puts { PutsSo result out.old.items out.new.items (to_be_bytes w32 (length text.now) ++ text.now) }
-    ensures text { OnOk result (IsText text.now) }
+    ensures puts { PutsSo result out.old.items out.new.items (spellings.text.write text.now) }
+    ensures legal { OnOk result (spellings.text.Legal text.now) }
 {
-    put_u32(out, text.len() as u32)?;
-    put(out, text.as_bytes())?;
+    let bytes = text.as_bytes();
+    put_u32(out, bytes.len() as u32)?;
+    put(out, bytes)?;
     Ok(())
 }

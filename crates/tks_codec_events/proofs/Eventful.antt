@@ -2,13 +2,13 @@
 use Rattle.std.proofs.Common.{◌≡◌, ℕ, ℤ, ◌<◌, ◌^◌, List, ◌++◌, Result, refl, sym, ap, subst, FitsSigned, arith}
 use Rattle.std.specs.Int.{w64, cast_unsigned, cast_signed}
 use Rattle.std.proofs.Math.Facts.{to_z-of_z, Fits-of_z}
-use Rattle.tks_text.specs.Text.{IsText}
 use Rattle.tks_event.specs.declared.event.Event.{Event}
 use Rattle.std.specs.declared.alloc.AllocError.{AllocError}
 use Rattle.tks_codec.specs.Writing.{PutsSo}
-use Rattle.tks_codec.specs.Spelling.{Lawful, signed}
+use Rattle.tks_codec.specs.Spelling.{Lawful, signed, text}
 use Rattle.tks_codec.proofs.EachKind.{wide64, number_lawful, test_lawful, field_lawful, through_lawful, signed64_lawful, text_lawful}
-use Rattle.tks_codec_events.specs.Event.{is_event, fields, event, HasShortTexts, HasPlaces}
+use Rattle.tks_event.specs.Legality.{is_event}
+use Rattle.tks_codec_events.specs.Event.{fields, event, HasPlaces}
 use Rattle.tks_codec_events.proofs.Sequencing.{kind_lawful, kind_legal, modifiers_lawful, modifiers_legal}
 
 fields_lawful : Lawful fields
@@ -30,9 +30,9 @@ event_lawful = test_lawful is_event fields (λ v h. omega arith) fields_lawful
 signed_legal : (z : ℤ) → FitsSigned w64 z → (signed w64).Legal z
 signed_legal z h = (omega (arith, Fits-of_z h), sym (to_z-of_z h))
 
-pub fields_legal : (e : Event) → e.window < 2 ^ 64 → e.state < 8_192 → e.time < 2 ^ 64 → HasPlaces e → HasShortTexts e → IsText e.detail → IsText e.payload → fields.Legal e
-fields_legal e w s t p n d l =
-    (w, (kind_legal e.kind, ((n.0, d), (modifiers_legal e.state s, (t, (signed_legal e.x p.0, (signed_legal e.y p.1, (signed_legal e.root_x p.2, (signed_legal e.root_y p.3, ((n.1, l), refl))))))))))
+pub fields_legal : (e : Event) → e.window < 2 ^ 64 → e.state < 8_192 → e.time < 2 ^ 64 → HasPlaces e → text.Legal e.detail → text.Legal e.payload → fields.Legal e
+fields_legal e w s t p d l =
+    (w, (kind_legal e.kind, (d, (modifiers_legal e.state s, (t, (signed_legal e.x p.0, (signed_legal e.y p.1, (signed_legal e.root_x p.2, (signed_legal e.root_y p.3, (l, refl))))))))))
 
 -- an integer that was read is the integer
 module _ (old new : List ℕ) (z : ℤ) (fits : FitsSigned w64 z) where

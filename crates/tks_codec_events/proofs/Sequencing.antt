@@ -1,14 +1,13 @@
 -- What holds of the spellings of kinds and sequences.
-use Rattle.std.proofs.Common.{◌≡◌, ℕ, suc, zero, ◌<◌, ◌^◌, Bool, true, false, length, refl, ap, arith}
+use Rattle.std.proofs.Common.{◌≡◌, ℕ, suc, zero, ◌<◌, Bool, true, false, refl, ap, arith}
 use Rattle.std.specs.Int.{w16}
 use Rattle.tks_event.specs.Numbers.{kind_number}
 use Rattle.tks_event.specs.Sequences.{is_sequence}
 use Rattle.tks_event.specs.declared.kind.Kind.{Kind}
 use Rattle.tks_event.specs.declared.kind.Kind.TheVariants.{KeyPress, KeyRelease, ButtonPress, ButtonRelease, FocusIn, FocusOut, Virtual}
 use Rattle.tks_event.specs.declared.pattern.Pattern.{Pattern}
-use Rattle.tks_text.specs.Text.{IsText}
 use Rattle.std.proofs.lemmas.Bool.{lt-ltb}
-use Rattle.tks_codec.specs.Spelling.{Lawful, byte, number, flag, list, such_that}
+use Rattle.tks_codec.specs.Spelling.{Lawful, byte, number, flag, list, such_that, text}
 use Rattle.tks_codec.proofs.EachKind.{byte_lawful, wide16, number_lawful, test_lawful, field_lawful, through_lawful, flag_lawful, list_lawful, text_lawful}
 use Rattle.tks_codec_events.specs.Kind.{is_kind, kind_at, kind}
 use Rattle.tks_codec_events.specs.Sequence.{is_set, modifiers, pattern, sequence}
@@ -53,8 +52,8 @@ pub flag_legal : (b : Bool) → flag.Legal b
 flag_legal true = ((omega arith, refl), refl)
 flag_legal false = ((omega arith, refl), refl)
 
-pub pattern_legal : (p : Pattern) → p.modifiers < 8192 → length p.detail < 2 ^ 32 → IsText p.detail → pattern.Legal p
-pattern_legal p m n t = (flag_legal p.near, (kind_legal p.kind, (modifiers_legal p.modifiers m, ((n, t), refl))))
+pub pattern_legal : (p : Pattern) → p.modifiers < 8192 → text.Legal p.detail → pattern.Legal p
+pattern_legal p m t = (flag_legal p.near, (kind_legal p.kind, (modifiers_legal p.modifiers m, (t, refl))))
 
 pub sequence_lawful : Lawful sequence
 sequence_lawful = test_lawful is_sequence (list pattern) (λ v h. omega arith) (list_lawful (λ before. pattern) (λ before. pattern_lawful))

@@ -1,18 +1,15 @@
 -- What holds of the spellings of bindings and virtual events.
 use Rattle.std.proofs.Common.{◌≡◌, ℕ, true, List, [], ◌∷◌, Option, Some, None, Ok, refl, ap, arith}
-use Rattle.std.specs.Prelude.{◌&&◌}
 use Rattle.std.specs.List.{AllByRecursion}
 use Rattle.std.specs.Int.{w64}
-use Rattle.tks_text.proofs.Texts.{both}
-use Rattle.tks_event.specs.Sequences.{is_name}
 use Rattle.tks_bind.specs.declared.binding.Binding.{Binding}
 use Rattle.tks_bind.specs.declared.virtual_event.VirtualEvent.{VirtualEvent}
 use Rattle.tks_codec.specs.Spelling.{Lawful, IsBytes, AreLegal, list}
 use Rattle.tks_codec.proofs.EachKind.{wide64, number_lawful, test_lawful, field_lawful, through_lawful, list_lawful, text_lawful}
 use Rattle.tks_codec_events.specs.Sequence.{sequence}
-use Rattle.tks_bind.specs.WellFormed.{are_bindings, is_met, are_virtuals}
+use Rattle.tks_bind.specs.WellFormed.{are_bindings, is_virtual_event, are_virtuals}
 use Rattle.tks_codec_events.specs.Bindings.{binding, bindings}
-use Rattle.tks_codec_events.specs.Virtuals.{are_physical, is_virtual_event, named, virtual_event, virtuals}
+use Rattle.tks_codec_events.specs.Virtuals.{named, virtual_event, virtuals}
 use Rattle.tks_codec_events.proofs.Sequencing.{sequence_lawful}
 
 binding_lawful : Lawful binding
@@ -33,13 +30,13 @@ named_lawful =
 virtual_event_lawful : Lawful virtual_event
 virtual_event_lawful = test_lawful is_virtual_event named (λ v h. omega arith) named_lawful
 
--- those that are read have sequences, which differ
-pub read_met : (bytes : List ℕ) (vs : List VirtualEvent) (rest : List ℕ) → IsBytes bytes → (list virtual_event).read bytes ≡ Ok (vs, rest) → AllByRecursion (λ v. is_met v ≡ true) vs
-read_met bytes vs rest fits e = met None vs ((list_lawful (λ before. virtual_event) (λ before. virtual_event_lawful)).nothing_else bytes vs rest fits e).legal.1
+-- those that are read are virtual events
+pub read_legal : (bytes : List ℕ) (vs : List VirtualEvent) (rest : List ℕ) → IsBytes bytes → (list virtual_event).read bytes ≡ Ok (vs, rest) → AllByRecursion (λ v. is_virtual_event v ≡ true) vs
+read_legal bytes vs rest fits e = legal None vs ((list_lawful (λ before. virtual_event) (λ before. virtual_event_lawful)).nothing_else bytes vs rest fits e).legal.1
   where
-    met : (before : Option VirtualEvent) (vs : List VirtualEvent) → AreLegal (λ before. virtual_event) before vs → AllByRecursion (λ v. is_met v ≡ true) vs
-    met before [] h = tt
-    met before (v ∷ vs) h = ((both (are_physical v.sequences) (is_met v) (both (is_name v.name) (are_physical v.sequences && is_met v) h.0.1).1).1, met (Some v) vs h.1)
+    legal : (before : Option VirtualEvent) (vs : List VirtualEvent) → AreLegal (λ before. virtual_event) before vs → AllByRecursion (λ v. is_virtual_event v ≡ true) vs
+    legal before [] h = tt
+    legal before (v ∷ vs) h = (h.0.1, legal (Some v) vs h.1)
 
 pub virtuals_lawful : Lawful virtuals
 virtuals_lawful = test_lawful are_virtuals (list virtual_event) (λ v h. omega arith) (list_lawful (λ before. virtual_event) (λ before. virtual_event_lawful))

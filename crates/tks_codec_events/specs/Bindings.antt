@@ -1,11 +1,10 @@
 -- Bindings as bytes (this project's own format).
-use Rattle.std.specs.Prelude.{ℕ, ◌<◌, ◌^◌, List, [], ◌∷◌, length}
+use Rattle.std.specs.Prelude.{ℕ, List, [], ◌∷◌}
 use Rattle.std.specs.Int.{w64}
-use Rattle.std.specs.List.{AllByRecursion}
 use Rattle.tks_bind.specs.declared.binding.Binding.{Binding}
 use Rattle.tks_bind.specs.WellFormed.{are_bindings}
 use Rattle.tks_codec.specs.Spelling.{Read, Spelling, number, such_that, field, through, list, text}
-use Rattle.tks_codec_events.specs.Sequence.{sequence, HasShortDetail}
+use Rattle.tks_codec_events.specs.Sequence.{sequence}
 
 -- a binding: its number, its tag, its sequence, its script
 abbrev pub binding : Spelling Binding
@@ -30,9 +29,3 @@ bindings next = such_that (are_bindings next) (list binding)
 -- those at the front of bytes, and what stands behind them
 unfoldable pub bindings_at : ℕ → List ℕ → Read (List Binding)
 bindings_at next bytes = (bindings next).read bytes
-
--- its texts are short enough for their lengths to be told
-pub record IsShortBinding (b : Binding) : Type 0 where
-  pub tag : length b.tag < 2 ^ 32
-  pub details : AllByRecursion HasShortDetail b.sequence
-  pub script : length b.script < 2 ^ 32

@@ -1,8 +1,9 @@
 -- What the commands of an application keep, as bytes (this project's own format): names that rise by their bytes, each with
 -- a text.
-use Rattle.std.specs.Prelude.{ℕ, ◌<◌, ◌^◌, Bool, true, ◌&&◌, List, [], ◌∷◌, length, Some}
+use Rattle.std.specs.Prelude.{ℕ, List, [], ◌∷◌}
+use Rattle.tks_app.specs.Memories.{are_memories}
 use Rattle.tks_app.specs.declared.memories.Memory.{Memory}
-use Rattle.tks_codec.specs.Spelling.{Read, Spelling, such_that, field, through, list, text, is_behind}
+use Rattle.tks_codec.specs.Spelling.{Read, Spelling, such_that, field, through, list, text}
 
 -- a name, and what is kept under it
 abbrev pub memory : Spelling Memory
@@ -16,24 +17,10 @@ memory_parts m = text.write m.name ∷ text.write m.text ∷ []
 unfoldable pub memory_at : List ℕ → Read Memory
 memory_at bytes = memory.read bytes
 
--- whether names rise behind that of a memory
-abbrev pub rise_behind : Memory → List Memory → Bool
-rise_behind before [] = true
-rise_behind before (m ∷ memories) = is_behind (λ m. m.name) (Some before) m && rise_behind m memories
-
--- whether names rise
-abbrev pub are_memories : List Memory → Bool
-are_memories [] = true
-are_memories (m ∷ memories) = rise_behind m memories
-
--- memories
+-- memories, whose names rise
 abbrev pub memories : Spelling (List Memory)
 memories = such_that are_memories (list memory)
 
 -- the memories at the front of bytes, and what stands behind them
 unfoldable pub memories_at : List ℕ → Read (List Memory)
 memories_at bytes = memories.read bytes
-
--- its name and its text are short enough for their lengths to be told
-abbrev pub IsShortMemory : Memory → Type 0
-IsShortMemory m = (length m.name < 2 ^ 32) × (length m.text < 2 ^ 32)

@@ -2,7 +2,7 @@
 use Rattle.std.specs.Prelude.{ℕ, List}
 use Rattle.tks_queue.specs.declared.queued.Queued.{Queued}
 use Rattle.tks_codec.specs.Spelling.{Read, Spelling, field, through, flag, list}
-use Rattle.tks_codec_events.specs.Event.{event, HasShortTexts}
+use Rattle.tks_codec_events.specs.Event.{event}
 
 -- an event that waits: the event, whether it was put with a mark
 abbrev pub queued : Spelling Queued
@@ -15,7 +15,3 @@ queued_at bytes = queued.read bytes
 -- the events that wait, the next one first
 abbrev pub queue : Spelling (List Queued)
 queue = list queued
-
--- its texts are short enough for their lengths to be told
-abbrev pub IsShort : Queued → Type 0
-IsShort q = HasShortTexts q.event

@@ -1,5 +1,5 @@
 -- Sequences of events as bytes (this project's own format).
-use Rattle.std.specs.Prelude.{ℕ, ◌<◌, ◌^◌, Bool, List, [], ◌∷◌, length, nat_lt}
+use Rattle.std.specs.Prelude.{ℕ, Bool, List, [], ◌∷◌, nat_lt}
 use Rattle.std.specs.Int.{w16}
 use Rattle.tks_event.specs.Modifiers.{all_bits}
 use Rattle.tks_event.specs.Sequences.{is_sequence}
@@ -38,7 +38,3 @@ sequence = such_that is_sequence (list pattern)
 -- the sequence at the front of bytes, and what stands behind it
 unfoldable pub sequence_at : List ℕ → Read (List Pattern)
 sequence_at bytes = sequence.read bytes
-
--- a pattern's detail is short enough for its length to be told
-abbrev pub HasShortDetail : Pattern → Type 0
-HasShortDetail p = length p.detail < 2 ^ 32

@@ -1,5 +1,5 @@
 -- Timers and idle scripts as bytes (this project's own format).
-use Rattle.std.specs.Prelude.{ℕ, ◌<◌, ◌^◌, List, [], ◌∷◌, length}
+use Rattle.std.specs.Prelude.{ℕ, List, [], ◌∷◌}
 use Rattle.std.specs.Int.{w64}
 use Rattle.tks_timer.specs.declared.entry.Timer.{Timer}
 use Rattle.tks_timer.specs.declared.entry.Idle.{Idle}
@@ -35,13 +35,6 @@ idle_parts i = (number w64).write i.id ∷ text.write i.script ∷ []
 -- the idle script at the front of bytes, and what stands behind it
 unfoldable pub idle_at : List ℕ → Read Idle
 idle_at bytes = idle.read bytes
-
--- scripts are short enough for their lengths to be told
-abbrev pub IsShortTimer : Timer → Type 0
-IsShortTimer t = length t.script < 2 ^ 32
-
-abbrev pub IsShortIdle : Idle → Type 0
-IsShortIdle i = length i.script < 2 ^ 32
 
 -- ---- all of them
 

@@ -1,14 +1,14 @@
 //! Bindings.
-ghost use Rattle.std.specs.Prelude.{◌≡◌, ◌<◌, ◌≤◌, ◌^◌, length, nat_lt, true, None, IfOk, OnOk};
-ghost use Rattle.std.specs.List.{AllByRecursion, list_all};
+ghost use Rattle.std.specs.Prelude.{◌≡◌, ◌≤◌, ◌^◌, nat_lt, None, IfOk, OnOk};
+ghost use Rattle.std.specs.List.{list_all};
 ghost use Rattle.tks_bind.specs.WellFormed.{are_bindings};
 ghost use Rattle.tks_codec.specs.Reading.{Gives};
 ghost use Rattle.tks_codec.specs.Writing.{PutsSo, flattened};
 ghost use Rattle.tks_codec_events.specs.Bindings as tables;
-ghost use Rattle.tks_codec_events.specs.Bindings.{binding_at, binding_parts, bindings_at, IsShortBinding};
+ghost use Rattle.tks_codec_events.specs.Bindings.{binding_at, binding_parts, bindings_at};
 
 use crate::distinct::{Distinct, all_differ};
-use crate::member::{Member, is_short, list_of, put_items};
+use crate::member::{Member, list_of, put_items};
 use crate::sequence::{put_sequence, sequence_of};
 use std::alloc::{AllocError, Global};
 use tks_bind::{Binding, Bindings};
@@ -38,7 +38,6 @@ fn binding_of(alloc: Global, bytes: &[u8]) -> Result<(Binding, &[u8]), Unread>
 // Adds the parts of a binding.
 #[tactic(auto, using(tks_codec::proofs::Puts::flattened_puts))]
 fn put_parts(out: &mut Vec<u8>, binding: &Binding) -> Result<(), AllocError>
-    requires { IsShortBinding binding.now }
     ensures puts { PutsSo result out.old.items out.new.items (flattened (binding_parts binding.now)) }
     ensures legal { OnOk result (tables.binding.Legal binding.now) }
 {
@@ -49,17 +48,11 @@ fn put_parts(out: &mut Vec<u8>, binding: &Binding) -> Result<(), AllocError>
 }
 
 impl Member for Binding {
-    ghost use Rattle.tks_codec_events.specs.Bindings.{binding, IsShortBinding};
+    ghost use Rattle.tks_codec_events.specs.Bindings.{binding};
 
     ghost spelling = { binding };
 
-    ghost IsShort = { IsShortBinding };
-
     ghost IsSound = { λ b. Unit {0} };
-
-    fn has_spelling(&self) -> bool {
-        is_short(&self.tag) && self.sequence.has_spelling() && is_short(&self.script)
-    }
 
     #[tactic(auto, unfolding(crate::specs::Bindings::binding_at))]
     fn read(alloc: Global, bytes: &[u8]) -> Result<(Binding, &[u8]), Unread> {
@@ -116,10 +109,10 @@ pub fn bindings_of(alloc: Global, next: u64, bytes: &[u8]) -> Result<(Bindings, 
 
 /// Adds bindings, but not the next number.
 pub fn put_bindings(out: &mut Vec<u8>, bindings: &Bindings) -> Result<(), AllocError>
-    requires few { length bindings.now.present.bindings < 2 ^ 32 }
-    requires short { AllByRecursion IsShortBinding bindings.now.present.bindings }
     ensures puts { PutsSo result out.old.items out.new.items ((tables.bindings bindings.now.present.next).write bindings.now.present.bindings) }
-    ensures legal { OnOk result (are_bindings bindings.now.present.next bindings.now.present.bindings ≡ true → (tables.bindings bindings.now.present.next).Legal bindings.now.present.bindings) }
+    ensures legal { OnOk result ((tables.bindings bindings.now.present.next).Legal bindings.now.present.bindings) }
 {
+    // What holds of all bindings is asked for here.
+    let _ = bindings.next();
     put_items(out, bindings.bindings(), bindings.len())
 }

@@ -1,9 +1,7 @@
 //! Histories of events.
-ghost use Rattle.std.specs.Prelude.{◌≡◌, true, None, IfOk, OnOk};
-ghost use Rattle.std.specs.List.{AllByRecursion};
+ghost use Rattle.std.specs.Prelude.{◌≡◌, None, IfOk, OnOk};
 ghost use Rattle.tks_codec.specs.Reading.{Gives};
 ghost use Rattle.tks_codec.specs.Writing.{PutsSo};
-ghost use Rattle.tks_codec_events.specs.Event.{is_event, HasShortTexts};
 ghost use Rattle.tks_codec_events.specs.History as histories;
 ghost use Rattle.tks_codec_events.specs.History.{history_at};
 
@@ -26,11 +24,10 @@ pub fn history_of(alloc: Global, bytes: &[u8]) -> Result<(History, &[u8]), Unrea
     Ok((History::restore(alloc, events), rest))
 }
 
-/// Adds a history. It is read back where its events are such that there are (`is_event`).
+/// Adds a history.
 pub fn put_history(out: &mut Vec<u8>, history: &History) -> Result<(), AllocError>
-    requires { AllByRecursion HasShortTexts history.now.present }
     ensures puts { PutsSo result out.old.items out.new.items (histories.history.write history.now.present) }
-    ensures legal { OnOk result (AllByRecursion (λ e. is_event e ≡ true) history.now.present → histories.history.Legal history.now.present) }
+    ensures legal { OnOk result (histories.history.Legal history.now.present) }
 {
     put_list(out, history.events())
 }

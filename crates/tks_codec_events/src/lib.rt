@@ -16,16 +16,12 @@ mod timers;
 mod virtuals;
 
 pub use bindings::{bindings_of, put_bindings};
-pub use distinct::{Distinct, all_differ};
-pub use event::{event_of, is_event, put_event};
+pub use event::{event_of, put_event};
 pub use held::{held_of, put_held};
 pub use history::{history_of, put_history};
 pub use kind::{kind_of, put_kind};
 pub use laws::{all_are_spelled, spellings_are_lawful};
-pub use member::{
-    Member, all_have_spellings, is_short, items_have_spellings, list_of, put_items, put_list,
-};
-pub use memory::{are_memories, memories_of, put_memories};
+pub use memory::{memories_of, put_memories};
 pub use queue::{put_queue, queue_of};
 pub use sequence::{put_sequence, sequence_of};
 pub use timers::{put_waiting, waiting_of};

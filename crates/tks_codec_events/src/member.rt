@@ -1,6 +1,7 @@
 //! Lists, whose members are spelled each by itself.
-ghost use Rattle.std.specs.Prelude.{◌↔◌, true, ◌≡◌, ◌<◌, ◌^◌, ◌++◌, ◌∷◌, [], length, None, OnOk};
+ghost use Rattle.std.specs.Prelude.{◌≡◌, ◌++◌, ◌∷◌, [], length, None, OnOk};
 ghost use Rattle.std.specs.List.{AllByRecursion};
+ghost use Rattle.tks_text.specs.Short.{IsShort};
 ghost use Rattle.tks_codec.specs.Spelling.{list, members, members_at};
 ghost use Rattle.tks_codec.specs.Reading.{Gives};
 ghost use Rattle.tks_codec.specs.Writing.{PutsSo};
@@ -10,26 +11,18 @@ use tks_codec::Unread;
 use tks_codec::reading::u32_of;
 use tks_codec::writing::put_u32;
 use tks_mark::Items;
-use tks_text::Txt;
 
 /// What may be a member of a list: it is read and written by itself.
 pub trait Member: Drop {
-    ghost use Rattle.std.specs.Prelude.{◌≡◌, ◌↔◌, true, OnOk};
+    ghost use Rattle.std.specs.Prelude.{◌≡◌, OnOk};
     ghost use Rattle.tks_codec.specs.Spelling.{Spelling};
     ghost use Rattle.tks_codec.specs.Reading.{Gives};
     ghost use Rattle.tks_codec.specs.Writing.{PutsSo};
 
     ghost spelling: { Spelling Self };
 
-    // what has to hold for it to be put: its lengths can be told
-    ghost IsShort: { Self → Type 0 };
-
-    // what has to hold besides for it to be read back
+    // what has to hold of it for it to be read back, besides what its type tells
     ghost IsSound: { Self → Type 0 };
-
-    /// Whether it has a spelling.
-    fn has_spelling(&self) -> bool
-        ensures { (result ≡ true) ↔ (IsShort self.now × IsSound self.now) };
 
     /// The one at the front of bytes, and the bytes behind it.
     fn read(alloc: Global, bytes: &[u8]) -> Result<(Self, &[u8]), Unread>
@@ -37,16 +30,8 @@ pub trait Member: Drop {
 
     /// Adds it.
     fn put(&self, out: &mut Vec<u8>) -> Result<(), AllocError>
-        requires { IsShort self.now }
         ensures puts { PutsSo result out.old.items out.new.items (spelling.write self.now) }
         ensures legal { OnOk result (IsSound self.now → spelling.Legal self.now) };
-}
-
-/// Whether a text is short enough for its length to be told.
-pub fn is_short(text: &Txt) -> bool
-    ensures { (result ≡ true) ↔ (length text.now < 2 ^ 32) }
-{
-    text.len() < 1 << 32
 }
 
 // So many members. Room is made for each as it is read.
@@ -83,7 +68,6 @@ pub fn list_of<T: Member>(alloc: Global, bytes: &[u8]) -> Result<(Vec<T>, &[u8])
 
 // Adds each of the members.
 fn put_each<T: Member>(out: &mut Vec<u8>, xs: &[T]) -> Result<(), AllocError>
-    requires { AllByRecursion T.IsShort xs.now }
     ensures puts { PutsSo result out.old.items out.new.items (members (λ before. T.spelling) None xs.now) }
     ensures legal { OnOk result (AllByRecursion (λ x. T.IsSound x → T.spelling.Legal x) xs.now) }
 {
@@ -95,8 +79,7 @@ fn put_each<T: Member>(out: &mut Vec<u8>, xs: &[T]) -> Result<(), AllocError>
 
 /// Adds a list of fewer than 2^32 members.
 pub fn put_list<T: Member>(out: &mut Vec<u8>, xs: &[T]) -> Result<(), AllocError>
-    requires few { length xs.now < 2 ^ 32 }
-    requires short { AllByRecursion T.IsShort xs.now }
+    requires { IsShort xs.now }
     ensures puts { PutsSo result out.old.items out.new.items ((list T.spelling).write xs.now) }
     ensures legal { OnOk result (AllByRecursion T.IsSound xs.now → (list T.spelling).Legal xs.now) }
 {
@@ -106,7 +89,6 @@ pub fn put_list<T: Member>(out: &mut Vec<u8>, xs: &[T]) -> Result<(), AllocError
 
 // Adds each of the items of a list with a mark.
 fn put_each_item<T: Member>(out: &mut Vec<u8>, items: Items<'_, T>) -> Result<(), AllocError>
-    requires { AllByRecursion T.IsShort items }
     ensures puts { PutsSo result out.old.items out.new.items (members (λ before. T.spelling) None items.entry) }
     ensures legal { OnOk result (AllByRecursion (λ x. T.IsSound x → T.spelling.Legal x) items.entry) }
 {
@@ -123,35 +105,10 @@ pub fn put_items<T: Member>(
     count: usize,
 ) -> Result<(), AllocError>
     requires all { count ≡ length items }
-    requires few { count < 2 ^ 32 }
-    requires short { AllByRecursion T.IsShort items }
+    requires short { IsShort items }
     ensures puts { PutsSo result out.old.items out.new.items ((list T.spelling).write items.entry) }
     ensures legal { OnOk result (AllByRecursion T.IsSound items.entry → (list T.spelling).Legal items.entry) }
 {
     put_u32(out, count as u32)?;
     put_each_item(out, items)
-}
-
-/// Whether each of these has a spelling.
-pub fn all_have_spellings<T: Member>(xs: &[T]) -> bool
-    ensures { (result ≡ true) ↔ (AllByRecursion T.IsShort xs.now × AllByRecursion T.IsSound xs.now) }
-{
-    for x in xs {
-        if !x.has_spelling() {
-            return false;
-        }
-    }
-    true
-}
-
-/// Whether each item of a list with a mark has a spelling.
-pub fn items_have_spellings<T: Member>(items: Items<'_, T>) -> bool
-    ensures { (result ≡ true) ↔ (AllByRecursion T.IsShort items.entry × AllByRecursion T.IsSound items.entry) }
-{
-    for x in items {
-        if !x.has_spelling() {
-            return false;
-        }
-    }
-    true
 }

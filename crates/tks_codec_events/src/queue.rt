@@ -1,11 +1,10 @@
 //! The queue of events.
-ghost use Rattle.std.specs.Prelude.{◌≡◌, ◌<◌, ◌^◌, length, true, None, IfOk, OnOk};
-ghost use Rattle.std.specs.List.{AllByRecursion};
+ghost use Rattle.std.specs.Prelude.{◌≡◌, true, None, IfOk, OnOk};
 ghost use Rattle.tks_codec.specs.Reading.{Gives};
 ghost use Rattle.tks_codec.specs.Writing.{PutsSo};
-ghost use Rattle.tks_codec_events.specs.Event.{is_event};
+ghost use Rattle.tks_event.specs.Legality.{is_event};
 ghost use Rattle.tks_codec_events.specs.Queue as queues;
-ghost use Rattle.tks_codec_events.specs.Queue.{queued_at, IsShort};
+ghost use Rattle.tks_codec_events.specs.Queue.{queued_at};
 
 use crate::event::{event_of, put_event};
 use crate::member::{Member, list_of, put_items};
@@ -27,7 +26,6 @@ fn queued_of(alloc: Global, bytes: &[u8]) -> Result<(Queued, &[u8]), Unread>
 
 // Adds an event that waits.
 fn put_queued(out: &mut Vec<u8>, queued: &Queued) -> Result<(), AllocError>
-    requires { IsShort queued.now }
     ensures puts { PutsSo result out.old.items out.new.items (queues.queued.write queued.now) }
     ensures legal { OnOk result (is_event queued.now.event ≡ true → queues.queued.Legal queued.now) }
 {
@@ -37,18 +35,12 @@ fn put_queued(out: &mut Vec<u8>, queued: &Queued) -> Result<(), AllocError>
 
 impl Member for Queued {
     ghost use Rattle.std.specs.Prelude.{◌≡◌, true};
-    ghost use Rattle.tks_codec_events.specs.Event.{is_event};
-    ghost use Rattle.tks_codec_events.specs.Queue.{queued, IsShort};
+    ghost use Rattle.tks_event.specs.Legality.{is_event};
+    ghost use Rattle.tks_codec_events.specs.Queue.{queued};
 
     ghost spelling = { queued };
 
-    ghost IsShort = { IsShort };
-
     ghost IsSound = { λ q. is_event q.event ≡ true };
-
-    fn has_spelling(&self) -> bool {
-        self.event.has_spelling()
-    }
 
     #[tactic(auto, unfolding(crate::specs::Queue::queued_at))]
     fn read(alloc: Global, bytes: &[u8]) -> Result<(Queued, &[u8]), Unread> {
@@ -70,12 +62,10 @@ pub fn queue_of(alloc: Global, bytes: &[u8]) -> Result<(Queue, &[u8]), Unread>
     Ok((queue, rest))
 }
 
-/// Adds a queue. It is read back where its events are such that there are (`is_event`).
+/// Adds a queue.
 pub fn put_queue(out: &mut Vec<u8>, queue: &Queue) -> Result<(), AllocError>
-    requires few { length queue.now.present < 2 ^ 32 }
-    requires short { AllByRecursion IsShort queue.now.present }
     ensures puts { PutsSo result out.old.items out.new.items (queues.queue.write queue.now.present) }
-    ensures legal { OnOk result (AllByRecursion (λ q. is_event q.event ≡ true) queue.now.present → queues.queue.Legal queue.now.present) }
+    ensures legal { OnOk result (queues.queue.Legal queue.now.present) }
 {
     put_items(out, queue.events(), queue.len())
 }

@@ -1,13 +1,12 @@
 //! Patterns and sequences of events.
-ghost use Rattle.std.specs.Prelude.{◌<◌, ◌^◌, length, OnOk};
-ghost use Rattle.std.specs.List.{AllByRecursion};
+ghost use Rattle.std.specs.Prelude.{OnOk};
 ghost use Rattle.tks_codec.specs.Reading.{Gives};
 ghost use Rattle.tks_codec.specs.Writing.{PutsSo, flattened};
 ghost use Rattle.tks_codec_events.specs.Sequence as sequences;
-ghost use Rattle.tks_codec_events.specs.Sequence.{pattern, pattern_at, pattern_parts, sequence_at, HasShortDetail};
+ghost use Rattle.tks_codec_events.specs.Sequence.{pattern, pattern_at, pattern_parts, sequence_at};
 
 use crate::kind::{kind_of, put_kind};
-use crate::member::{Member, all_have_spellings, is_short, list_of, put_list};
+use crate::member::{Member, list_of, put_list};
 use std::alloc::{AllocError, Global};
 use tks_codec::Unread;
 use tks_codec::reading::{flag_of, text_of, u16_of};
@@ -50,7 +49,6 @@ pub fn sequence_of(alloc: Global, bytes: &[u8]) -> Result<(Sequence, &[u8]), Unr
 // Adds the parts of a pattern.
 #[tactic(auto, using(tks_codec::proofs::Puts::flattened_puts, crate::proofs::Sequencing::pattern_legal))]
 fn put_parts(out: &mut Vec<u8>, pattern: &Pattern) -> Result<(), AllocError>
-    requires { length pattern.now.detail < 2 ^ 32 }
     ensures puts { PutsSo result out.old.items out.new.items (flattened (pattern_parts pattern.now)) }
     ensures legal { OnOk result (sequences.pattern.Legal pattern.now) }
 {
@@ -61,17 +59,11 @@ fn put_parts(out: &mut Vec<u8>, pattern: &Pattern) -> Result<(), AllocError>
 }
 
 impl Member for Pattern {
-    ghost use Rattle.tks_codec_events.specs.Sequence.{pattern, HasShortDetail};
+    ghost use Rattle.tks_codec_events.specs.Sequence.{pattern};
 
     ghost spelling = { pattern };
 
-    ghost IsShort = { HasShortDetail };
-
     ghost IsSound = { λ p. Unit {0} };
-
-    fn has_spelling(&self) -> bool {
-        is_short(&self.detail)
-    }
 
     #[tactic(auto, unfolding(crate::specs::Sequence::pattern_at))]
     fn read(alloc: Global, bytes: &[u8]) -> Result<(Pattern, &[u8]), Unread> {
@@ -84,10 +76,8 @@ impl Member for Pattern {
     }
 }
 
-/// Adds a sequence. Where its patterns have details of fewer than 2^32 bytes, as all but the names of virtual events
-/// have, it is read back.
+/// Adds a sequence.
 pub fn put_sequence(out: &mut Vec<u8>, sequence: &Sequence) -> Result<(), AllocError>
-    requires { AllByRecursion HasShortDetail sequence.now }
     ensures puts { PutsSo result out.old.items out.new.items (sequences.sequence.write sequence.now) }
     ensures legal { OnOk result (sequences.sequence.Legal sequence.now) }
 {
@@ -95,18 +85,11 @@ pub fn put_sequence(out: &mut Vec<u8>, sequence: &Sequence) -> Result<(), AllocE
 }
 
 impl Member for Sequence {
-    ghost use Rattle.std.specs.List.{AllByRecursion};
-    ghost use Rattle.tks_codec_events.specs.Sequence.{sequence, HasShortDetail};
+    ghost use Rattle.tks_codec_events.specs.Sequence.{sequence};
 
     ghost spelling = { sequence };
 
-    ghost IsShort = { AllByRecursion HasShortDetail };
-
     ghost IsSound = { λ s. Unit {0} };
-
-    fn has_spelling(&self) -> bool {
-        all_have_spellings(self.patterns())
-    }
 
     #[tactic(auto, unfolding(crate::specs::Sequence::sequence_at))]
     fn read(alloc: Global, bytes: &[u8]) -> Result<(Sequence, &[u8]), Unread> {

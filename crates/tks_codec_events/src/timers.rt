@@ -1,13 +1,12 @@
 //! Timers and idle scripts.
-ghost use Rattle.std.specs.Prelude.{◌≡◌, ◌<◌, ◌≤◌, ◌^◌, length, true, None, IfOk, OnOk};
-ghost use Rattle.std.specs.List.{AllByRecursion};
+ghost use Rattle.std.specs.Prelude.{◌≡◌, ◌≤◌, ◌^◌, None, IfOk, OnOk};
 ghost use Rattle.tks_codec.specs.Reading.{Gives};
 ghost use Rattle.tks_codec.specs.Writing.{PutsSo, flattened};
 ghost use Rattle.tks_codec_events.specs.Timers as waits;
-ghost use Rattle.tks_codec_events.specs.Timers.{timer_at, timer_parts, idle_at, idle_parts, waiting, waiting_at, IsShortTimer, IsShortIdle};
+ghost use Rattle.tks_codec_events.specs.Timers.{timer_at, timer_parts, idle_at, idle_parts, waiting, waiting_at};
 ghost use Rattle.tks_timer.specs.WellFormed.{rise_below, is_apart, are_apart, are_due, are_waiting};
 
-use crate::member::{Member, is_short, list_of, put_items};
+use crate::member::{Member, list_of, put_items};
 use std::alloc::{AllocError, Global};
 use tks_codec::Unread;
 use tks_codec::reading::{text_of, u64_of};
@@ -42,7 +41,6 @@ fn idle_of(alloc: Global, bytes: &[u8]) -> Result<(Idle, &[u8]), Unread>
 // Adds the parts of a timer.
 #[tactic(auto, using(tks_codec::proofs::Puts::flattened_puts))]
 fn put_timer_parts(out: &mut Vec<u8>, timer: &Timer) -> Result<(), AllocError>
-    requires { IsShortTimer timer.now }
     ensures puts { PutsSo result out.old.items out.new.items (flattened (timer_parts timer.now)) }
     ensures legal { OnOk result (waits.timer.Legal timer.now) }
 {
@@ -54,7 +52,6 @@ fn put_timer_parts(out: &mut Vec<u8>, timer: &Timer) -> Result<(), AllocError>
 // Adds the parts of an idle script.
 #[tactic(auto, using(tks_codec::proofs::Puts::flattened_puts))]
 fn put_idle_parts(out: &mut Vec<u8>, idle: &Idle) -> Result<(), AllocError>
-    requires { IsShortIdle idle.now }
     ensures puts { PutsSo result out.old.items out.new.items (flattened (idle_parts idle.now)) }
     ensures legal { OnOk result (waits.idle.Legal idle.now) }
 {
@@ -63,17 +60,11 @@ fn put_idle_parts(out: &mut Vec<u8>, idle: &Idle) -> Result<(), AllocError>
 }
 
 impl Member for Timer {
-    ghost use Rattle.tks_codec_events.specs.Timers.{timer, IsShortTimer};
+    ghost use Rattle.tks_codec_events.specs.Timers.{timer};
 
     ghost spelling = { timer };
 
-    ghost IsShort = { IsShortTimer };
-
     ghost IsSound = { λ t. Unit {0} };
-
-    fn has_spelling(&self) -> bool {
-        is_short(&self.script)
-    }
 
     #[tactic(auto, unfolding(crate::specs::Timers::timer_at))]
     fn read(alloc: Global, bytes: &[u8]) -> Result<(Timer, &[u8]), Unread> {
@@ -87,17 +78,11 @@ impl Member for Timer {
 }
 
 impl Member for Idle {
-    ghost use Rattle.tks_codec_events.specs.Timers.{idle, IsShortIdle};
+    ghost use Rattle.tks_codec_events.specs.Timers.{idle};
 
     ghost spelling = { idle };
 
-    ghost IsShort = { IsShortIdle };
-
     ghost IsSound = { λ i. Unit {0} };
-
-    fn has_spelling(&self) -> bool {
-        is_short(&self.script)
-    }
 
     #[tactic(auto, unfolding(crate::specs::Timers::idle_at))]
     fn read(alloc: Global, bytes: &[u8]) -> Result<(Idle, &[u8]), Unread> {
@@ -179,8 +164,6 @@ pub fn waiting_of(alloc: Global, next: u64, bytes: &[u8]) -> Result<(Timers, &[u
 
 /// Adds timers and idle scripts, but not the next id.
 pub fn put_waiting(out: &mut Vec<u8>, timers: &Timers) -> Result<(), AllocError>
-    requires few { (length timers.now.present.timers < 2 ^ 32) × (length timers.now.present.idles < 2 ^ 32) }
-    requires short { AllByRecursion IsShortTimer timers.now.present.timers × AllByRecursion IsShortIdle timers.now.present.idles }
     ensures puts { PutsSo result out.old.items out.new.items ((waiting timers.now.present.next).write timers.now.present) }
     ensures legal { OnOk result ((waiting timers.now.present.next).Legal timers.now.present) }
 {

@@ -1,14 +1,14 @@
 //! Virtual events.
-ghost use Rattle.std.specs.Prelude.{◌≡◌, ◌<◌, ◌^◌, length, true, None, IfOk, OnOk};
-ghost use Rattle.std.specs.List.{AllByRecursion};
+ghost use Rattle.std.specs.Prelude.{◌≡◌, None, IfOk, OnOk};
 ghost use Rattle.tks_codec.specs.Reading.{Gives};
 ghost use Rattle.tks_codec.specs.Writing.{PutsSo, flattened};
 ghost use Rattle.tks_bind.specs.WellFormed.{is_some, are_virtuals};
 ghost use Rattle.tks_codec_events.specs.Virtuals as tables;
-ghost use Rattle.tks_codec_events.specs.Virtuals.{are_physical, is_virtual_event, named_parts, virtual_event_at, virtuals_at, IsShortVirtual};
+ghost use Rattle.tks_bind.specs.WellFormed.{are_physical, is_virtual_event};
+ghost use Rattle.tks_codec_events.specs.Virtuals.{named_parts, virtual_event_at, virtuals_at};
 
 use crate::distinct::{Distinct, all_differ};
-use crate::member::{Member, all_have_spellings, is_short, list_of, put_items, put_list};
+use crate::member::{Member, list_of, put_items, put_list};
 use std::alloc::{AllocError, Global};
 use tks_bind::{VirtualEvent, Virtuals, is_of_name};
 use tks_codec::Unread;
@@ -78,7 +78,6 @@ fn virtual_event_of(alloc: Global, bytes: &[u8]) -> Result<(VirtualEvent, &[u8])
 // Adds the parts of a virtual event.
 #[tactic(auto, using(tks_codec::proofs::Puts::flattened_puts))]
 fn put_parts(out: &mut Vec<u8>, event: &VirtualEvent) -> Result<(), AllocError>
-    requires { IsShortVirtual event.now }
     ensures puts { PutsSo result out.old.items out.new.items (flattened (named_parts event.now)) }
     ensures legal { OnOk result (tables.named.Legal event.now) }
 {
@@ -88,21 +87,12 @@ fn put_parts(out: &mut Vec<u8>, event: &VirtualEvent) -> Result<(), AllocError>
 
 impl Member for VirtualEvent {
     ghost use Rattle.std.specs.Prelude.{◌≡◌, true};
-    ghost use Rattle.tks_codec_events.specs.Virtuals.{virtual_event, is_virtual_event, IsShortVirtual};
+    ghost use Rattle.tks_bind.specs.WellFormed.{is_virtual_event};
+    ghost use Rattle.tks_codec_events.specs.Virtuals.{virtual_event};
 
     ghost spelling = { virtual_event };
 
-    ghost IsShort = { IsShortVirtual };
-
     ghost IsSound = { λ v. is_virtual_event v ≡ true };
-
-    fn has_spelling(&self) -> bool {
-        let sequences = self.sequences.as_slice();
-        is_short(&self.name)
-            && sequences.len() < 1 << 32
-            && all_have_spellings(sequences)
-            && is_virtual_event(&self.name, sequences)
-    }
 
     #[tactic(auto, unfolding(crate::specs::Virtuals::virtual_event_at))]
     fn read(alloc: Global, bytes: &[u8]) -> Result<(VirtualEvent, &[u8]), Unread> {
@@ -139,12 +129,12 @@ pub fn virtuals_of(alloc: Global, bytes: &[u8]) -> Result<(Virtuals, &[u8]), Unr
     Ok((virtuals, rest))
 }
 
-/// Adds virtual events. They are read back where each has a name that one may have, and sequences of physical events.
+/// Adds virtual events.
 pub fn put_virtuals(out: &mut Vec<u8>, virtuals: &Virtuals) -> Result<(), AllocError>
-    requires few { length virtuals.now.present < 2 ^ 32 }
-    requires short { AllByRecursion IsShortVirtual virtuals.now.present }
     ensures puts { PutsSo result out.old.items out.new.items (tables.virtuals.write virtuals.now.present) }
-    ensures legal { OnOk result (are_virtuals virtuals.now.present ≡ true → AllByRecursion (λ v. is_virtual_event v ≡ true) virtuals.now.present → tables.virtuals.Legal virtuals.now.present) }
+    ensures legal { OnOk result (tables.virtuals.Legal virtuals.now.present) }
 {
+    // What holds of all virtual events is asked for here.
+    let _ = virtuals.is_marked();
     put_items(out, virtuals.events(), virtuals.len())
 }

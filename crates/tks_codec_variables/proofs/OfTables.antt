@@ -5,7 +5,6 @@ use Rattle.std.specs.Ordering.{is_lt}
 use Rattle.std.specs.Cmp.Lexicographic.{nat_list_cmp_total}
 use Rattle.std.specs.FinMap as map
 use Rattle.std.specs.FinMap.Entries.{below_all, is_sorted}
-use Rattle.tks_text.specs.Text.{is_text, IsText}
 use Rattle.tks_vars.specs.Table.{Map}
 use Rattle.tks_vars.proofs.Entries.{order, both, less, entries_are, map_of_entries}
 use Rattle.tks_codec.specs.Spelling.{Spelling, Lawful, text, AreLegal, Rise, members}
@@ -28,11 +27,6 @@ is_less : (o : Ordering) → is_lt o ≡ true → o ≡ Less
 is_less Less e = refl
 is_less Equal e = absurd cc
 is_less Greater e = absurd cc
-
--- of a text the test says so
-pub text_told : (bytes : List ℕ) → IsText bytes → is_text bytes ≡ true
-text_told [] h = refl
-text_told (b ∷ bytes) h = rw h.0 (text_told bytes h.1)
 
 module _ {X : Type 0} where
   abbrev name : List ℕ × X → List ℕ

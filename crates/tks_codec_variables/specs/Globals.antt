@@ -1,11 +1,11 @@
 -- Globals as bytes (this project's own format): under each name a scalar or an array.
-use Rattle.std.specs.Prelude.{ℕ, ◌<◌, ◌^◌, ◌==◌, List, [], length}
+use Rattle.std.specs.Prelude.{ℕ, ◌==◌, List, []}
 use Rattle.std.specs.FinMap as map
 use Rattle.tks_vars.specs.Table.{Map}
 use Rattle.tks_vars.specs.declared.content.Content.{Content}
 use Rattle.tks_vars.specs.declared.content.Content.TheVariants.{Scalar, Array}
 use Rattle.tks_codec.specs.Spelling.{Read, Spelling, byte, text, such_that, is_flag, field, through, which, none}
-use Rattle.tks_codec_variables.specs.Table.{table, IsShortTable, IsSoundTable}
+use Rattle.tks_codec_variables.specs.Table.{table}
 
 -- 0 for a scalar, 1 for an array
 abbrev pub tag_of : Content → ℕ
@@ -39,21 +39,3 @@ content = field tag_of (such_that is_flag byte) behind_tag
 -- the one at the front of bytes, and what stands behind it
 unfoldable pub content_at : List ℕ → Read Content
 content_at bytes = content.read bytes
-
--- a text whose length can be told
-abbrev pub IsShortText : List ℕ → Type 0
-IsShortText value = length value < 2 ^ 32
-
--- where nothing is asked of a value
-abbrev pub IsAny : {X : Type 0} → X → Type 0
-IsAny value = Unit {0}
-
--- the lengths in it can be told
-abbrev pub IsShortContent : Content → Type 0
-IsShortContent (Scalar value) = IsShortText value
-IsShortContent (Array elements) = IsShortTable IsShortText elements
-
--- the names of elements are texts
-abbrev pub IsSoundContent : Content → Type 0
-IsSoundContent (Scalar value) = Unit {0}
-IsSoundContent (Array elements) = IsSoundTable IsAny elements

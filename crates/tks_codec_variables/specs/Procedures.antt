@@ -1,6 +1,5 @@
 -- Procedures as bytes (this project's own format): parameters and a body.
-use Rattle.std.specs.Prelude.{ℕ, ◌<◌, ◌^◌, List, [], ◌∷◌, length, Option, Some, None}
-use Rattle.std.specs.List.{AllByRecursion}
+use Rattle.std.specs.Prelude.{ℕ, List, [], ◌∷◌}
 use Rattle.tks_vars.specs.declared.procedure.Parameter.{Parameter}
 use Rattle.tks_vars.specs.declared.procedure.Procedure.{Procedure}
 use Rattle.tks_codec.specs.Spelling.{Read, Spelling, text, list, option, field, through}
@@ -32,19 +31,3 @@ procedure_parts p = (list parameter).write p.params ∷ text.write p.body ∷ []
 -- the procedure at the front of bytes, and what stands behind it
 unfoldable pub procedure_at : List ℕ → Read Procedure
 procedure_at bytes = procedure.read bytes
-
--- no default, or one whose length can be told
-abbrev pub HasShortDefault : Option (List ℕ) → Type 0
-HasShortDefault None = Unit {0}
-HasShortDefault (Some value) = length value < 2 ^ 32
-
--- the lengths in a parameter can be told
-pub record IsShortParameter (p : Parameter) : Type 0 where
-  pub name : length p.name < 2 ^ 32
-  pub default : HasShortDefault p.default
-
--- the lengths in a procedure can be told
-pub record IsShortProcedure (p : Procedure) : Type 0 where
-  pub count : length p.params < 2 ^ 32
-  pub params : AllByRecursion IsShortParameter p.params
-  pub body : length p.body < 2 ^ 32

@@ -1,8 +1,6 @@
 -- Maps from names as bytes (this project's own format): their entries in the order of the names.
-use Rattle.std.specs.Prelude.{ℕ, ◌<◌, ◌^◌, List, length, Option}
-use Rattle.std.specs.List.{AllByRecursion}
+use Rattle.std.specs.Prelude.{ℕ, List, Option}
 use Rattle.std.specs.FinMap as map
-use Rattle.tks_text.specs.Text.{IsText}
 use Rattle.tks_vars.specs.Table.{Map}
 use Rattle.tks_codec.specs.Spelling.{Read, Spelling, text, pair, rising, such_that, is_behind, through}
 
@@ -25,20 +23,3 @@ table value = through map.entries map.from_entries (entries value)
 -- the map at the front of bytes, and what stands behind it
 unfoldable pub table_at : {X : Type 0} → Spelling X → List ℕ → Read (Map X)
 table_at value bytes = (table value).read bytes
-
--- what is asked of names and values, as far as lengths go
-abbrev pub HasShort : {X : Type 0} → (X → Type 0) → List ℕ × X → Type 0
-HasShort IsShort e = (length e.0 < 2 ^ 32) × IsShort e.1
-
--- the lengths of a map, of its names and of what is under them can be told
-pub record IsShortTable {X : Type 0} (IsShort : X → Type 0) (m : Map X) : Type 0 where
-  pub count : map.len m < 2 ^ 32
-  pub entries : AllByRecursion (HasShort IsShort) (map.entries m)
-
--- a name that is a text, and a value of which this holds
-abbrev pub HasText : {X : Type 0} → (X → Type 0) → List ℕ × X → Type 0
-HasText IsSound e = IsText e.0 × IsSound e.1
-
--- each name is a text, and this holds of each value
-abbrev pub IsSoundTable : {X : Type 0} → (X → Type 0) → Map X → Type 0
-IsSoundTable IsSound m = AllByRecursion (HasText IsSound) (map.entries m)

@@ -1,13 +1,13 @@
 -- Variables and procedures as bytes (this project's own format), where no frame was begun.
-use Rattle.std.specs.Prelude.{◌≡◌, ℕ, List, [], ◌∷◌}
+use Rattle.std.specs.Prelude.{ℕ, List, [], ◌∷◌}
 use Rattle.tks_vars.specs.Table.{Map}
 use Rattle.tks_vars.specs.Variables.{Variables, at_global_level}
 use Rattle.tks_vars.specs.declared.content.Content.{Content}
 use Rattle.tks_vars.specs.declared.procedure.Procedure.{Procedure}
 use Rattle.tks_codec.specs.Spelling.{Read, Spelling, field, through}
-use Rattle.tks_codec_variables.specs.Table.{table, IsShortTable, IsSoundTable}
-use Rattle.tks_codec_variables.specs.Globals.{content, IsAny, IsShortContent, IsSoundContent}
-use Rattle.tks_codec_variables.specs.Procedures.{procedure, IsShortProcedure}
+use Rattle.tks_codec_variables.specs.Table.{table}
+use Rattle.tks_codec_variables.specs.Globals.{content}
+use Rattle.tks_codec_variables.specs.Procedures.{procedure}
 
 -- the globals
 abbrev pub globals : Spelling (Map Content)
@@ -30,14 +30,3 @@ variables_parts v = globals.write v.globals ∷ procedures.write v.procedures �
 -- those at the front of bytes, and what stands behind them
 unfoldable pub variables_at : List ℕ → Read Variables
 variables_at bytes = variables.read bytes
-
--- the lengths in them can be told
-pub record AreShort (v : Variables) : Type 0 where
-  pub globals : IsShortTable IsShortContent v.globals
-  pub procedures : IsShortTable IsShortProcedure v.procedures
-
--- no frame was begun, and each name of a global, an element and a procedure is a text
-pub record AreSound (v : Variables) : Type 0 where
-  pub none_begun : v.locals ≡ []
-  pub globals : IsSoundTable IsSoundContent v.globals
-  pub procedures : IsSoundTable IsAny v.procedures

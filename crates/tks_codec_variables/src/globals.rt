@@ -1,7 +1,7 @@
 //! What stands under the names of globals: texts, scalars and arrays.
 ghost use Rattle.std.specs.Prelude.{◌≡◌};
 
-use crate::table::{Named, put_table, table_has_spelling, table_of};
+use crate::table::{Named, put_table, table_of};
 use std::alloc::{AllocError, Global};
 use tks_codec::Unread;
 use tks_codec::reading::{presence_of, text_of};
@@ -11,17 +11,8 @@ use tks_vars::Content;
 
 impl Named for ListText {
     ghost use Rattle.tks_codec.specs.Spelling.{text};
-    ghost use Rattle.tks_codec_variables.specs.Globals.{IsAny, IsShortText};
 
     ghost spelling = { text };
-
-    ghost IsShort = { IsShortText };
-
-    ghost IsSound = { IsAny };
-
-    fn has_spelling(&self) -> bool {
-        self.len() < 1 << 32
-    }
 
     fn read(alloc: Global, bytes: &[u8]) -> Result<(ListText, &[u8]), Unread> {
         let (text, rest) = text_of(alloc, bytes)?;
@@ -34,20 +25,9 @@ impl Named for ListText {
 }
 
 impl Named for Content {
-    ghost use Rattle.tks_codec_variables.specs.Globals.{content, IsShortContent, IsSoundContent};
+    ghost use Rattle.tks_codec_variables.specs.Globals.{content};
 
     ghost spelling = { content };
-
-    ghost IsShort = { IsShortContent };
-
-    ghost IsSound = { IsSoundContent };
-
-    fn has_spelling(&self) -> bool {
-        match self {
-            Content::Scalar(value) => value.has_spelling(),
-            Content::Array(elements) => table_has_spelling(elements),
-        }
-    }
 
     #[tactic(auto, unfolding(crate::specs::Table::table_at))]
     fn read(alloc: Global, bytes: &[u8]) -> Result<(Content, &[u8]), Unread> {

@@ -9,6 +9,6 @@ mod table;
 mod variables;
 
 pub use laws::spellings_are_lawful;
-pub use parameter::{are_short, parameters_of, put_parameters};
-pub use table::{Named, put_table, table_has_spelling, table_of};
-pub use variables::{has_spelling, put_variables, variables_of};
+pub use parameter::{parameters_of, put_parameters};
+pub use table::{Named, put_table, table_of};
+pub use variables::{put_variables, variables_of};

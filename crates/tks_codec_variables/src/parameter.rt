@@ -1,11 +1,11 @@
 //! Parameters of procedures.
-ghost use Rattle.std.specs.Prelude.{◌≡◌, ◌↔◌, ◌<◌, ◌^◌, length, true, None, OnOk};
+ghost use Rattle.std.specs.Prelude.{◌≡◌, None, OnOk};
 ghost use Rattle.std.specs.List.{AllByRecursion};
 ghost use Rattle.tks_codec.specs.Spelling.{text, option, list, members_at, members};
 ghost use Rattle.tks_codec.specs.Reading.{Gives};
 ghost use Rattle.tks_codec.specs.Writing.{PutsSo, flattened};
 ghost use Rattle.tks_codec_variables.specs.Procedures as kinds;
-ghost use Rattle.tks_codec_variables.specs.Procedures.{parameter, parameter_at, parameter_parts, HasShortDefault, IsShortParameter};
+ghost use Rattle.tks_codec_variables.specs.Procedures.{parameter, parameter_at, parameter_parts};
 
 use std::alloc::{AllocError, Global};
 use tks_codec::Unread;
@@ -68,7 +68,6 @@ pub fn parameters_of(alloc: Global, bytes: &[u8]) -> Result<(Seq<Parameter>, &[u
 // Adds a default, if there is one.
 #[tactic(auto, using(tks_codec::proofs::Puts::put_behind))]
 fn put_default(out: &mut Vec<u8>, default: &Option<Txt>) -> Result<(), AllocError>
-    requires { HasShortDefault default.now }
     ensures puts { PutsSo result out.old.items out.new.items ((option text).write default.now) }
     ensures legal { OnOk result ((option text).Legal default.now) }
 {
@@ -84,7 +83,6 @@ fn put_default(out: &mut Vec<u8>, default: &Option<Txt>) -> Result<(), AllocErro
 // Adds the parts of a parameter.
 #[tactic(auto, using(tks_codec::proofs::Puts::flattened_puts))]
 fn put_parts(out: &mut Vec<u8>, parameter: &Parameter) -> Result<(), AllocError>
-    requires { IsShortParameter parameter.now }
     ensures puts { PutsSo result out.old.items out.new.items (flattened (parameter_parts parameter.now)) }
     ensures legal { OnOk result (kinds.parameter.Legal parameter.now) }
 {
@@ -95,7 +93,6 @@ fn put_parts(out: &mut Vec<u8>, parameter: &Parameter) -> Result<(), AllocError>
 // Adds a parameter.
 #[tactic(auto, unfolding(tks_codec::specs::Writing::flattened))]
 fn put_parameter(out: &mut Vec<u8>, parameter: &Parameter) -> Result<(), AllocError>
-    requires { IsShortParameter parameter.now }
     ensures puts { PutsSo result out.old.items out.new.items (kinds.parameter.write parameter.now) }
     ensures legal { OnOk result (kinds.parameter.Legal parameter.now) }
 {
@@ -104,7 +101,6 @@ fn put_parameter(out: &mut Vec<u8>, parameter: &Parameter) -> Result<(), AllocEr
 
 // Adds each of the parameters.
 fn put_each_parameter(out: &mut Vec<u8>, parameters: &[Parameter]) -> Result<(), AllocError>
-    requires { AllByRecursion IsShortParameter parameters.now }
     ensures puts { PutsSo result out.old.items out.new.items (members (λ before. parameter) None parameters.now) }
     ensures legal { OnOk result (AllByRecursion parameter.Legal parameters.now) }
 {
@@ -115,37 +111,10 @@ fn put_each_parameter(out: &mut Vec<u8>, parameters: &[Parameter]) -> Result<(),
 }
 
 /// Adds parameters.
-pub fn put_parameters(out: &mut Vec<u8>, parameters: &[Parameter]) -> Result<(), AllocError>
-    requires count { length parameters.now < 2 ^ 32 }
-    requires parameters { AllByRecursion IsShortParameter parameters.now }
+pub fn put_parameters(out: &mut Vec<u8>, parameters: &Seq<Parameter>) -> Result<(), AllocError>
     ensures puts { PutsSo result out.old.items out.new.items ((list parameter).write parameters.now) }
     ensures legal { OnOk result ((list parameter).Legal parameters.now) }
 {
     put_u32(out, parameters.len() as u32)?;
-    put_each_parameter(out, parameters)
-}
-
-// Whether the lengths in a parameter can be told.
-fn is_short(parameter: &Parameter) -> bool
-    ensures { (result ≡ true) ↔ IsShortParameter parameter.now }
-{
-    if 1 << 32 <= parameter.name.len() {
-        return false;
-    }
-    match &parameter.default {
-        None => true,
-        Some(value) => value.len() < 1 << 32,
-    }
-}
-
-/// Whether the lengths in each parameter can be told.
-pub fn are_short(parameters: &[Parameter]) -> bool
-    ensures { (result ≡ true) ↔ AllByRecursion IsShortParameter parameters.now }
-{
-    for parameter in parameters {
-        if !is_short(parameter) {
-            return false;
-        }
-    }
-    true
+    put_each_parameter(out, parameters.as_slice())
 }

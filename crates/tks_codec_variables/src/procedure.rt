@@ -2,9 +2,9 @@
 ghost use Rattle.std.specs.Prelude.{◌≡◌, OnOk};
 ghost use Rattle.tks_codec.specs.Writing.{PutsSo, flattened};
 ghost use Rattle.tks_codec_variables.specs.Procedures as kinds;
-ghost use Rattle.tks_codec_variables.specs.Procedures.{procedure_parts, IsShortProcedure};
+ghost use Rattle.tks_codec_variables.specs.Procedures.{procedure_parts};
 
-use crate::parameter::{are_short, parameters_of, put_parameters};
+use crate::parameter::{parameters_of, put_parameters};
 use crate::table::Named;
 use std::alloc::{AllocError, Global};
 use tks_codec::Unread;
@@ -15,34 +15,17 @@ use tks_vars::Procedure;
 // Adds the parts of a procedure.
 #[tactic(auto, using(tks_codec::proofs::Puts::flattened_puts))]
 fn put_parts(out: &mut Vec<u8>, procedure: &Procedure) -> Result<(), AllocError>
-    requires { IsShortProcedure procedure.now }
     ensures puts { PutsSo result out.old.items out.new.items (flattened (procedure_parts procedure.now)) }
     ensures legal { OnOk result (kinds.procedure.Legal procedure.now) }
 {
-    put_parameters(out, procedure.params.as_slice())?;
+    put_parameters(out, &procedure.params)?;
     put_text(out, &procedure.body)
 }
 
 impl Named for Procedure {
-    ghost use Rattle.tks_codec_variables.specs.Globals.{IsAny};
-    ghost use Rattle.tks_codec_variables.specs.Procedures.{procedure, IsShortProcedure};
+    ghost use Rattle.tks_codec_variables.specs.Procedures.{procedure};
 
     ghost spelling = { procedure };
-
-    ghost IsShort = { IsShortProcedure };
-
-    ghost IsSound = { IsAny };
-
-    fn has_spelling(&self) -> bool {
-        let parameters = self.params.as_slice();
-        if 1 << 32 <= parameters.len() {
-            return false;
-        }
-        if 1 << 32 <= self.body.len() {
-            return false;
-        }
-        are_short(parameters)
-    }
 
     fn read(alloc: Global, bytes: &[u8]) -> Result<(Procedure, &[u8]), Unread> {
         let (params, rest) = parameters_of(alloc, bytes)?;

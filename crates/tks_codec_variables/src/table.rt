@@ -1,38 +1,28 @@
 //! Maps from names.
-ghost use Rattle.std.specs.Prelude.{◌≡◌, ◌↔◌, ◌<◌, ◌^◌, ◌++◌, ◌∷◌, [], length, true, None, OnOk};
+ghost use Rattle.std.specs.Prelude.{◌≡◌, ◌++◌, ◌∷◌, [], None, OnOk};
 ghost use Rattle.std.specs.List.{AllByRecursion};
-ghost use Rattle.tks_text.specs.Text.{IsText};
+ghost use Rattle.tks_vars.specs.Table.{HasName, IsName};
 ghost use Rattle.tks_codec.specs.Spelling.{text, is_behind, last_of, members, members_at};
 ghost use Rattle.tks_codec.specs.Reading.{Gives};
 ghost use Rattle.tks_codec.specs.Writing.{PutsSo};
 ghost use Rattle.tks_codec_variables.specs.Table as kinds;
-ghost use Rattle.tks_codec_variables.specs.Table.{entry, next, table_at, HasShort, HasText, IsShortTable, IsSoundTable};
+ghost use Rattle.tks_codec_variables.specs.Table.{entry, next, table_at};
 
 use std::alloc::{AllocError, Global};
 use tks_codec::Unread;
 use tks_codec::reading::{text_of, u32_of};
 use tks_codec::writing::put_u32;
-use tks_text::{Txt, is_text};
+use tks_text::Txt;
 use tks_vars::{Iter, Table};
 
 /// What may stand under a name: it is read and written by itself.
 pub trait Named: Drop {
-    ghost use Rattle.std.specs.Prelude.{◌≡◌, ◌↔◌, true, OnOk};
+    ghost use Rattle.std.specs.Prelude.{◌≡◌, OnOk};
     ghost use Rattle.tks_codec.specs.Spelling.{Spelling};
     ghost use Rattle.tks_codec.specs.Reading.{Gives};
     ghost use Rattle.tks_codec.specs.Writing.{PutsSo};
 
     ghost spelling: { Spelling Self };
-
-    // what has to hold for it to be put: its lengths can be told
-    ghost IsShort: { Self → Type 0 };
-
-    // what has to hold besides for it to be read back
-    ghost IsSound: { Self → Type 0 };
-
-    /// Whether it has a spelling.
-    fn has_spelling(&self) -> bool
-        ensures { (result ≡ true) ↔ (IsShort self.now × IsSound self.now) };
 
     /// The one at the front of bytes, and the bytes behind it.
     fn read(alloc: Global, bytes: &[u8]) -> Result<(Self, &[u8]), Unread>
@@ -40,9 +30,8 @@ pub trait Named: Drop {
 
     /// Adds it.
     fn put(&self, out: &mut Vec<u8>) -> Result<(), AllocError>
-        requires { IsShort self.now }
         ensures puts { PutsSo result out.old.items out.new.items (spelling.write self.now) }
-        ensures legal { OnOk result (IsSound self.now → spelling.Legal self.now) };
+        ensures legal { OnOk result (spelling.Legal self.now) };
 }
 
 // Whether the name of an entry is behind those of these.
@@ -118,10 +107,10 @@ fn put_bytes(out: &mut Vec<u8>, bytes: &[u8]) -> Result<(), AllocError>
     Ok(())
 }
 
-// Adds a name of fewer than 2^32 bytes.
+// Adds a name.
 #[tactic(auto, using(tks_codec::proofs::Puts::still, tks_codec::proofs::Puts::put_behind))]
 fn put_name(out: &mut Vec<u8>, name: &[u8]) -> Result<(), AllocError>
-    requires { length name.now < 2 ^ 32 }
+    requires { IsName name.now }
     ensures { PutsSo result out.old.items out.new.items (text.write name.now) }
 {
     put_u32(out, name.len() as u32)?;
@@ -131,9 +120,9 @@ fn put_name(out: &mut Vec<u8>, name: &[u8]) -> Result<(), AllocError>
 
 // Adds a name, and what is under it.
 fn put_entry<X: Named>(out: &mut Vec<u8>, name: &[u8], value: &X) -> Result<(), AllocError>
-    requires { HasShort X.IsShort (name.now, value.now) }
+    requires { IsName name.now }
     ensures puts { PutsSo result out.old.items out.new.items ((entry X.spelling).write (name.now, value.now)) }
-    ensures legal { OnOk result (HasText X.IsSound (name.now, value.now) → (entry X.spelling).Legal (name.now, value.now)) }
+    ensures legal { OnOk result ((entry X.spelling).Legal (name.now, value.now)) }
 {
     put_name(out, name)?;
     value.put(out)
@@ -141,9 +130,9 @@ fn put_entry<X: Named>(out: &mut Vec<u8>, name: &[u8], value: &X) -> Result<(), 
 
 // Adds each of the entries.
 fn put_each<X: Named>(out: &mut Vec<u8>, entries: Iter<'_, X>) -> Result<(), AllocError>
-    requires { AllByRecursion (HasShort X.IsShort) entries }
+    requires { AllByRecursion HasName entries }
     ensures puts { PutsSo result out.old.items out.new.items (members (λ before. entry X.spelling) None entries.entry) }
-    ensures legal { OnOk result (AllByRecursion (λ e. HasText X.IsSound e → (entry X.spelling).Legal e) entries.entry) }
+    ensures legal { OnOk result (AllByRecursion (entry X.spelling).Legal entries.entry) }
 {
     for (name, value) in entries {
         put_entry(out, name, value)?;
@@ -151,48 +140,11 @@ fn put_each<X: Named>(out: &mut Vec<u8>, entries: Iter<'_, X>) -> Result<(), All
     Ok(())
 }
 
-/// Adds a map. It is read back where each name is a text, and each value is read back.
+/// Adds a map.
 pub fn put_table<X: Named>(out: &mut Vec<u8>, table: &Table<X>) -> Result<(), AllocError>
-    requires { IsShortTable X.IsShort table.now }
     ensures puts { PutsSo result out.old.items out.new.items ((kinds.table X.spelling).write table.now) }
-    ensures legal { OnOk result (IsSoundTable X.IsSound table.now → (kinds.table X.spelling).Legal table.now) }
+    ensures legal { OnOk result ((kinds.table X.spelling).Legal table.now) }
 {
     put_u32(out, table.len() as u32)?;
     put_each(out, table.iter())
-}
-
-// Whether a name and what is under it have a spelling.
-#[tactic(auto, using(crate::proofs::OfTables::text_told))]
-fn has_spelling<X: Named>(name: &[u8], value: &X) -> bool
-    ensures { (result ≡ true) ↔ (HasShort X.IsShort (name.now, value.now) × HasText X.IsSound (name.now, value.now)) }
-{
-    if 1 << 32 <= name.len() {
-        return false;
-    }
-    if !is_text(name) {
-        return false;
-    }
-    value.has_spelling()
-}
-
-// Whether each of these has a spelling.
-fn have_spellings<X: Named>(entries: Iter<'_, X>) -> bool
-    ensures { (result ≡ true) ↔ (AllByRecursion (HasShort X.IsShort) entries.entry × AllByRecursion (HasText X.IsSound) entries.entry) }
-{
-    for (name, value) in entries {
-        if !has_spelling(name, value) {
-            return false;
-        }
-    }
-    true
-}
-
-/// Whether a map has a spelling.
-pub fn table_has_spelling<X: Named>(table: &Table<X>) -> bool
-    ensures { (result ≡ true) ↔ (IsShortTable X.IsShort table.now × IsSoundTable X.IsSound table.now) }
-{
-    if 1 << 32 <= table.len() {
-        return false;
-    }
-    have_spellings(table.iter())
 }

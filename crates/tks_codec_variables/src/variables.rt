@@ -1,11 +1,11 @@
 //! Variables and procedures.
-ghost use Rattle.std.specs.Prelude.{◌≡◌, ◌↔◌, true, OnOk};
+ghost use Rattle.std.specs.Prelude.{◌≡◌, [], OnOk};
 ghost use Rattle.tks_codec.specs.Reading.{Gives};
 ghost use Rattle.tks_codec.specs.Writing.{PutsSo, flattened};
 ghost use Rattle.tks_codec_variables.specs.Variables as kinds;
-ghost use Rattle.tks_codec_variables.specs.Variables.{variables_at, variables_parts, AreShort, AreSound};
+ghost use Rattle.tks_codec_variables.specs.Variables.{variables_at, variables_parts};
 
-use crate::table::{put_table, table_has_spelling, table_of};
+use crate::table::{put_table, table_of};
 use std::alloc::{AllocError, Global};
 use tks_codec::Unread;
 use tks_vars::{Content, Procedure, Vars};
@@ -23,34 +23,18 @@ pub fn variables_of(alloc: Global, bytes: &[u8]) -> Result<(Vars, &[u8]), Unread
 // Adds the parts of variables.
 #[tactic(auto, using(tks_codec::proofs::Puts::flattened_puts))]
 fn put_parts(out: &mut Vec<u8>, variables: &Vars) -> Result<(), AllocError>
-    requires { AreShort variables.now }
     ensures puts { PutsSo result out.old.items out.new.items (flattened (variables_parts variables.now)) }
-    ensures legal { OnOk result (AreSound variables.now → kinds.variables.Legal variables.now) }
+    ensures legal { OnOk result (variables.now.locals ≡ [] → kinds.variables.Legal variables.now) }
 {
     put_table(out, variables.globals())?;
     put_table(out, variables.named_procedures())
 }
 
-/// Adds the globals and the procedures. They are read back where no frame was begun and names are texts
-/// (`has_spelling`).
+/// Adds the globals and the procedures. They are read back where no frame was begun.
 #[tactic(auto, unfolding(tks_codec::specs::Writing::flattened))]
 pub fn put_variables(out: &mut Vec<u8>, variables: &Vars) -> Result<(), AllocError>
-    requires { AreShort variables.now }
     ensures puts { PutsSo result out.old.items out.new.items (kinds.variables.write variables.now) }
-    ensures legal { OnOk result (AreSound variables.now → kinds.variables.Legal variables.now) }
+    ensures legal { OnOk result (variables.now.locals ≡ [] → kinds.variables.Legal variables.now) }
 {
     put_parts(out, variables)
-}
-
-/// Whether variables and procedures have a spelling.
-pub fn has_spelling(variables: &Vars) -> bool
-    ensures { (result ≡ true) ↔ (AreShort variables.now × AreSound variables.now) }
-{
-    if variables.depth() != 0 {
-        return false;
-    }
-    if !table_has_spelling(variables.globals()) {
-        return false;
-    }
-    table_has_spelling(variables.named_procedures())
 }

@@ -3,5 +3,4 @@ pub mod OfOptions
 pub mod OfPacking
 pub mod OfWidgets
 pub mod OfLines
-pub mod Shortness
 pub mod OfPlaces

@@ -3,7 +3,6 @@ use Rattle.std.proofs.Common.{◌≡◌, ℕ, ◌+◌, ◌<◌, ◌≤◌, ◌^�
 use Rattle.std.specs.Int.{w32}
 use Rattle.std.specs.List.{AllByRecursion}
 use Rattle.std.proofs.lemmas.Bool.Decides.{nat_tests}
-use Rattle.tks_text.specs.Text.{IsText}
 use Rattle.tks_opt.specs.Options.{Options}
 use Rattle.tks_lines.specs.Lines.{Lines, Formed, AreInside}
 use Rattle.tks_lines.specs.Ranges.{is_behind, ranges_of, AreRanges}
@@ -16,7 +15,7 @@ use Rattle.tks_lines.proofs.Restored.{tags_told, marks_told}
 use Rattle.tks_codec.specs.Spelling.{Lawful, IsBytes, text, list, AreLegal, members}
 use Rattle.tks_codec.proofs.Joining.{bytes_behind}
 use Rattle.tks_codec.proofs.EachKind.{wide32, number_lawful, test_lawful, field_lawful, through_lawful, flag_lawful, text_lawful, list_lawful}
-use Rattle.tks_codec_windows.specs.Lines.{places, may_follow, range, ranges, tag, mark, parts, fits, lines, IsSmall, IsShortMark}
+use Rattle.tks_codec_windows.specs.Lines.{places, may_follow, range, ranges, tag, mark, parts, fits, lines, IsSmall, HasShortPlace}
 
 -- ---- tests of both
 
@@ -113,9 +112,9 @@ tag_lawful len =
     field_lawful (λ g. g.name) _ _ (λ name g k h. ap (λ (g : Tag). g.name) h.1) text_lawful (λ name.
     through_lawful (λ g. ranges_of g.on) _ _ (λ rs k. ranges_again len rs (are_ranges len None rs k.1)) (those_lawful len))
 
-pub tag_legal : (g : Tag) → length g.name < 2 ^ 32 → length g.on < 2 ^ 32 → IsText g.name → (tag (length g.on)).Legal g
-tag_legal g short few is_text =
-    ((short, is_text), ((few_of g.on few, they_are_legal (length g.on) None (ranges_of g.on) few (ranges_lawful g.on)), ap (λ on. record { name = g.name; on = on }) (sym (flags_again g.on))))
+pub tag_legal : (g : Tag) → text.Legal g.name → length g.on < 2 ^ 32 → (tag (length g.on)).Legal g
+tag_legal g name few =
+    (name, ((few_of g.on few, they_are_legal (length g.on) None (ranges_of g.on) few (ranges_lawful g.on)), ap (λ on. record { name = g.name; on = on }) (sym (flags_again g.on))))
 
 -- ---- marks
 
@@ -125,9 +124,9 @@ mark_lawful =
     field_lawful (λ m. m.place) _ _ (λ place m k h. ap (λ (m : Mark). m.place) h.1) (number_lawful w32 wide32) (λ place.
     through_lawful (λ m. m.left) _ _ (λ left k. refl) flag_lawful))
 
-pub short_marks : (len : ℕ) (marks : List Mark) → len < 2 ^ 32 → AreInside len marks → AllByRecursion (λ m. length m.name < 2 ^ 32) marks → AllByRecursion IsShortMark marks
-short_marks len [] few inside names = tt
-short_marks len (m ∷ marks) few inside names = (record { name = names.0; place = omega (arith, few, inside.0) }, short_marks len marks few inside.1 names.1)
+pub short_places : (len : ℕ) (marks : List Mark) → len < 2 ^ 32 → AreInside len marks → AllByRecursion HasShortPlace marks
+short_places len [] few inside = tt
+short_places len (m ∷ marks) few inside = (omega (arith, few, inside.0), short_places len marks few inside.1)
 
 -- ---- all of it
 

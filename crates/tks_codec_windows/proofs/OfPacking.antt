@@ -7,7 +7,7 @@ use Rattle.tks_opt.specs.declared.anchor.Anchor.{Anchor}
 use Rattle.tks_opt.specs.declared.anchor.Anchor.TheVariants as anchors
 use Rattle.tks_opt.specs.declared.anchor.Anchor.TheVariants.{Center}
 use Rattle.tks_pack.specs.Numbers.{side_number, side_numbered, fill_number, fill_numbered}
-use Rattle.tks_pack.specs.Settings.{max_padding}
+use Rattle.tks_pack.specs.Padding.{max_padding}
 use Rattle.tks_pack.specs.declared.settings.Side.{Side}
 use Rattle.tks_pack.specs.declared.settings.Side.TheVariants.{Top, Bottom, Left, Right}
 use Rattle.tks_pack.specs.declared.settings.Fill.{Fill}
@@ -15,7 +15,7 @@ use Rattle.tks_pack.specs.declared.settings.Fill.TheVariants.{Neither, X, Y, Bot
 use Rattle.tks_pack.specs.declared.settings.Settings.{Settings}
 use Rattle.tks_codec.specs.Spelling.{Lawful, byte, number, flag, such_that}
 use Rattle.tks_codec.proofs.EachKind.{byte_lawful, wide16, number_lawful, test_lawful, field_lawful, through_lawful, flag_lawful, option_lawful}
-use Rattle.tks_codec_windows.specs.Packing.{or_first, is_side, side, is_fill, fill, is_anchor, anchor, is_padding, padding, settings, packing, HasPaddings}
+use Rattle.tks_codec_windows.specs.Packing.{or_first, is_side, side, is_fill, fill, is_anchor, anchor, is_padding, padding, settings, packing}
 
 side_told : (n : ℕ) → is_side n ≡ true → side_number (or_first Top (side_numbered n)) ≡ n
 side_told zero e = refl
@@ -96,9 +96,9 @@ settings_lawful =
     field_lawful (λ p. p.ipadx) _ _ (λ ipadx p k h. ap (λ (p : Settings). p.ipadx) h.1) padding_lawful (λ ipadx.
     through_lawful (λ p. p.ipady) _ _ (λ ipady k. refl) padding_lawful)))))))
 
-pub settings_legal : (p : Settings) → HasPaddings p → settings.Legal p
-settings_legal p h =
-    (side_legal p.side, (fill_legal p.fill, (flag_legal p.expand, (anchor_legal p.anchor, (padding_legal p.padx h.padx, (padding_legal p.pady h.pady, (padding_legal p.ipadx h.ipadx, (padding_legal p.ipady h.ipady, refl))))))))
+pub settings_legal : (p : Settings) → p.padx ≤ max_padding → p.pady ≤ max_padding → p.ipadx ≤ max_padding → p.ipady ≤ max_padding → settings.Legal p
+settings_legal p x y ix iy =
+    (side_legal p.side, (fill_legal p.fill, (flag_legal p.expand, (anchor_legal p.anchor, (padding_legal p.padx x, (padding_legal p.pady y, (padding_legal p.ipadx ix, (padding_legal p.ipady iy, refl))))))))
 
 pub packing_lawful : Lawful packing
 packing_lawful = option_lawful settings settings_lawful

@@ -8,13 +8,13 @@ use Rattle.std.proofs.lemmas.Bool.{eqb-true, eq-eqb, le-leb}
 use Rattle.tks_text.specs.Text.{same_text}
 use Rattle.tks_text.specs.declared.class.Class.{Class}
 use Rattle.tks_text.specs.declared.class.Class.TheVariants as class
-use Rattle.tks_opt.specs.Numbers.{class_number, anchor_number, anchor_numbered}
+use Rattle.tks_opt.specs.Numbers.{anchor_number, anchor_numbered}
 use Rattle.tks_opt.specs.declared.anchor.Anchor.{Anchor}
 use Rattle.tks_opt.specs.declared.anchor.Anchor.TheVariants as anchors
 use Rattle.tks_tree.specs.Path.{root_path, parent_of}
 use Rattle.tks_tree.specs.Windows.{Window, Windows, Refusal, root, first_windows, max_number, of_number, has_path, parent_found, free_path, refused, numbered, created, with_window, may_skip, skipped}
 use Rattle.tks_tree.specs.Windows as tree
-use Rattle.tks_tree.specs.WellFormed.{Rise, StandsIn, Follows, AllFollow, WellFormed}
+use Rattle.tks_tree.specs.WellFormed.{Rise, StandsIn, Follows, AllFollow, is_widget_class, HaveOwnClasses, WellFormed}
 use Rattle.tks_tree.proofs.Trees.{both, first_true, second_true, from_some, some_is_none, made}
 use Rattle.tks_text.specs.declared.fault.ErrorNumber.TheVariants.{BadPath, WindowExists, NoSuchWindow}
 use Rattle.tks_pack.specs.Numbers.{side_number, side_numbered, fill_number, fill_numbered}
@@ -26,7 +26,7 @@ use Rattle.tks_pack.specs.declared.settings.Side.TheVariants.{Top, Bottom, Left,
 use Rattle.tks_pack.specs.declared.settings.Fill.{Fill}
 use Rattle.tks_pack.specs.declared.settings.Fill.TheVariants.{Neither, X, Y, Both}
 use Rattle.tks_codec_windows.specs.Packing as kinds
-use Rattle.tks_codec_windows.specs.Places.{packed_as, place_of, places_from, places_of, on_tree, tree_made, is_widget_class, with_number, with_place, with_places, is_first, ended, tree_of, or_default, settings_of, content_of, packed_in, packings_in, same_flag, same_settings, same_packing, are_packed, agreeing, placed, IsFound, AreFound, PacksEach, HaveOwnClasses}
+use Rattle.tks_codec_windows.specs.Places.{packed_as, place_of, places_from, places_of, on_tree, tree_made, with_number, with_place, with_places, is_first, ended, tree_of, or_default, settings_of, content_of, packed_in, packings_in, same_flag, same_settings, same_packing, are_packed, agreeing, placed, IsFound, AreFound, PacksEach}
 use Rattle.tks_codec_windows.specs.declared.place.Place.{Place}
 
 -- ---- settings that are the same
@@ -112,16 +112,16 @@ packing_again (Some s) = settings_again s
 
 -- ---- places that were read
 
--- the first number is that of the class of `.`
-class_told : (c : Class) → class_number c ≡ 0 → c ≡ class.Root
+-- `.` alone has no widget's class
+class_told : (c : Class) → not (is_widget_class c) ≡ true → c ≡ class.Root
 class_told class.Root h = refl
-class_told class.Frame h = absurd cc
-class_told class.Label h = absurd cc
-class_told class.Button h = absurd cc
-class_told class.Checkbutton h = absurd cc
-class_told class.Entry h = absurd cc
-class_told class.Listbox h = absurd cc
-class_told class.Text h = absurd cc
+class_told class.Frame h = absurd (true≢false (sym h))
+class_told class.Label h = absurd (true≢false (sym h))
+class_told class.Button h = absurd (true≢false (sym h))
+class_told class.Checkbutton h = absurd (true≢false (sym h))
+class_told class.Entry h = absurd (true≢false (sym h))
+class_told class.Listbox h = absurd (true≢false (sym h))
+class_told class.Text h = absurd (true≢false (sym h))
 
 abbrev window_of : Place → Window
 window_of p = record { number = p.window; path = p.path; class = p.class }
@@ -178,10 +178,10 @@ same_window v w n p c = rw (n, p, c) refl
 
 first_told : (p : Place) → is_first p ≡ true → window_of p ≡ root
 first_told p h =
-    let named = second_true (p.window == 0) (same_text p.path root_path && (class_number p.class == 0)) h in
-    same_window (window_of p) root (eqb-true p.window 0 (first_true (p.window == 0) (same_text p.path root_path && (class_number p.class == 0)) h))
-    ((bytes_decides p.path root_path).0 (first_true (same_text p.path root_path) (class_number p.class == 0) named))
-    (class_told p.class (eqb-true (class_number p.class) 0 (second_true (same_text p.path root_path) (class_number p.class == 0) named)))
+    let named = second_true (p.window == 0) (same_text p.path root_path && not (is_widget_class p.class)) h in
+    same_window (window_of p) root (eqb-true p.window 0 (first_true (p.window == 0) (same_text p.path root_path && not (is_widget_class p.class)) h))
+    ((bytes_decides p.path root_path).0 (first_true (same_text p.path root_path) (not (is_widget_class p.class)) named))
+    (class_told p.class (second_true (same_text p.path root_path) (not (is_widget_class p.class)) named))
 
 tree_told : (next : ℕ) (places : List Place) (t : Windows) → tree_of next places ≡ Some t → (t.windows ≡ map window_of places) × (t.next ≡ next)
 tree_told next [] t h = absurd (some_is_none (sym h))
@@ -288,12 +288,12 @@ widget_classes low (w ∷ later) high some r own = (by (w.number == 0) refl own.
     by false e h = h
 
 tree_again : (later : List Window) (next : ℕ) (qs ps : List Packed) → length ps ≡ length (root ∷ later) → WellFormed (record { windows = root ∷ later; next = next })
-    → HaveOwnClasses later → tree_of next (places_from qs (root ∷ later) ps) ≡ Some (record { windows = root ∷ later; next = next })
-tree_again later next qs [] count w own = absurd cc
-tree_again later next qs (p ∷ ps) count w own =
+    → tree_of next (places_from qs (root ∷ later) ps) ≡ Some (record { windows = root ∷ later; next = next })
+tree_again later next qs [] count w = absurd cc
+tree_again later next qs (p ∷ ps) count w =
     let u : Windows = record { windows = root ∷ later; next = next_behind 1 later } in
     let below = behind_below 1 later next w.numbered.1 in
-    ap (λ o. on_tree o (ended next)) (windows_again first_windows later qs ps next (omega (arith, count)) w.numbered.1 w.bounded (widget_classes 1 later next (omega arith) w.numbered.1 own) w.founded.1)
+    ap (λ o. on_tree o (ended next)) (windows_again first_windows later qs ps next (omega (arith, count)) w.numbered.1 w.bounded (widget_classes 1 later next (omega arith) w.numbered.1 w.classes.1) w.founded.1)
     ∙ ap (λ (b : Bool). if b then Some (if b then record u { next = next } else u) else None) (may_again u next below w.bounded)
 
 settings_at : (qs : List Packed) (ws : List Window) (ps : List Packed) (n : ℕ) → length ps ≡ length ws → is_some (of_number ws n) ≡ true → settings_of (places_from qs ws ps) n ≡ or_default (packed_as qs n)
@@ -335,12 +335,12 @@ agrees_again qs (w ∷ ws) [] = refl
 agrees_again qs (w ∷ ws) (p ∷ ps) = both _ _ (packing_again (packed_as qs w.number)) (agrees_again qs ws ps)
 
 -- windows are made again of their places
-pub placed_again : (t : Windows) (ps : List Packed) → WellFormed t → HaveOwnClasses t.windows → PacksEach t ps → placed t.next (places_of t ps) ≡ Some (t, ps)
-placed_again t ps w own f =
+pub placed_again : (t : Windows) (ps : List Packed) → WellFormed t → PacksEach t ps → placed t.next (places_of t ps) ≡ Some (t, ps)
+placed_again t ps w f =
     let later = w.first.0 in
     let same : t ≡ record { windows = root ∷ later; next = t.next } = ap (λ ws. record t { windows = ws }) w.first.1 in
     let tree : tree_of t.next (places_of t ps) ≡ Some t =
-    ap (λ (x : Windows). tree_of x.next (places_of x ps)) same ∙ tree_again later t.next ps ps (f.count ∙ ap (λ (x : Windows). length x.windows) same) (subst WellFormed same w) (subst HaveOwnClasses w.first.1 own).1 ∙ ap (λ x. Some x) (sym same) in
+    ap (λ (x : Windows). tree_of x.next (places_of x ps)) same ∙ tree_again later t.next ps ps (f.count ∙ ap (λ (x : Windows). length x.windows) same) (subst WellFormed same w) ∙ ap (λ x. Some x) (sym same) in
     let packings : packings_in (places_of t ps) ≡ ps = packings_again t ps f.count t.windows ps f.count f.found in
     ap (λ o. on_tree o (agreeing (places_of t ps) (packings_in (places_of t ps)))) tree
     ∙ ap (λ qs. agreeing (places_of t ps) qs t) packings

@@ -2,12 +2,11 @@
 use Rattle.std.proofs.Common.{ℕ, ◌<◌, ◌^◌, Bool, true, false, List, length, refl, ap, arith}
 use Rattle.std.specs.Int.{w32}
 use Rattle.std.proofs.lemmas.Bool.Decides.{nat_tests}
-use Rattle.tks_text.specs.Text.{IsText}
 use Rattle.tks_opt.specs.Options.{Options}
 use Rattle.tks_entry.specs.Entry.{Entry}
 use Rattle.tks_listbox.specs.Listbox.{Listbox, HasActive, has_active}
 use Rattle.tks_listbox.specs.declared.item.Item.{Item}
-use Rattle.tks_codec.specs.Spelling.{Lawful, number, flag, list, such_that}
+use Rattle.tks_codec.specs.Spelling.{Lawful, number, flag, text, list, such_that}
 use Rattle.tks_codec.proofs.EachKind.{wide32, number_lawful, test_lawful, field_lawful, through_lawful, flag_lawful, text_lawful, list_lawful}
 use Rattle.tks_codec_windows.specs.Entry.{entry}
 use Rattle.tks_codec_windows.specs.Listbox.{item, listbox}
@@ -17,8 +16,8 @@ entry_lawful options =
     field_lawful (λ e. e.text) _ _ (λ t e k h. ap (λ (e : Entry). e.text) h.1) text_lawful (λ t.
     through_lawful (λ e. e.cursor) _ _ (λ cursor k. refl) (number_lawful w32 wide32))
 
-pub entry_legal : (e : Entry) → length e.text < 2 ^ 32 → IsText e.text → e.cursor < 2 ^ 32 → (entry e.options).Legal e
-entry_legal e short is_text small = ((short, is_text), (small, refl))
+pub entry_legal : (e : Entry) → text.Legal e.text → e.cursor < 2 ^ 32 → (entry e.options).Legal e
+entry_legal e chars small = (chars, (small, refl))
 
 pub item_lawful : Lawful item
 item_lawful =
@@ -29,8 +28,8 @@ flag_legal : (b : Bool) → flag.Legal b
 flag_legal true = ((omega arith, refl), refl)
 flag_legal false = ((omega arith, refl), refl)
 
-pub item_legal : (i : Item) → length i.text < 2 ^ 32 → IsText i.text → item.Legal i
-item_legal i short is_text = ((short, is_text), (flag_legal i.is_selected, refl))
+pub item_legal : (i : Item) → text.Legal i.text → item.Legal i
+item_legal i chars = (chars, (flag_legal i.is_selected, refl))
 
 active_lawful : (items : List Item) → Lawful (such_that (has_active items) (number w32))
 active_lawful items = test_lawful (has_active items) (number w32) (λ v h. omega arith) (number_lawful w32 wide32)

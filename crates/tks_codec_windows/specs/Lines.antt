@@ -1,6 +1,5 @@
 -- What a text widget holds besides its options, as bytes (this project's own format).
 use Rattle.std.specs.Prelude.{ℕ, ◌<◌, ◌^◌, ◌&&◌, Bool, nat_lt, nat_le, List, [], ◌∷◌, length, Option}
-use Rattle.std.specs.List.{AllByRecursion}
 use Rattle.std.specs.Int.{w32}
 use Rattle.tks_opt.specs.Options.{Options}
 use Rattle.tks_lines.specs.Lines.{Lines}
@@ -84,25 +83,13 @@ lines options = such_that fits (parts options)
 unfoldable pub lines_at : Options → List ℕ → Read Lines
 lines_at options bytes = (lines options).read bytes
 
--- ---- lengths that can be told
+-- ---- places that can be told
 
-abbrev pub HasShortTag : Tag → Type 0
-HasShortTag g = length g.name < 2 ^ 32
-
--- a range whose places can be told
+-- of a range
 pub record IsSmall (r : Range) : Type 0 where
   pub first : r.first < 2 ^ 32
   pub last : r.last < 2 ^ 32
 
--- a mark whose name's length and place can be told
-pub record IsShortMark (m : Mark) : Type 0 where
-  pub name : length m.name < 2 ^ 32
-  pub place : m.place < 2 ^ 32
-
--- a text widget whose lengths can be told
-pub record IsShort (t : Lines) : Type 0 where
-  pub text : length t.text < 2 ^ 32
-  pub tags : length t.tags < 2 ^ 32
-  pub tag_names : AllByRecursion HasShortTag t.tags
-  pub marks : length t.marks < 2 ^ 32
-  pub mark_names : AllByRecursion (λ m. length m.name < 2 ^ 32) t.marks
+-- of a mark
+abbrev pub HasShortPlace : Mark → Type 0
+HasShortPlace m = m.place < 2 ^ 32

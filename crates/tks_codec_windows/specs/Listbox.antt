@@ -1,6 +1,4 @@
 -- What a listbox holds besides its options, as bytes (this project's own format).
-use Rattle.std.specs.Prelude.{◌<◌, ◌^◌, length}
-use Rattle.std.specs.List.{AllByRecursion}
 use Rattle.std.specs.Int.{w32}
 use Rattle.tks_opt.specs.Options.{Options}
 use Rattle.tks_listbox.specs.Listbox.{Listbox, has_active}
@@ -18,12 +16,3 @@ abbrev pub listbox : Options → Spelling Listbox
 listbox options =
     field (λ l. l.items) (list item) (λ items.
     through (λ l. l.active) (λ active. record { options = options; items = items; active = active }) (such_that (has_active items) (number w32)))
-
--- an item whose text's length can be told
-abbrev pub HasShortText : Item → Type 0
-HasShortText i = length i.text < 2 ^ 32
-
--- a listbox whose lengths can be told
-pub record IsShort (l : Listbox) : Type 0 where
-  pub count : length l.items < 2 ^ 32
-  pub lengths : AllByRecursion HasShortText l.items

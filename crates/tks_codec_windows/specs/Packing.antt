@@ -1,11 +1,11 @@
 -- How a window is packed, as bytes (this project's own format).
-use Rattle.std.specs.Prelude.{ℕ, ◌≤◌, Bool, nat_le, is_some, List, [], ◌∷◌, Option, Some, None}
+use Rattle.std.specs.Prelude.{ℕ, Bool, nat_le, is_some, List, [], ◌∷◌, Option, Some, None}
 use Rattle.std.specs.Int.{w16}
 use Rattle.tks_opt.specs.Numbers.{anchor_number, anchor_numbered}
 use Rattle.tks_opt.specs.declared.anchor.Anchor.{Anchor}
 use Rattle.tks_opt.specs.declared.anchor.Anchor.TheVariants.{Center}
 use Rattle.tks_pack.specs.Numbers.{side_number, side_numbered, fill_number, fill_numbered}
-use Rattle.tks_pack.specs.Settings.{max_padding}
+use Rattle.tks_pack.specs.Padding.{max_padding}
 use Rattle.tks_pack.specs.declared.settings.Side.{Side}
 use Rattle.tks_pack.specs.declared.settings.Side.TheVariants.{Top}
 use Rattle.tks_pack.specs.declared.settings.Fill.{Fill}
@@ -78,15 +78,3 @@ packing = option settings
 -- the same at the front of bytes, and what stands behind it
 unfoldable pub packing_at : List ℕ → Read (Option Settings)
 packing_at bytes = packing.read bytes
-
--- settings whose paddings are legal
-pub record HasPaddings (p : Settings) : Type 0 where
-  pub padx : p.padx ≤ max_padding
-  pub pady : p.pady ≤ max_padding
-  pub ipadx : p.ipadx ≤ max_padding
-  pub ipady : p.ipady ≤ max_padding
-
--- a window that isn't packed, or whose paddings are legal
-abbrev pub IsPacking : Option Settings → Type 0
-IsPacking None = Unit {0}
-IsPacking (Some p) = HasPaddings p

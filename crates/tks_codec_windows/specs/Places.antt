@@ -1,11 +1,11 @@
 -- The places of windows, as bytes tell them (this project's own format): the number of each, its path and class, what is packed
 -- in it, and how it is packed itself. The tree and what is packed in each window are made of them again.
-use Rattle.std.specs.Prelude.{◌≡◌, ℕ, Bool, true, false, ◌&&◌, ◌||◌, ◌==◌, not, is_some, if◌then◌else◌, List, [], ◌∷◌, map, length, Option, Some, None, Result, Ok, Err}
+use Rattle.std.specs.Prelude.{◌≡◌, ℕ, Bool, true, false, ◌&&◌, ◌==◌, not, is_some, if◌then◌else◌, List, [], ◌∷◌, map, length, Option, Some, None, Result, Ok, Err}
 use Rattle.std.specs.List.{AllByRecursion, list_all}
 use Rattle.tks_text.specs.Text.{same_text}
-use Rattle.tks_text.specs.declared.class.Class.{Class}
-use Rattle.tks_opt.specs.Numbers.{class_number, anchor_number}
+use Rattle.tks_opt.specs.Numbers.{anchor_number}
 use Rattle.tks_tree.specs.Path.{root_path}
+use Rattle.tks_tree.specs.WellFormed.{is_widget_class}
 use Rattle.tks_tree.specs.Windows.{Window, Windows, Refusal, first_windows, of_number, created, may_skip, skipped}
 use Rattle.tks_pack.specs.Numbers.{side_number, fill_number}
 use Rattle.tks_pack.specs.Packing.{Packed}
@@ -60,10 +60,6 @@ abbrev pub tree_made : Result (ℕ × Windows) Refusal → Option Windows
 tree_made (Ok x) = Some x.1
 tree_made (Err why) = None
 
--- whether it is a class of windows other than `.`
-abbrev pub is_widget_class : Class → Bool
-is_widget_class c = not (class_number c == 0)
-
 -- a window more, with its own number; none where it may not have it, or where no window may be made there
 abbrev pub with_number : Windows → Place → Option Windows
 with_number t p = if may_skip t p.window then tree_made (created (skipped t p.window) p.path p.class) else None
@@ -78,7 +74,7 @@ with_places t (p ∷ places) = on_tree (with_place t p) (λ u. with_places u pla
 
 -- the place of `.`
 abbrev pub is_first : Place → Bool
-is_first p = (p.window == 0) && (same_text p.path root_path && (class_number p.class == 0))
+is_first p = (p.window == 0) && (same_text p.path root_path && not (is_widget_class p.class))
 
 -- the next window gets this number, if it may
 abbrev pub ended : ℕ → Windows → Option Windows
@@ -116,11 +112,14 @@ abbrev pub same_flag : Bool → Bool → Bool
 same_flag true b = b
 same_flag false b = not b
 
+abbrev pub same_paddings : Settings → Settings → Bool
+same_paddings a b = (a.padx == b.padx) && ((a.pady == b.pady) && ((a.ipadx == b.ipadx) && (a.ipady == b.ipady)))
+
 abbrev pub same_settings : Settings → Settings → Bool
 same_settings a b =
     (side_number a.side == side_number b.side) && ((fill_number a.fill == fill_number b.fill)
     && (same_flag a.expand b.expand && ((anchor_number a.anchor == anchor_number b.anchor)
-    && ((a.padx == b.padx) && ((a.pady == b.pady) && ((a.ipadx == b.ipadx) && (a.ipady == b.ipady)))))))
+    && same_paddings a b)))
 
 abbrev pub same_packing : Option Settings → Option Settings → Bool
 same_packing None None = true
@@ -141,13 +140,6 @@ abbrev pub placed : ℕ → List Place → Option (Windows × List Packed)
 placed next places = on_tree (tree_of next places) (agreeing places (packings_in places))
 
 -- ---- windows that have places
-
--- only `.` is of the root's class
-abbrev pub has_own_class : Window → Bool
-has_own_class w = (w.number == 0) || is_widget_class w.class
-
-abbrev pub HaveOwnClasses : List Window → Type 0
-HaveOwnClasses windows = AllByRecursion (λ w. has_own_class w ≡ true) windows
 
 -- a packed window is there, and how it is packed is found
 pub record IsFound (t : Windows) (packings : List Packed) (c : Content) : Type 0 where

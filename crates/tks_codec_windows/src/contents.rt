@@ -1,5 +1,5 @@
 //! The windows that are packed in a container.
-ghost use Rattle.std.specs.Prelude.{◌<◌, ◌^◌, length, map, None, OnOk};
+ghost use Rattle.std.specs.Prelude.{map, None, OnOk};
 ghost use Rattle.std.specs.Int.{w64};
 ghost use Rattle.std.specs.List.{AllByRecursion};
 ghost use Rattle.tks_codec.specs.Spelling.{number, members};
@@ -23,7 +23,6 @@ fn put_each(out: &mut Vec<u8>, contents: &[Content]) -> Result<(), AllocError>
 
 /// Adds the numbers of the windows that are packed in a container, in order.
 pub fn put_contents(out: &mut Vec<u8>, packing: &Packing) -> Result<(), AllocError>
-    requires { length packing.now.contents < 2 ^ 32 }
     ensures puts { PutsSo result out.old.items out.new.items (kinds.windows.write (map (λ c. c.window) packing.now.contents)) }
     ensures legal { OnOk result (kinds.windows.Legal (map (λ c. c.window) packing.now.contents)) }
 {

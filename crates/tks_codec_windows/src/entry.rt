@@ -1,5 +1,5 @@
 //! What an entry holds.
-ghost use Rattle.std.specs.Prelude.{◌≡◌, ◌<◌, ◌^◌, length, OnOk};
+ghost use Rattle.std.specs.Prelude.{◌≡◌, OnOk};
 ghost use Rattle.tks_text.specs.declared.class.Class.TheVariants as class;
 ghost use Rattle.tks_codec.specs.Reading.{Gives};
 ghost use Rattle.tks_codec.specs.Writing.{PutsSo};
@@ -31,7 +31,6 @@ pub fn entry_of(
 
 /// Adds an entry's text and its cursor.
 pub fn put_entry(out: &mut Vec<u8>, entry: &EntryWidget) -> Result<(), AllocError>
-    requires { length entry.now.text < 2 ^ 32 }
     ensures puts { PutsSo result out.old.items out.new.items ((kinds.entry entry.now.options).write entry.now) }
     ensures legal { OnOk result ((kinds.entry entry.now.options).Legal entry.now) }
 {

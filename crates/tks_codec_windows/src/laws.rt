@@ -9,7 +9,7 @@ ghost use Rattle.tks_codec_windows.specs.Packing.{packing};
 ghost use Rattle.tks_codec_windows.specs.Entry.{entry};
 ghost use Rattle.tks_codec_windows.specs.Listbox.{listbox};
 ghost use Rattle.tks_codec_windows.specs.Lines.{lines};
-ghost use Rattle.tks_codec_windows.specs.Places.{places_of, placed, HaveOwnClasses, PacksEach};
+ghost use Rattle.tks_codec_windows.specs.Places.{places_of, placed, PacksEach};
 ghost use Rattle.tks_codec_windows.specs.declared.place.Place.{Place};
 ghost use Rattle.tks_pack.specs.Packing.{Packed};
 ghost use Rattle.tks_tree.specs.Windows.{Windows};
@@ -28,9 +28,9 @@ pub fn spellings_are_lawful()
     ensures lines { (o : Options) → Lawful (lines o) }
 {}
 
-/// Windows, of which only `.` is of its class, and what is packed in each, are made again of their places, and of no other
+/// Windows, and what is packed in each, are made again of their places, and of no other
 /// places.
 pub fn places_are_exact()
-    ensures again { (t : Windows) (packings : List Packed) → WellFormed t → HaveOwnClasses t.windows → PacksEach t packings → placed t.next (places_of t packings) ≡ Some (t, packings) }
+    ensures again { (t : Windows) (packings : List Packed) → WellFormed t → PacksEach t packings → placed t.next (places_of t packings) ≡ Some (t, packings) }
     ensures only { (next : ℕ) (places : List Place) (t : Windows) (packings : List Packed) → placed next places ≡ Some (t, packings) → (places_of t packings ≡ places) × (t.next ≡ next) }
 {}

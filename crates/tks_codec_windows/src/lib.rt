@@ -14,7 +14,6 @@ mod place;
 mod placing;
 mod range_list;
 mod settings;
-mod short;
 mod tag;
 mod texts;
 
@@ -27,6 +26,4 @@ pub use options::{options_of, put_options};
 pub use packing::{packing_of, put_packing};
 pub use place::{Place, settings_in};
 pub use placing::placed;
-pub use settings::has_paddings;
-pub use short::{are_short, has_short_items, has_short_parts, has_short_values};
-pub use texts::{put_tags, put_texts, put_windows, tags_of, texts_of, windows_of};
+pub use texts::{put_tags, put_texts, tags_of, texts_of, windows_of};

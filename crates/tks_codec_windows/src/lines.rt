@@ -4,7 +4,7 @@ ghost use Rattle.tks_text.specs.declared.class.Class.TheVariants as class;
 ghost use Rattle.tks_codec.specs.Reading.{Gives};
 ghost use Rattle.tks_codec.specs.Writing.{PutsSo};
 ghost use Rattle.tks_codec_windows.specs.Lines as kinds;
-ghost use Rattle.tks_codec_windows.specs.Lines.{lines_at, IsShort};
+ghost use Rattle.tks_codec_windows.specs.Lines.{lines_at};
 
 use crate::mark::{marks_of, put_marks};
 use crate::tag::{put_tags, tags_of};
@@ -36,7 +36,6 @@ pub fn lines_of(
 
 /// Adds a text widget's characters, its tags and its marks.
 pub fn put_lines(alloc: Global, out: &mut Vec<u8>, widget: &TextWidget) -> Result<(), AllocError>
-    requires { IsShort widget.now }
     ensures puts { PutsSo result out.old.items out.new.items ((kinds.lines widget.now.options).write widget.now) }
     ensures legal { OnOk result ((kinds.lines widget.now.options).Legal widget.now) }
 {

@@ -1,11 +1,12 @@
 //! Items of listboxes.
-ghost use Rattle.std.specs.Prelude.{◌<◌, ◌^◌, length, None, OnOk};
+ghost use Rattle.std.specs.Prelude.{None, OnOk};
 ghost use Rattle.std.specs.List.{AllByRecursion};
+ghost use Rattle.tks_text.specs.Short.{IsShort};
 ghost use Rattle.tks_codec.specs.Spelling.{list_at, list, members_at, members};
 ghost use Rattle.tks_codec.specs.Reading.{Gives};
 ghost use Rattle.tks_codec.specs.Writing.{PutsSo};
 ghost use Rattle.tks_codec_windows.specs.Listbox as kinds;
-ghost use Rattle.tks_codec_windows.specs.Listbox.{item, HasShortText};
+ghost use Rattle.tks_codec_windows.specs.Listbox.{item};
 
 use std::alloc::{AllocError, Global};
 use tks_codec::Unread;
@@ -49,7 +50,6 @@ pub fn items_of(alloc: Global, bytes: &[u8]) -> Result<(Seq<Item>, &[u8]), Unrea
 
 // Adds an item.
 fn put_item(out: &mut Vec<u8>, item: &Item) -> Result<(), AllocError>
-    requires { length item.now.text < 2 ^ 32 }
     ensures puts { PutsSo result out.old.items out.new.items (kinds.item.write item.now) }
     ensures legal { OnOk result (kinds.item.Legal item.now) }
 {
@@ -59,7 +59,6 @@ fn put_item(out: &mut Vec<u8>, item: &Item) -> Result<(), AllocError>
 
 // Adds each of the items.
 fn put_each(out: &mut Vec<u8>, items: &[Item]) -> Result<(), AllocError>
-    requires { AllByRecursion HasShortText items.now }
     ensures puts { PutsSo result out.old.items out.new.items (members (λ before. item) None items.now) }
     ensures legal { OnOk result (AllByRecursion item.Legal items.now) }
 {
@@ -71,8 +70,7 @@ fn put_each(out: &mut Vec<u8>, items: &[Item]) -> Result<(), AllocError>
 
 /// Adds items.
 pub fn put_items(out: &mut Vec<u8>, items: &[Item]) -> Result<(), AllocError>
-    requires count { length items.now < 2 ^ 32 }
-    requires lengths { AllByRecursion HasShortText items.now }
+    requires { IsShort items.now }
     ensures puts { PutsSo result out.old.items out.new.items ((list item).write items.now) }
     ensures legal { OnOk result ((list item).Legal items.now) }
 {

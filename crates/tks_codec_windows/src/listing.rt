@@ -4,7 +4,6 @@ ghost use Rattle.tks_text.specs.declared.class.Class.TheVariants as class;
 ghost use Rattle.tks_codec.specs.Reading.{Gives};
 ghost use Rattle.tks_codec.specs.Writing.{PutsSo};
 ghost use Rattle.tks_codec_windows.specs.Listbox as kinds;
-ghost use Rattle.tks_codec_windows.specs.Listbox.{IsShort};
 
 use crate::list_item::{items_of, put_items};
 use std::alloc::{AllocError, Global};
@@ -33,7 +32,6 @@ pub fn listbox_of(
 
 /// Adds a listbox's items and the active one's place.
 pub fn put_listbox(out: &mut Vec<u8>, listbox: &ListWidget) -> Result<(), AllocError>
-    requires { IsShort listbox.now }
     ensures puts { PutsSo result out.old.items out.new.items ((kinds.listbox listbox.now.options).write listbox.now) }
     ensures legal { OnOk result ((kinds.listbox listbox.now.options).Legal listbox.now) }
 {

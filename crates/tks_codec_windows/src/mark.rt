@@ -1,11 +1,12 @@
 //! Marks of text widgets.
-ghost use Rattle.std.specs.Prelude.{◌<◌, ◌^◌, length, None, OnOk};
+ghost use Rattle.std.specs.Prelude.{None, OnOk};
 ghost use Rattle.std.specs.List.{AllByRecursion};
+ghost use Rattle.tks_text.specs.Short.{IsShort};
 ghost use Rattle.tks_codec.specs.Spelling.{list_at, list, members_at, members};
 ghost use Rattle.tks_codec.specs.Reading.{Gives};
 ghost use Rattle.tks_codec.specs.Writing.{PutsSo, flattened};
 ghost use Rattle.tks_codec_windows.specs.Lines as kinds;
-ghost use Rattle.tks_codec_windows.specs.Lines.{mark, mark_at, mark_parts, IsShortMark};
+ghost use Rattle.tks_codec_windows.specs.Lines.{mark, mark_at, mark_parts, HasShortPlace};
 
 use std::alloc::{AllocError, Global};
 use tks_codec::Unread;
@@ -58,7 +59,7 @@ pub fn marks_of(alloc: Global, bytes: &[u8]) -> Result<(Seq<Mark>, &[u8]), Unrea
 // Adds the parts of a mark.
 #[tactic(auto, using(tks_codec::proofs::Puts::flattened_puts))]
 fn put_parts(out: &mut Vec<u8>, mark: &Mark) -> Result<(), AllocError>
-    requires { IsShortMark mark.now }
+    requires { HasShortPlace mark.now }
     ensures puts { PutsSo result out.old.items out.new.items (flattened (mark_parts mark.now)) }
     ensures legal { OnOk result (kinds.mark.Legal mark.now) }
 {
@@ -70,7 +71,7 @@ fn put_parts(out: &mut Vec<u8>, mark: &Mark) -> Result<(), AllocError>
 // Adds a mark.
 #[tactic(auto, unfolding(tks_codec::specs::Writing::flattened))]
 fn put_mark(out: &mut Vec<u8>, mark: &Mark) -> Result<(), AllocError>
-    requires { IsShortMark mark.now }
+    requires { HasShortPlace mark.now }
     ensures puts { PutsSo result out.old.items out.new.items (kinds.mark.write mark.now) }
     ensures legal { OnOk result (kinds.mark.Legal mark.now) }
 {
@@ -79,7 +80,7 @@ fn put_mark(out: &mut Vec<u8>, mark: &Mark) -> Result<(), AllocError>
 
 // Adds each of the marks.
 fn put_each_mark(out: &mut Vec<u8>, marks: &[Mark]) -> Result<(), AllocError>
-    requires { AllByRecursion IsShortMark marks.now }
+    requires { AllByRecursion HasShortPlace marks.now }
     ensures puts { PutsSo result out.old.items out.new.items (members (λ before. mark) None marks.now) }
     ensures legal { OnOk result (AllByRecursion mark.Legal marks.now) }
 {
@@ -91,8 +92,8 @@ fn put_each_mark(out: &mut Vec<u8>, marks: &[Mark]) -> Result<(), AllocError>
 
 /// Adds marks.
 pub fn put_marks(out: &mut Vec<u8>, marks: &[Mark]) -> Result<(), AllocError>
-    requires count { length marks.now < 2 ^ 32 }
-    requires marks { AllByRecursion IsShortMark marks.now }
+    requires count { IsShort marks.now }
+    requires places { AllByRecursion HasShortPlace marks.now }
     ensures puts { PutsSo result out.old.items out.new.items ((list mark).write marks.now) }
     ensures legal { OnOk result ((list mark).Legal marks.now) }
 {

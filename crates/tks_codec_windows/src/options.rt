@@ -5,7 +5,6 @@ ghost use Rattle.tks_opt.specs.Options.{values_in_order};
 ghost use Rattle.tks_codec.specs.Spelling.{text, members};
 ghost use Rattle.tks_codec.specs.Reading.{Gives};
 ghost use Rattle.tks_codec.specs.Writing.{PutsSo};
-ghost use Rattle.tks_codec_windows.specs.Texts.{IsShort};
 ghost use Rattle.tks_codec_windows.specs.Options as kinds;
 ghost use Rattle.tks_codec_windows.specs.Options.{options_at};
 
@@ -30,7 +29,6 @@ pub fn options_of(alloc: Global, class: Class, bytes: &[u8]) -> Result<(Options,
 
 // Adds each of the values.
 fn put_each(out: &mut Vec<u8>, options: &Options) -> Result<(), AllocError>
-    requires { AllByRecursion IsShort (values_in_order options.now) }
     ensures puts { PutsSo result out.old.items out.new.items (members (λ before. text) None (values_in_order options.now)) }
     ensures legal { OnOk result (AllByRecursion text.Legal (values_in_order options.now)) }
 {
@@ -45,7 +43,6 @@ fn put_each(out: &mut Vec<u8>, options: &Options) -> Result<(), AllocError>
 
 /// Adds options.
 pub fn put_options(out: &mut Vec<u8>, options: &Options) -> Result<(), AllocError>
-    requires { AllByRecursion IsShort (values_in_order options.now) }
     ensures puts { PutsSo result out.old.items out.new.items ((kinds.options options.now.class).write options.now) }
     ensures legal { OnOk result ((kinds.options options.now.class).Legal options.now) }
 {

@@ -3,7 +3,7 @@ ghost use Rattle.std.specs.Prelude.{OnOk};
 ghost use Rattle.tks_codec.specs.Reading.{Gives};
 ghost use Rattle.tks_codec.specs.Writing.{PutsSo};
 ghost use Rattle.tks_codec_windows.specs.Packing as kinds;
-ghost use Rattle.tks_codec_windows.specs.Packing.{packing_at, IsPacking};
+ghost use Rattle.tks_codec_windows.specs.Packing.{packing_at};
 
 use crate::settings::{put_settings, settings_of};
 use std::alloc::AllocError;
@@ -21,13 +21,14 @@ pub fn packing_of(bytes: &[u8]) -> Result<(Option<Settings>, &[u8]), Unread>
     if !is_packed {
         return Ok((None, rest));
     }
-    let (settings, rest) = settings_of(rest)?;
-    Ok((Some(settings), rest))
+    match settings_of(rest) {
+        Ok((settings, rest)) => Ok((Some(settings), rest)),
+        Err(unread) => Err(unread),
+    }
 }
 
 /// Adds how a window is packed, if it is.
 pub fn put_packing(out: &mut Vec<u8>, packing: Option<Settings>) -> Result<(), AllocError>
-    requires { IsPacking packing }
     ensures puts { PutsSo result out.old.items out.new.items (kinds.packing.write packing) }
     ensures legal { OnOk result (kinds.packing.Legal packing) }
 {

@@ -1,6 +1,6 @@
 //! Where windows stand, and how they are packed.
 ghost use Rattle.std.specs.Prelude.{◌≡◌};
-ghost use Rattle.tks_codec_windows.specs.Places.{settings_in, same_settings, same_packing};
+ghost use Rattle.tks_codec_windows.specs.Places.{settings_in, same_paddings, same_settings, same_packing};
 
 use tks_pack::{Content, Settings};
 use tks_text::{Class, Seq, Txt};
@@ -32,6 +32,16 @@ pub fn settings_in(contents: &[Content], window: WindowId) -> Option<Settings>
     None
 }
 
+// Whether paddings are alike.
+fn same_paddings(one: &Settings, other: &Settings) -> bool
+    ensures { result ≡ same_paddings one.now other.now }
+{
+    one.padx.cells() == other.padx.cells()
+        && one.pady.cells() == other.pady.cells()
+        && one.ipadx.cells() == other.ipadx.cells()
+        && one.ipady.cells() == other.ipady.cells()
+}
+
 // Whether windows are packed alike.
 fn same_settings(one: &Settings, other: &Settings) -> bool
     ensures { result ≡ same_settings one.now other.now }
@@ -40,10 +50,7 @@ fn same_settings(one: &Settings, other: &Settings) -> bool
         && one.fill.number() == other.fill.number()
         && one.expand == other.expand
         && one.anchor.number() == other.anchor.number()
-        && one.padx == other.padx
-        && one.pady == other.pady
-        && one.ipadx == other.ipadx
-        && one.ipady == other.ipady
+        && same_paddings(one, other)
 }
 
 /// Whether windows are packed alike, or neither is.

@@ -1,17 +1,18 @@
 //! The tree of windows, and what is packed in each, made again of their places.
-ghost use Rattle.std.specs.Prelude.{◌≡◌, map, if◌then◌else◌, Some, None, option_map, IfOk};
+ghost use Rattle.std.specs.Prelude.{◌≡◌, true, map, if◌then◌else◌, Some, None, option_map, IfOk};
+ghost use Rattle.tks_tree.specs.WellFormed.{is_widget_class};
 ghost use Rattle.tks_codec_windows.specs.Places as kinds;
 ghost use Rattle.tks_codec_windows.specs.Places.{with_number, with_place, with_places, is_first, tree_of, settings_of, content_of, packed_in, packings_in, packed_as, are_packed};
 
 use crate::place::{Place, same_packing, settings_in};
 use std::alloc::{AllocError, Global};
-use tks_opt::class_number;
 use tks_pack::{Content, Packing, Settings};
-use tks_text::Class;
-use tks_tree::{CreateFault, Tree, WindowId};
+use tks_text::Seq;
+use tks_tree::{CreateFault, Tree, WindowId, is_widget_class};
 
 // Adds a window with its own number, and says whether it may be.
 fn add_numbered(tree: &mut Tree, place: &Place) -> Result<bool, AllocError>
+    requires { is_widget_class place.now.class ≡ true }
     ensures { IfOk result (λ made. with_number tree.old place.now ≡ (if made then Some tree.new else None)) }
 {
     if !tree.skip_to(place.window.number()) {
@@ -28,7 +29,7 @@ fn add_numbered(tree: &mut Tree, place: &Place) -> Result<bool, AllocError>
 fn add_place(tree: &mut Tree, place: &Place) -> Result<bool, AllocError>
     ensures { IfOk result (λ made. with_place tree.old place.now ≡ (if made then Some tree.new else None)) }
 {
-    if class_number(place.class) == class_number(Class::Root) {
+    if !is_widget_class(place.class) {
         return Ok(false);
     }
     add_numbered(tree, place)
@@ -52,7 +53,7 @@ fn is_first(place: &Place) -> bool
 {
     place.window.is_root()
         && place.path.as_bytes() == b".".as_slice()
-        && class_number(place.class) == class_number(Class::Root)
+        && !is_widget_class(place.class)
 }
 
 // The tree, of which `.` comes first.
@@ -89,7 +90,7 @@ fn settings_of(places: &[Place], window: WindowId) -> Settings
 fn packed_in(alloc: Global, places: &[Place], place: &Place) -> Result<Packing, AllocError>
     ensures { IfOk result (λ p. p ≡ packed_in places.now place.now) }
 {
-    let mut contents = Vec::with_capacity(alloc, place.contents.len())?;
+    let mut contents = Seq::new(alloc);
     for number in place.contents.as_slice() {
         let window = WindowId::of(*number);
         contents.push(Content {

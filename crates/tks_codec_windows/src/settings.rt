@@ -1,19 +1,16 @@
 //! How a window is packed.
-ghost use Rattle.std.specs.Prelude.{◌≡◌, ◌≤◌, ◌↔◌, true, OnOk};
+ghost use Rattle.std.specs.Prelude.{OnOk};
 ghost use Rattle.tks_codec.specs.Reading.{Gives};
 ghost use Rattle.tks_codec.specs.Writing.{PutsSo, flattened};
 ghost use Rattle.tks_codec_windows.specs.Packing as kinds;
-ghost use Rattle.tks_codec_windows.specs.Packing.{settings_at, settings_parts, HasPaddings};
+ghost use Rattle.tks_codec_windows.specs.Packing.{settings_at, settings_parts};
 
 use std::alloc::AllocError;
 use tks_codec::Unread;
 use tks_codec::reading::{flag_of, u8_of, u16_of};
 use tks_codec::writing::{put_flag, put_u8, put_u16};
 use tks_opt::Anchor;
-use tks_pack::{Fill, Settings, Side};
-
-// The most cells of a padding.
-const MAX_PADDING: u16 = 1_000;
+use tks_pack::{Fill, Padding, Settings, Side};
 
 // A side.
 fn side_of(bytes: &[u8]) -> Result<(Side, &[u8]), Unread>
@@ -48,12 +45,12 @@ fn anchor_of(bytes: &[u8]) -> Result<(Anchor, &[u8]), Unread>
     }
 }
 
-// A padding.
+// The cells of a padding.
 fn padding_of(bytes: &[u8]) -> Result<(u16, &[u8]), Unread>
     ensures { Gives (λ x. (x.0, x.1.now)) result (kinds.padding.read bytes.now) }
 {
     let (cells, rest) = u16_of(bytes)?;
-    if MAX_PADDING < cells {
+    if Padding::MAX < cells {
         return Err(Unread::Left(rest.len() + 1));
     }
     Ok((cells, rest))
@@ -77,43 +74,33 @@ pub fn settings_of(bytes: &[u8]) -> Result<(Settings, &[u8]), Unread>
         fill,
         expand,
         anchor,
-        padx,
-        pady,
-        ipadx,
-        ipady,
+        padx: Padding::of(padx),
+        pady: Padding::of(pady),
+        ipadx: Padding::of(ipadx),
+        ipady: Padding::of(ipady),
     };
     Ok((settings, rest))
 }
 
-/// Whether the paddings of settings are legal.
-pub fn has_paddings(settings: &Settings) -> bool
-    ensures { (result ≡ true) ↔ HasPaddings settings.now }
-{
-    settings.padx <= MAX_PADDING
-        && settings.pady <= MAX_PADDING
-        && settings.ipadx <= MAX_PADDING
-        && settings.ipady <= MAX_PADDING
-}
-
 // Adds the parts of settings.
-#[tactic(auto, using(tks_codec::proofs::Puts::flattened_puts))]
+#[tactic(auto, using(tks_codec::proofs::Puts::flattened_puts, crate::proofs::OfPacking::settings_legal))]
 fn put_parts(out: &mut Vec<u8>, settings: &Settings) -> Result<(), AllocError>
-    ensures { PutsSo result out.old.items out.new.items (flattened (settings_parts settings.now)) }
+    ensures puts { PutsSo result out.old.items out.new.items (flattened (settings_parts settings.now)) }
+    ensures legal { OnOk result (kinds.settings.Legal settings.now) }
 {
     put_u8(out, settings.side.number())?;
     put_u8(out, settings.fill.number())?;
     put_flag(out, settings.expand)?;
     put_u8(out, settings.anchor.number())?;
-    put_u16(out, settings.padx)?;
-    put_u16(out, settings.pady)?;
-    put_u16(out, settings.ipadx)?;
-    put_u16(out, settings.ipady)
+    put_u16(out, settings.padx.cells())?;
+    put_u16(out, settings.pady.cells())?;
+    put_u16(out, settings.ipadx.cells())?;
+    put_u16(out, settings.ipady.cells())
 }
 
 /// Adds settings.
-#[tactic(auto, unfolding(tks_codec::specs::Writing::flattened), using(crate::proofs::OfPacking::settings_legal))]
+#[tactic(auto, unfolding(tks_codec::specs::Writing::flattened))]
 pub fn put_settings(out: &mut Vec<u8>, settings: &Settings) -> Result<(), AllocError>
-    requires { HasPaddings settings.now }
     ensures puts { PutsSo result out.old.items out.new.items (kinds.settings.write settings.now) }
     ensures legal { OnOk result (kinds.settings.Legal settings.now) }
 {

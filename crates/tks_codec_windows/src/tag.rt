@@ -6,7 +6,7 @@ ghost use Rattle.tks_codec.specs.Spelling.{list_at, list, members_at, members};
 ghost use Rattle.tks_codec.specs.Reading.{Gives};
 ghost use Rattle.tks_codec.specs.Writing.{PutsSo};
 ghost use Rattle.tks_codec_windows.specs.Lines as kinds;
-ghost use Rattle.tks_codec_windows.specs.Lines.{tag, tag_at, HasShortTag};
+ghost use Rattle.tks_codec_windows.specs.Lines.{tag, tag_at};
 
 use crate::range_list::{put_flags, ranges_of};
 use std::alloc::{AllocError, Global};
@@ -62,8 +62,7 @@ pub fn tags_of(alloc: Global, len: usize, bytes: &[u8]) -> Result<(Seq<Tag>, &[u
 
 // Adds a tag.
 fn put_tag(alloc: Global, out: &mut Vec<u8>, tag: &Tag) -> Result<(), AllocError>
-    requires name { length tag.now.name < 2 ^ 32 }
-    requires flags { length tag.now.on < 2 ^ 32 }
+    requires { length tag.now.on < 2 ^ 32 }
     ensures puts { PutsSo result out.old.items out.new.items ((kinds.tag (length tag.now.on)).write tag.now) }
     ensures legal { OnOk result ((kinds.tag (length tag.now.on)).Legal tag.now) }
 {
@@ -74,7 +73,6 @@ fn put_tag(alloc: Global, out: &mut Vec<u8>, tag: &Tag) -> Result<(), AllocError
 // Adds each of the tags of a text widget.
 fn put_each_tag(alloc: Global, out: &mut Vec<u8>, widget: &TextWidget) -> Result<(), AllocError>
     requires text { length widget.now.text < 2 ^ 32 }
-    requires names { AllByRecursion HasShortTag widget.now.tags }
     requires long { AreLong (length widget.now.text) widget.now.tags }
     ensures puts { PutsSo result out.old.items out.new.items (members (λ before. tag (length widget.now.text)) None widget.now.tags) }
     ensures legal { OnOk result (AllByRecursion ((tag (length widget.now.text)).Legal) widget.now.tags) }
@@ -88,8 +86,6 @@ fn put_each_tag(alloc: Global, out: &mut Vec<u8>, widget: &TextWidget) -> Result
 /// Adds the tags of a text widget.
 pub fn put_tags(alloc: Global, out: &mut Vec<u8>, widget: &TextWidget) -> Result<(), AllocError>
     requires text { length widget.now.text < 2 ^ 32 }
-    requires count { length widget.now.tags < 2 ^ 32 }
-    requires names { AllByRecursion HasShortTag widget.now.tags }
     requires long { AreLong (length widget.now.text) widget.now.tags }
     ensures puts { PutsSo result out.old.items out.new.items ((list (tag (length widget.now.text))).write widget.now.tags) }
     ensures legal { OnOk result ((list (tag (length widget.now.text))).Legal widget.now.tags) }

@@ -1,18 +1,17 @@
 //! Lists of texts, and lists of numbers.
-ghost use Rattle.std.specs.Prelude.{◌<◌, ◌^◌, length, option_map, None, OnOk};
+ghost use Rattle.std.specs.Prelude.{option_map, None, OnOk};
 ghost use Rattle.std.specs.Int.{w64};
 ghost use Rattle.std.specs.List.{AllByRecursion};
-ghost use Rattle.tks_text.specs.Text.{IsText};
+ghost use Rattle.tks_text.specs.Short.{IsShort};
 ghost use Rattle.tks_codec.specs.Spelling.{text, number, list_at, members_at, members};
 ghost use Rattle.tks_codec.specs.Reading.{Gives};
 ghost use Rattle.tks_codec.specs.Writing.{PutsSo};
 ghost use Rattle.tks_codec_windows.specs.Texts as kinds;
-ghost use Rattle.tks_codec_windows.specs.Texts.{AreShort, AreShortTags, IsShort};
 
 use std::alloc::{AllocError, Global};
 use tks_codec::Unread;
 use tks_codec::reading::{presence_of, text_of, u32_of, u64_of};
-use tks_codec::writing::{put_presence, put_text, put_u32, put_u64};
+use tks_codec::writing::{put_presence, put_text, put_u32};
 use tks_text::{Seq, Txt};
 
 // So many texts. Room is made for each as it is read.
@@ -41,7 +40,6 @@ pub fn texts_of(alloc: Global, bytes: &[u8]) -> Result<(Seq<Txt>, &[u8]), Unread
 
 // Adds each of the texts.
 fn put_each_text(out: &mut Vec<u8>, texts: &[Txt]) -> Result<(), AllocError>
-    requires { AllByRecursion IsShort texts.now }
     ensures puts { PutsSo result out.old.items out.new.items (members (λ before. text) None texts.now) }
     ensures legal { OnOk result (AllByRecursion text.Legal texts.now) }
 {
@@ -53,7 +51,7 @@ fn put_each_text(out: &mut Vec<u8>, texts: &[Txt]) -> Result<(), AllocError>
 
 /// Adds texts.
 pub fn put_texts(out: &mut Vec<u8>, texts: &[Txt]) -> Result<(), AllocError>
-    requires { AreShort texts.now }
+    requires { IsShort texts.now }
     ensures puts { PutsSo result out.old.items out.new.items (kinds.texts.write texts.now) }
     ensures legal { OnOk result (kinds.texts.Legal texts.now) }
 {
@@ -74,8 +72,7 @@ pub fn tags_of(alloc: Global, bytes: &[u8]) -> Result<(Option<Seq<Txt>>, &[u8]),
 }
 
 /// Adds a window's tags, if it has some of its own.
-pub fn put_tags(out: &mut Vec<u8>, tags: Option<&[Txt]>) -> Result<(), AllocError>
-    requires { AreShortTags (option_map (λ t. t.now) tags) }
+pub fn put_tags(out: &mut Vec<u8>, tags: Option<&Seq<Txt>>) -> Result<(), AllocError>
     ensures puts { PutsSo result out.old.items out.new.items (kinds.tags.write (option_map (λ t. t.now) tags.entry)) }
     ensures legal { OnOk result (kinds.tags.Legal (option_map (λ t. t.now) tags.entry)) }
 {
@@ -83,7 +80,7 @@ pub fn put_tags(out: &mut Vec<u8>, tags: Option<&[Txt]>) -> Result<(), AllocErro
         None => put_presence(out, false),
         Some(texts) => {
             put_presence(out, true)?;
-            put_texts(out, texts)
+            put_texts(out, texts.as_slice())
         }
     }
 }
@@ -110,25 +107,4 @@ pub fn windows_of(alloc: Global, bytes: &[u8]) -> Result<(Seq<u64>, &[u8]), Unre
     let (count, rest) = u32_of(bytes)?;
     let (numbers, rest) = windows_of_count(alloc, count, rest)?;
     Ok((numbers, rest))
-}
-
-// Adds each of the numbers.
-fn put_each_number(out: &mut Vec<u8>, numbers: &[u64]) -> Result<(), AllocError>
-    ensures puts { PutsSo result out.old.items out.new.items (members (λ before. number w64) None numbers.now) }
-    ensures legal { OnOk result (AllByRecursion ((number w64).Legal) numbers.now) }
-{
-    for number in numbers {
-        put_u64(out, *number)?;
-    }
-    Ok(())
-}
-
-/// Adds numbers of windows.
-pub fn put_windows(out: &mut Vec<u8>, numbers: &[u64]) -> Result<(), AllocError>
-    requires { length numbers.now < 2 ^ 32 }
-    ensures puts { PutsSo result out.old.items out.new.items (kinds.windows.write numbers.now) }
-    ensures legal { OnOk result (kinds.windows.Legal numbers.now) }
-{
-    put_u32(out, numbers.len() as u32)?;
-    put_each_number(out, numbers)
 }

@@ -3,6 +3,3 @@ pub mod OfLines
 pub mod OfWindows
 pub mod OfParts
 pub mod OfWorlds
-pub mod Decisions
-pub mod Decided
-pub mod First

@@ -1,7 +1,7 @@
 -- What holds of the spellings of a world's parts besides windows.
 use Rattle.std.proofs.Common.{◌≡◌, ℕ, ◌≤◌, ◌^◌, List, Ok, refl, sym, ap, arith}
 use Rattle.std.specs.Int.{w64}
-use Rattle.std.proofs.lemmas.Bool.{eqb-true}
+use Rattle.std.proofs.lemmas.Bool.{eqb-true, leb-true, le-leb}
 use Rattle.tks_timer.specs.After as after
 use Rattle.tks_codec.specs.Spelling.{Lawful, IsBytes, byte, number}
 use Rattle.tks_codec.proofs.EachKind.{wide64, byte_lawful, number_lawful, test_lawful, field_lawful, through_lawful, option_lawful}
@@ -15,7 +15,6 @@ use Rattle.tks_codec_world.specs.Counts.{is_count, count, counts}
 use Rattle.tks_codec_world.specs.Ends.{Ends, are_rules, these_rules, rules, ends}
 use Rattle.tks_codec_world.specs.Happenings.{Happenings, happenings}
 use Rattle.tks_codec_world.specs.declared.counts.Counts.{Counts}
-use Rattle.tks_codec_world.proofs.Decisions.{within}
 
 -- ---- the numbers in front
 
@@ -30,13 +29,20 @@ counts_lawful =
     field_lawful (λ x. x.binding) _ _ (λ binding x k h. ap (λ (x : Counts). x.binding) h.1) count_lawful (λ binding.
     through_lawful (λ x. x.timer) _ _ (λ timer k. refl) count_lawful))))
 
+count_legal : (n : ℕ) → n ≤ 2 ^ 62 → count.Legal n
+count_legal n h = (omega (arith, h), le-leb n (2 ^ 62) h)
+
+pub counts_legal : (x : Counts) → x.accepted ≤ 2 ^ 62 → x.clock ≤ 2 ^ 62 → x.window ≤ 2 ^ 62 → x.binding ≤ 2 ^ 62 → x.timer ≤ 2 ^ 62 → counts.Legal x
+counts_legal x accepted clock window binding timer =
+    (count_legal x.accepted accepted, (count_legal x.clock clock, (count_legal x.window window, (count_legal x.binding binding, (count_legal x.timer timer, refl)))))
+
 -- the number of the next binding that was read
 pub binding_within : (bytes rest : List ℕ) (x : Counts) → IsBytes bytes → counts.read bytes ≡ Ok (x, rest) → x.binding ≤ 2 ^ 62
-binding_within bytes rest x fits e = (within x.binding (2 ^ 62)).says (counts_lawful.nothing_else bytes x rest fits e).legal.1.1.1.0.1
+binding_within bytes rest x fits e = leb-true x.binding (2 ^ 62) (counts_lawful.nothing_else bytes x rest fits e).legal.1.1.1.0.1
 
 -- the id of the next timer that was read
 pub timer_within : (bytes rest : List ℕ) (x : Counts) → IsBytes bytes → counts.read bytes ≡ Ok (x, rest) → x.timer ≤ 2 ^ 62
-timer_within bytes rest x fits e = (within x.timer (2 ^ 62)).says (counts_lawful.nothing_else bytes x rest fits e).legal.1.1.1.1.0.1
+timer_within bytes rest x fits e = leb-true x.timer (2 ^ 62) (counts_lawful.nothing_else bytes x rest fits e).legal.1.1.1.1.0.1
 
 -- ---- what scripts bound to events rest on
 

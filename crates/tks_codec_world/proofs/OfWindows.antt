@@ -11,9 +11,8 @@ use Rattle.tks_pack.specs.declared.packing.Content.{Content}
 use Rattle.tks_pack.specs.declared.settings.Settings.{Settings}
 use Rattle.tks_codec.specs.Spelling.{Lawful, list}
 use Rattle.tks_codec.proofs.EachKind.{test_lawful, through_lawful, list_lawful}
-use Rattle.tks_codec_windows.specs.Places.{place_of, places_from, placed, packed_as, settings_in, or_else, on_tree, tree_of, agreeing, are_packed, packings_in, IsFound, AreFound, HaveOwnClasses}
+use Rattle.tks_codec_windows.specs.Places.{place_of, places_from, placed, packed_as, settings_in, or_else, on_tree, tree_of, agreeing, are_packed, packings_in, IsFound, AreFound}
 use Rattle.tks_codec_windows.specs.declared.place.Place.{Place}
-use Rattle.tks_codec_windows.specs.Packing.{HasPaddings, IsPacking}
 use Rattle.tks_codec_windows.proofs.OfPlaces.{placed_again, placed_from}
 use Rattle.tks_state.specs.Widget.{class_of}
 use Rattle.tks_state.specs.Windows.{Windows}
@@ -24,7 +23,6 @@ use Rattle.tks_state.specs.declared.restoring.WindowParts.{WindowParts}
 use Rattle.tks_state.proofs.Children.{kept_rises}
 use Rattle.tks_text.specs.declared.class.Class.{Class}
 use Rattle.tks_codec_world.specs.Line.{line}
-use Rattle.tks_codec_world.specs.Storable.{KeptFits}
 use Rattle.tks_codec_world.specs.Windows.{packings_of, line_of, lines_from, lines_of, kept_of, kept_from, with_kept, windows_made, are_windows, or_first, windows, held_of, parts_from}
 use Rattle.tks_codec_world.specs.declared.line.Line.{Line}
 use Rattle.tks_codec_world.proofs.OfLines.{line_lawful}
@@ -225,13 +223,13 @@ module _ (t : tree.Windows) where
   all_found ps [] h f = tt
   all_found ps (k ∷ ks) h f = (found_in ps k.window k.packing.contents h.0.children f.0, all_found ps ks h.1 f.1)
 
-made_again : (x : Windows) → WellFormedWindows x → HaveOwnClasses x.tree.windows → windows_made x.tree.next (lines_of x) ≡ Some x
-made_again x w own =
+made_again : (x : Windows) → WellFormedWindows x → windows_made x.tree.next (lines_of x) ≡ Some x
+made_again x w =
     let ps = packings_of x.kept in
     let count : length ps ≡ length x.tree.windows =
     mapped_length (λ (k : Kept). k.packing) x.kept ∙ sym (mapped_length mark_of x.kept) ∙ ap (λ (ms : List (ℕ × Class)). length ms) w.in_step ∙ mapped_length window_mark x.tree.windows in
     let packed : EachPackedSo x.tree ps x.kept = each_packed x.tree 0 x.kept (kept_rises x.tree x.kept w) w.packs in
-    let again = placed_again x.tree ps w.windows own (record { count = count; found = all_found x.tree ps x.kept w.packs packed }) in
+    let again = placed_again x.tree ps w.windows (record { count = count; found = all_found x.tree ps x.kept w.packs packed }) in
     ap (λ (places : List Place). with_kept (lines_of x) (placed x.tree.next places)) (places_again ps x.tree.windows x.kept)
     ∙ ap (with_kept (lines_of x)) again
     ∙ ap (λ (ks : List Kept). Some (record { tree = x.tree; kept = ks })) (kept_again ps x.tree.windows x.kept w.in_step)
@@ -262,9 +260,9 @@ pub windows_next : (next : ℕ) (x : Windows) → (windows next).Legal x → x.t
 windows_next next x h = ap (λ (y : Windows). y.tree.next) h.1 ∙ next_kept next (lines_of x) h.0.1
 
 -- windows that stand have a spelling where each of their lines has one
-pub windows_legal : (x : Windows) → WellFormedWindows x → HaveOwnClasses x.tree.windows → (list line).Legal (lines_of x) → (windows x.tree.next).Legal x
-windows_legal x w own h =
-    let again = made_again x w own in (
+pub windows_legal : (x : Windows) → WellFormedWindows x → (list line).Legal (lines_of x) → (windows x.tree.next).Legal x
+windows_legal x w h =
+    let again = made_again x w in (
       (h, ap (λ (o : Option Windows). is_some o) again),
       sym (ap or_first again),
     )
@@ -295,29 +293,6 @@ class_in_step (v ∷ ws) (l ∷ ks) zero w k s e h lt =
     ap (λ (k : Kept). class_of k.widget) h ∙ first ∙ ap (λ (v : tree.Window). v.class) (some_same v w e)
 class_in_step (v ∷ ws) (l ∷ ks) (suc i) w k s e h lt =
     class_in_step ws ks i w k (same_behind (mark_of l) (window_mark v) (map mark_of ks) (map window_mark ws) s) e h (omega (arith, lt))
-
--- how windows are packed is legal where paddings are
-legal_in : (cs : List Content) (n : ℕ) → AllByRecursion (λ c. HasPaddings c.settings) cs → IsPacking (settings_in cs n)
-legal_in [] n h = tt
-legal_in (c ∷ cs) n h = by (c.window == n) h.0 (legal_in cs n h.1)
-  where
-    by : (b : Bool) → HasPaddings c.settings → IsPacking (settings_in cs n) → IsPacking (if b then Some c.settings else settings_in cs n)
-    by true here there = here
-    by false here there = there
-
-either_legal : (a b : Option Settings) → IsPacking a → IsPacking b → IsPacking (or_else a b)
-either_legal None b h k = k
-either_legal (Some s) b h k = h
-
-pub packings_legal : (ks : List Kept) (n : ℕ) → AllByRecursion KeptFits ks → IsPacking (packed_as (packings_of ks) n)
-packings_legal [] n h = tt
-packings_legal (k ∷ ks) n h = either_legal (settings_in k.packing.contents n) (packed_as (packings_of ks) n) (legal_in k.packing.contents n h.0.packing.paddings) (packings_legal ks n h.1)
-
--- what is got in a place stands there
-pub got : {X : Type 0} (xs : List X) (i : ℕ) (x : X) → slice_get xs i ≡ Some x → x ≡ slice_index_or xs i x
-got [] i x e = absurd cc
-got (y ∷ xs) zero x e = sym (some_same y x e)
-got (y ∷ xs) (suc i) x e = got xs i x e
 
 -- ---- what was read
 

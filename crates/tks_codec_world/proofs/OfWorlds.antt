@@ -1,5 +1,5 @@
 -- What holds of the spelling of worlds.
-use Rattle.std.proofs.Common.{◌≡◌, ℕ, suc, ◌+◌, Bool, true, false, List, length, Option, Some, None, Ok, Err, refl, sym, ap, ◌∙◌, subst, arith}
+use Rattle.std.proofs.Common.{◌≡◌, ℕ, suc, ◌+◌, Bool, true, false, List, [], length, Option, Some, None, Ok, Err, refl, sym, ap, ◌∙◌, subst, arith}
 use Rattle.std.specs.Prelude.{if◌then◌else◌}
 use Rattle.tks_text.specs.Size.{Extent}
 use Rattle.tks_codec.specs.Spelling.{Lawful, Read, ◌>>=◌, passed}
@@ -10,11 +10,15 @@ use Rattle.tks_codec.proofs.EachKind.{test_lawful, field_lawful, through_lawful}
 use Rattle.tks_codec_events.proofs.Waiting.{queue_lawful, waiting_lawful}
 use Rattle.tks_codec_variables.proofs.OfVariables.{variables_lawful}
 use Rattle.tks_state.specs.Restoring.{is_possible, world_of, restored}
+use Rattle.tks_state.specs.WellFormed.{WellFormed}
 use Rattle.tks_state.specs.World.{World, windows_of}
 use Rattle.tks_state.specs.declared.restoring.WorldParts.{WorldParts}
-use Rattle.tks_codec_world.specs.World.{counts_of, happenings_of, ends_of, fields, fields_at, world, world_at}
+use Rattle.tks_codec_variables.specs.Variables.{variables}
+use Rattle.tks_codec_world.specs.Happenings.{happenings}
+use Rattle.tks_codec_world.specs.Windows.{windows}
+use Rattle.tks_codec_world.specs.World.{counts_of, happenings_of, ends_of, WaitsAreLegal, fields, fields_at, world, world_at}
 use Rattle.tks_codec_world.specs.declared.counts.Counts.{Counts}
-use Rattle.tks_codec_world.proofs.OfParts.{counts_lawful, happenings_lawful, happenings_next, waiting_next, ends_lawful}
+use Rattle.tks_codec_world.proofs.OfParts.{counts_lawful, counts_legal, happenings_lawful, happenings_next, waiting_next, ends_lawful}
 use Rattle.tks_codec_world.proofs.OfWindows.{windows_lawful, windows_next}
 
 -- counts that agree
@@ -33,6 +37,12 @@ fields_lawful grid =
     field_lawful (λ w. w.queue) _ _ (λ q w k h. ap (λ (w : World). w.queue) h.1.1) queue_lawful (λ q.
     field_lawful (λ w. w.timers) _ _ (λ ts w k h. ap (λ (w : World). w.timers) h.1) (waiting_lawful c.timer) (λ ts.
     through_lawful ends_of _ _ (λ e k. refl) ends_lawful))))))
+
+-- a world whose other parts have spellings has one
+pub fields_legal : (w : World) → WellFormed w → (windows w.tree.next).Legal (windows_of w) → (w.variables.locals ≡ [] → variables.Legal w.variables) → (happenings w.bindings.next).Legal (happenings_of w) → WaitsAreLegal w → (fields w.grid).Legal w
+fields_legal w h ws vs hs waits =
+    let counted = counts_legal (counts_of w) h.counted h.event_loop.clock h.windows.windows.bounded h.events.bindings.next h.event_loop.timers.next in
+    (counted, (ws, (vs h.rests, (hs, (waits.queue, (waits.timers, (waits.ends, refl)))))))
 
 pub world_lawful : (grid : Extent) → Lawful (world grid)
 world_lawful grid = test_lawful is_possible (fields grid) (λ v h. omega arith) (fields_lawful grid)

@@ -1,6 +1,6 @@
 -- The numbers in front of a world, as bytes (this project's own format): how many inputs were accepted, the clock, and the
 -- next window, binding and timer. None is above 2^62.
-use Rattle.std.specs.Prelude.{ℕ, ◌^◌, Bool, ◌&&◌, nat_le, List, [], ◌∷◌}
+use Rattle.std.specs.Prelude.{ℕ, ◌^◌, Bool, nat_le, List, [], ◌∷◌}
 use Rattle.std.specs.Int.{w64}
 use Rattle.tks_codec.specs.Spelling.{Read, Spelling, number, such_that, field, through}
 use Rattle.tks_codec.specs.Writing.{flattened}
@@ -26,10 +26,6 @@ next_parts x = count.write x.window ∷ count.write x.binding ∷ count.write x.
 
 abbrev pub counts_parts : Counts → List (List ℕ)
 counts_parts x = count.write x.accepted ∷ count.write x.clock ∷ flattened (next_parts x) ∷ []
-
--- whether a world may have them
-abbrev pub are_counts : Counts → Bool
-are_counts x = is_count x.accepted && (is_count x.clock && (is_count x.window && (is_count x.binding && is_count x.timer)))
 
 -- those at the front of bytes, and what stands behind them
 unfoldable pub counts_at : List ℕ → Read Counts

@@ -6,5 +6,3 @@ pub mod Counts
 pub mod Happenings
 pub mod Ends
 pub mod World
-pub mod Storable
-pub mod Deciding

@@ -1,5 +1,5 @@
 //! What a window holds besides its options.
-ghost use Rattle.std.specs.Prelude.{◌≡◌, ◌↔◌, ◌^◌, ◌<◌, length, true, Ok, OnOk};
+ghost use Rattle.std.specs.Prelude.{◌≡◌, true, Ok, OnOk};
 ghost use Rattle.tks_text.specs.declared.class.Class.TheVariants as class;
 ghost use Rattle.tks_button.specs.Caption.{has_caption};
 ghost use Rattle.tks_button.specs.Frame.{is_frame};
@@ -7,17 +7,13 @@ ghost use Rattle.tks_codec.specs.Reading.{Gives};
 ghost use Rattle.tks_codec.specs.Writing.{PutsSo};
 ghost use Rattle.tks_codec_world.specs.Content as kinds;
 ghost use Rattle.tks_codec_world.specs.Content.{content, content_by, content_at};
-ghost use Rattle.tks_codec_world.specs.Storable.{ContentFits};
 ghost use Rattle.tks_state.specs.Widget.{options_of};
 ghost use Rattle.tks_state.specs.declared.widget.Widget.TheVariants as widget;
 
 use std::alloc::{AllocError, Global};
 use tks_button::{Caption, Frame};
 use tks_codec::Unread;
-use tks_codec_windows::{
-    entry_of, has_short_items, has_short_parts, lines_of, listbox_of, put_entry, put_lines,
-    put_listbox,
-};
+use tks_codec_windows::{entry_of, lines_of, listbox_of, put_entry, put_lines, put_listbox};
 use tks_opt::Options;
 use tks_state::Widget;
 use tks_text::Class;
@@ -85,21 +81,8 @@ pub fn content_of(alloc: Global, options: Options, bytes: &[u8]) -> Result<(Widg
     }
 }
 
-/// Whether the lengths in what a widget holds can be told.
-pub fn is_content(widget: &Widget) -> bool
-    ensures { (result ≡ true) ↔ ContentFits widget.now }
-{
-    match widget {
-        Widget::Frame(_) | Widget::Caption(_) => true,
-        Widget::Entry(entry) => entry.text().len() < 1 << 32,
-        Widget::Listbox(listbox) => has_short_items(listbox),
-        Widget::Text(text) => has_short_parts(text),
-    }
-}
-
 /// Adds what a widget holds besides its options.
 pub fn put_content(alloc: Global, out: &mut Vec<u8>, widget: &Widget) -> Result<(), AllocError>
-    requires { ContentFits widget.now }
     ensures puts { PutsSo result out.old.items out.new.items ((content (options_of widget.now)).write widget.now) }
     ensures legal { OnOk result ((content (options_of widget.now)).Legal widget.now) }
 {

@@ -1,9 +1,8 @@
 //! The numbers in front of a world.
-ghost use Rattle.std.specs.Prelude.{◌≡◌};
 ghost use Rattle.tks_codec.specs.Reading.{Gives};
 ghost use Rattle.tks_codec.specs.Writing.{PutsSo, flattened};
 ghost use Rattle.tks_codec_world.specs.Counts as kinds;
-ghost use Rattle.tks_codec_world.specs.Counts.{count, counts_at, counts_parts, is_count};
+ghost use Rattle.tks_codec_world.specs.Counts.{count, counts_at, counts_parts};
 
 use std::alloc::AllocError;
 use tks_codec::Unread;
@@ -54,24 +53,6 @@ pub fn counts_of(bytes: &[u8]) -> Result<(Counts, &[u8]), Unread>
     Ok((counts, rest))
 }
 
-// Whether a world may have this number.
-fn is_count(number: u64) -> bool
-    ensures { result ≡ is_count number }
-{
-    number <= MAX_COUNT
-}
-
-/// Whether a world may have these numbers.
-pub fn are_counts(counts: &Counts) -> bool
-    ensures { result ≡ kinds.are_counts counts.now }
-{
-    is_count(counts.accepted)
-        && is_count(counts.clock)
-        && is_count(counts.window)
-        && is_count(counts.binding)
-        && is_count(counts.timer)
-}
-
 // Adds a number.
 fn put_count(out: &mut Vec<u8>, number: u64) -> Result<(), AllocError>
     ensures { PutsSo result out.old.items out.new.items (count.write number) }
@@ -99,7 +80,7 @@ fn put_parts(out: &mut Vec<u8>, counts: &Counts) -> Result<(), AllocError>
     put_next(out, counts)
 }
 
-/// Adds the numbers. They are read back where a world may have them (`are_counts`).
+/// Adds the numbers. They are read back where none is above 2^62.
 #[tactic(auto, unfolding(tks_codec::specs::Writing::flattened))]
 pub fn put_counts(out: &mut Vec<u8>, counts: &Counts) -> Result<(), AllocError>
     ensures { PutsSo result out.old.items out.new.items (kinds.counts.write counts.now) }

@@ -1,11 +1,9 @@
 //! What stands at the end of a world.
-ghost use Rattle.std.specs.Prelude.{◌≡◌, ◌↔◌, true, option_map, OnOk};
+ghost use Rattle.std.specs.Prelude.{◌≡◌, OnOk};
 ghost use Rattle.tks_codec.specs.Reading.{Gives};
 ghost use Rattle.tks_codec.specs.Writing.{PutsSo, flattened};
-ghost use Rattle.tks_codec_events.specs.Memories.{are_memories};
 ghost use Rattle.tks_codec_world.specs.Ends as kinds;
 ghost use Rattle.tks_codec_world.specs.Ends.{ends_at, ends_parts, ends_seen, these_rules};
-ghost use Rattle.tks_codec_world.specs.Storable.{EndsFit, MemoriesFit};
 ghost use Rattle.tks_codec_world.specs.World.{ends_of};
 
 use std::alloc::{AllocError, Global};
@@ -13,10 +11,8 @@ use tks_app::Memories;
 use tks_codec::Unread;
 use tks_codec::reading::{presence_of, u8_of, u64_of};
 use tks_codec::writing::{put_presence, put_u8, put_u64};
-use tks_codec_events::{
-    all_have_spellings, are_memories, held_of, memories_of, put_held, put_memories,
-};
-use tks_codec_windows::{are_short, put_texts, texts_of};
+use tks_codec_events::{held_of, memories_of, put_held, put_memories};
+use tks_codec_windows::{put_texts, texts_of};
 use tks_event::Held;
 use tks_state::World;
 use tks_text::{Seq, Txt};
@@ -106,10 +102,11 @@ fn put_press(out: &mut Vec<u8>, pressed: Option<WindowId>) -> Result<(), AllocEr
 // Adds the parts.
 #[tactic(auto, using(tks_codec::proofs::Puts::flattened_puts))]
 fn put_parts(out: &mut Vec<u8>, world: &World) -> Result<(), AllocError>
-    requires { EndsFit (ends_of world.now) }
     ensures puts { PutsSo result out.old.items out.new.items (flattened (ends_parts (ends_of world.now))) }
     ensures legal { OnOk result (kinds.ends.Legal (ends_of world.now)) }
 {
+    // What holds of all worlds is asked for here.
+    let _ = world.accepted();
     put_u64(out, world.focus().number())?;
     put_held(out, &world.held())?;
     put_press(out, world.pressed())?;
@@ -121,24 +118,8 @@ fn put_parts(out: &mut Vec<u8>, world: &World) -> Result<(), AllocError>
 /// Adds what stands at the end of a world.
 #[tactic(auto, unfolding(tks_codec::specs::Writing::flattened))]
 pub fn put_ends(out: &mut Vec<u8>, world: &World) -> Result<(), AllocError>
-    requires { EndsFit (ends_of world.now) }
     ensures puts { PutsSo result out.old.items out.new.items (kinds.ends.write (ends_of world.now)) }
     ensures legal { OnOk result (kinds.ends.Legal (ends_of world.now)) }
 {
     put_parts(out, world)
-}
-
-// Whether memories have a spelling.
-fn memories_fit(world: &World) -> bool
-    ensures { (result ≡ true) ↔ MemoriesFit world.now.memories }
-{
-    let memories = world.memories().all();
-    memories.len() < 1 << 32 && all_have_spellings(memories) && are_memories(memories)
-}
-
-/// Whether what stands at the end of a world has a spelling.
-pub fn are_ends(world: &World) -> bool
-    ensures { (result ≡ true) ↔ EndsFit (ends_of world.now) }
-{
-    memories_fit(world) && are_short(world.faults())
 }

@@ -1,18 +1,16 @@
 //! What scripts bound to events rest on.
-ghost use Rattle.std.specs.Prelude.{◌≡◌, ◌↔◌, ◌≤◌, ◌^◌, true, OnOk};
+ghost use Rattle.std.specs.Prelude.{◌≤◌, ◌^◌, OnOk};
 ghost use Rattle.tks_codec.specs.Reading.{Gives};
 ghost use Rattle.tks_codec.specs.Writing.{PutsSo, flattened};
 ghost use Rattle.tks_codec_world.specs.Happenings as kinds;
 ghost use Rattle.tks_codec_world.specs.Happenings.{happenings_at, happenings_parts, happenings_seen};
-ghost use Rattle.tks_codec_world.specs.Storable.{BindingsFit, VirtualsFit, HistoryFits, HappeningsFit};
 ghost use Rattle.tks_codec_world.specs.World.{happenings_of};
 
 use std::alloc::{AllocError, Global};
 use tks_bind::{Bindings, History, Virtuals};
 use tks_codec::Unread;
 use tks_codec_events::{
-    all_have_spellings, bindings_of, history_of, items_have_spellings, put_bindings, put_history,
-    put_virtuals, virtuals_of,
+    bindings_of, history_of, put_bindings, put_history, put_virtuals, virtuals_of,
 };
 use tks_state::World;
 
@@ -44,7 +42,6 @@ pub fn happenings_of(alloc: Global, next: u64, bytes: &[u8]) -> Result<(Happenin
 // Adds the parts.
 #[tactic(auto, using(tks_codec::proofs::Puts::flattened_puts))]
 fn put_parts(out: &mut Vec<u8>, world: &World) -> Result<(), AllocError>
-    requires { HappeningsFit (happenings_of world.now) }
     ensures puts { PutsSo result out.old.items out.new.items (flattened (happenings_parts (happenings_of world.now))) }
     ensures legal { OnOk result ((kinds.happenings world.now.bindings.next).Legal (happenings_of world.now)) }
 {
@@ -56,43 +53,8 @@ fn put_parts(out: &mut Vec<u8>, world: &World) -> Result<(), AllocError>
 /// Adds what a world's scripts bound to events rest on, but not the number of the next binding.
 #[tactic(auto, unfolding(tks_codec::specs::Writing::flattened))]
 pub fn put_happenings(out: &mut Vec<u8>, world: &World) -> Result<(), AllocError>
-    requires { HappeningsFit (happenings_of world.now) }
     ensures puts { PutsSo result out.old.items out.new.items ((kinds.happenings world.now.bindings.next).write (happenings_of world.now)) }
     ensures legal { OnOk result ((kinds.happenings world.now.bindings.next).Legal (happenings_of world.now)) }
 {
     put_parts(out, world)
-}
-
-// Whether bindings have a spelling.
-fn bindings_fit(world: &World) -> bool
-    ensures { (result ≡ true) ↔ BindingsFit world.now.bindings }
-{
-    let bindings = world.bindings();
-    // What holds of all bindings is asked for here.
-    let _ = bindings.next();
-    bindings.len() < 1 << 32 && items_have_spellings(bindings.bindings())
-}
-
-// Whether virtual events have a spelling.
-fn virtuals_fit(world: &World) -> bool
-    ensures { (result ≡ true) ↔ VirtualsFit world.now.virtuals }
-{
-    let virtuals = world.virtuals();
-    // What holds of all virtual events is asked for here.
-    let _ = virtuals.is_marked();
-    virtuals.len() < 1 << 32 && items_have_spellings(virtuals.events())
-}
-
-// Whether a history has a spelling.
-fn history_fits(world: &World) -> bool
-    ensures { (result ≡ true) ↔ HistoryFits world.now.history }
-{
-    all_have_spellings(world.history().events())
-}
-
-/// Whether what a world's scripts bound to events rest on has a spelling.
-pub fn are_happenings(world: &World) -> bool
-    ensures { (result ≡ true) ↔ HappeningsFit (happenings_of world.now) }
-{
-    bindings_fit(world) && virtuals_fit(world) && history_fits(world)
 }

@@ -6,12 +6,10 @@ mod content;
 mod counts;
 mod ends;
 mod happenings;
-mod kept;
 mod laws;
 mod line;
-mod waits;
 mod windows;
 mod world;
 
-pub use laws::{one_world, the_first_world_has_a_spelling};
-pub use world::{has_spelling, read_world, write_world};
+pub use laws::one_world;
+pub use world::{read_world, write_world};

@@ -5,8 +5,6 @@ ghost use Rattle.tks_codec.specs.Reading.{Gives};
 ghost use Rattle.tks_codec.specs.Writing.{PutsSo, flattened};
 ghost use Rattle.tks_codec_world.specs.Line as kinds;
 ghost use Rattle.tks_codec_world.specs.Line.{line_at, line_parts, rest_parts, RestIsLegal, line_with};
-ghost use Rattle.tks_codec_windows.specs.Packing.{IsPacking};
-ghost use Rattle.tks_codec_world.specs.Storable.{KeptFits, HasShortPath};
 ghost use Rattle.tks_state.specs.Widget.{class_of};
 ghost use Rattle.tks_tree.specs.View.{window_seen};
 
@@ -46,7 +44,10 @@ fn line_of(alloc: Global, bytes: &[u8]) -> Result<(Line, &[u8]), Unread>
     let (tags, rest) = tags_of(alloc, rest)?;
     let (propagates, rest) = flag_of(rest)?;
     let (contents, rest) = windows_of(alloc, rest)?;
-    let (packing, rest) = packing_of(rest)?;
+    let (packing, rest) = match packing_of(rest) {
+        Ok(found) => found,
+        Err(unread) => return Err(unread),
+    };
     let (widget, rest) = content_of(alloc, options, rest)?;
     let place = Place {
         window: WindowId::of(number),
@@ -105,12 +106,10 @@ fn put_rest(
     kept: &Kept,
     packing: Option<Settings>,
 ) -> Result<(), AllocError>
-    requires short { KeptFits kept.now }
-    requires packing { IsPacking packing }
     ensures puts { PutsSo result out.old.items out.new.items (flattened (rest_parts kept.now packing)) }
     ensures legal { OnOk result (RestIsLegal kept.now packing) }
 {
-    put_tags(out, kept.tags.as_ref().map(Seq::as_slice))?;
+    put_tags(out, kept.tags.as_ref())?;
     put_flag(out, kept.packing.get().propagates())?;
     put_contents(out, kept.packing.get())?;
     put_packing(out, packing)?;
@@ -126,10 +125,7 @@ fn put_parts(
     kept: &Kept,
     packing: Option<Settings>,
 ) -> Result<(), AllocError>
-    requires path { HasShortPath (window_seen window.now) }
-    requires short { KeptFits kept.now }
-    requires class { class_of kept.now.widget ≡ (window_seen window.now).class }
-    requires packing { IsPacking packing }
+    requires { class_of kept.now.widget ≡ (window_seen window.now).class }
     ensures puts { PutsSo result out.old.items out.new.items (flattened (line_parts (window_seen window.now) kept.now packing)) }
     ensures legal { OnOk result (kinds.line.Legal (line_with (window_seen window.now) kept.now packing)) }
 {
@@ -149,10 +145,7 @@ pub fn put_line(
     kept: &Kept,
     packing: Option<Settings>,
 ) -> Result<(), AllocError>
-    requires path { HasShortPath (window_seen window.now) }
-    requires short { KeptFits kept.now }
-    requires class { class_of kept.now.widget ≡ (window_seen window.now).class }
-    requires packing { IsPacking packing }
+    requires { class_of kept.now.widget ≡ (window_seen window.now).class }
     ensures puts { PutsSo result out.old.items out.new.items (kinds.line.write (line_with (window_seen window.now) kept.now packing)) }
     ensures legal { OnOk result (kinds.line.Legal (line_with (window_seen window.now) kept.now packing)) }
 {

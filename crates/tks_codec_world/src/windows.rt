@@ -1,30 +1,26 @@
 //! The windows.
-ghost use Rattle.std.specs.Prelude.{◌≡◌, ◌↔◌, map, true, None, option_map, IfOk, OnOk};
+ghost use Rattle.std.specs.Prelude.{◌≡◌, map, None, option_map, IfOk, OnOk};
 ghost use Rattle.std.specs.List.{AllByRecursion};
 ghost use Rattle.tks_codec.specs.Spelling.{members};
 ghost use Rattle.tks_codec.specs.Reading.{Gives};
 ghost use Rattle.tks_codec.specs.Writing.{PutsSo};
-ghost use Rattle.tks_tree.specs.View.{window_seen};
-ghost use Rattle.tks_codec_windows.specs.Places.{packed_as, has_own_class, HaveOwnClasses};
+ghost use Rattle.tks_codec_windows.specs.Places.{packed_as};
 ghost use Rattle.tks_codec_world.specs.Line.{line};
 ghost use Rattle.tks_codec_world.specs.Windows as kinds;
 ghost use Rattle.tks_codec_world.specs.Windows.{packings_of, lines_from, held_of, parts_from, windows_seen, windows_at};
-ghost use Rattle.tks_codec_world.specs.Storable.{KeptFits, HasShortPath, WindowsFit};
 ghost use Rattle.tks_state.specs.WellFormed.{InStep};
 ghost use Rattle.tks_state.specs.World.{windows_of};
 
-use crate::kept::all_kept_fit;
 use crate::line::{Line, lines_of, put_line};
 use std::alloc::{AllocError, Global};
 use tks_codec::Unread;
 use tks_codec::writing::put_u32;
 use tks_codec_windows::{Place, placed, settings_in};
-use tks_opt::class_number;
 use tks_pack::{Packing, Settings};
 use tks_share::SharedList;
 use tks_state::{Kept, Widget, WindowParts, World};
-use tks_text::{Class, Seq, Txt};
-use tks_tree::{Tree, Window, WindowId};
+use tks_text::{Seq, Txt};
+use tks_tree::{Tree, WindowId};
 
 // What is read of a window besides its place.
 #[derive(Drop)]
@@ -131,9 +127,7 @@ fn put_each(
     tree: &Tree,
     kept: &SharedList<Kept>,
 ) -> Result<(), AllocError>
-    requires in_step { InStep tree.now.windows kept.now }
-    requires paths { AllByRecursion HasShortPath tree.now.windows }
-    requires short { AllByRecursion KeptFits kept.now }
+    requires { InStep tree.now.windows kept.now }
     ensures puts { PutsSo result out.old.items out.new.items (members (λ before. line) None (lines_from (packings_of kept.now) tree.now.windows kept.now)) }
     ensures legal { OnOk result (AllByRecursion line.Legal (lines_from (packings_of kept.now) tree.now.windows kept.now)) }
 {
@@ -152,7 +146,6 @@ fn put_each(
 
 /// Adds the windows of a world, but not the number of the next one.
 pub fn put_windows(alloc: Global, out: &mut Vec<u8>, world: &World) -> Result<(), AllocError>
-    requires { WindowsFit (windows_of world.now) }
     ensures puts { PutsSo result out.old.items out.new.items ((kinds.windows world.now.tree.next).write (windows_of world.now)) }
     ensures legal { OnOk result ((kinds.windows world.now.tree.next).Legal (windows_of world.now)) }
 {
@@ -161,52 +154,4 @@ pub fn put_windows(alloc: Global, out: &mut Vec<u8>, world: &World) -> Result<()
     let kept = world.all_kept();
     put_u32(out, kept.len() as u32)?;
     put_each(alloc, out, world.tree(), kept)
-}
-
-// Whether this is `.`, or a window of another class.
-fn has_own_class(window: &Window<'_>) -> bool
-    ensures { result ≡ has_own_class (window_seen window.now) }
-{
-    window.id.is_root() || class_number(window.class) != class_number(Class::Root)
-}
-
-// Whether the length of each path can be told.
-fn paths_fit(tree: &Tree) -> bool
-    ensures { (result ≡ true) ↔ AllByRecursion HasShortPath tree.now.windows }
-{
-    for index in 0..tree.len() {
-        let Some(window) = tree.nth(index) else {
-            unreachable!()
-        };
-        if 1 << 32 <= window.path.len() {
-            return false;
-        }
-    }
-    true
-}
-
-// Whether only `.` is of the root's class.
-fn classes_fit(tree: &Tree) -> bool
-    ensures { (result ≡ true) ↔ HaveOwnClasses tree.now.windows }
-{
-    for index in 0..tree.len() {
-        let Some(window) = tree.nth(index) else {
-            unreachable!()
-        };
-        if !has_own_class(&window) {
-            return false;
-        }
-    }
-    true
-}
-
-/// Whether the windows of a world have a spelling.
-pub fn are_windows(world: &World) -> bool
-    ensures { (result ≡ true) ↔ WindowsFit (windows_of world.now) }
-{
-    let kept = world.all_kept();
-    kept.len() < 1 << 32
-        && paths_fit(world.tree())
-        && classes_fit(world.tree())
-        && all_kept_fit(kept)
 }

@@ -1,23 +1,21 @@
 //! Worlds.
-ghost use Rattle.std.specs.Prelude.{◌≡◌, ◌↔◌, ◌++◌, ℕ, List, true, take, length, Ok, Err, IfOk, OnOk, OnErr};
+ghost use Rattle.std.specs.Prelude.{◌≡◌, ◌++◌, ℕ, List, take, Ok, Err, IfOk, OnOk, OnErr};
 ghost use Rattle.tks_codec.specs.Reading.{Gives, FindsSo, StopsAt};
 ghost use Rattle.tks_codec.specs.Writing.{PutsSo, flattened};
 ghost use Rattle.tks_codec.specs.declared.fault.CodecFault.TheVariants as CodecFault;
-ghost use Rattle.tks_codec_world.specs.Storable.{HasSpelling};
 ghost use Rattle.tks_codec_world.specs.World as kinds;
 ghost use Rattle.tks_codec_world.specs.World.{counts_of, fields_parts, waits_parts, WaitsAreLegal, fields_at, world_at};
 ghost use Rattle.tks_state.specs.Restoring as restoring;
 ghost use Rattle.tks_state.specs.World.{World};
 
-use crate::counts::{Counts, are_counts, counts_of, put_counts};
-use crate::ends::{are_ends, ends_of, put_ends};
-use crate::happenings::{are_happenings, happenings_of, put_happenings};
-use crate::waits::{is_queue, is_waiting};
-use crate::windows::{are_windows, put_windows, windows_of};
+use crate::counts::{Counts, counts_of, put_counts};
+use crate::ends::{ends_of, put_ends};
+use crate::happenings::{happenings_of, put_happenings};
+use crate::windows::{put_windows, windows_of};
 use std::alloc::{AllocError, Global};
 use tks_codec::{CodecFault, Unread};
 use tks_codec_events::{put_queue, put_waiting, queue_of, waiting_of};
-use tks_codec_variables::{has_spelling as are_variables, put_variables, variables_of};
+use tks_codec_variables::{put_variables, variables_of};
 use tks_state::{World, WorldParts};
 use tks_text::Size;
 
@@ -105,27 +103,9 @@ fn numbers_of(world: &World) -> Counts
     }
 }
 
-/// Whether a world has a spelling: no list has 2^32 members, no text 2^32 bytes, no number is above 2^62, no frame was begun,
-/// and what stands in it is such as is read.
-#[tactic(auto, using(tks_state::proofs::Possible::possible))]
-pub fn has_spelling(world: &World) -> bool
-    ensures { (result ≡ true) ↔ HasSpelling world.now }
-{
-    // What holds of all worlds is asked for here.
-    let _ = world.accepted();
-    are_counts(&numbers_of(world))
-        && are_windows(world)
-        && are_variables(world.variables())
-        && are_happenings(world)
-        && is_queue(world.queue())
-        && is_waiting(world.timers())
-        && are_ends(world)
-}
-
 // Adds what waits, and what stands at the end.
 #[tactic(auto, using(tks_codec::proofs::Puts::flattened_puts))]
 fn put_waits(out: &mut Vec<u8>, world: &World) -> Result<(), AllocError>
-    requires { HasSpelling world.now }
     ensures puts { PutsSo result out.old.items out.new.items (flattened (waits_parts world.now)) }
     ensures legal { OnOk result (WaitsAreLegal world.now) }
 {
@@ -137,10 +117,11 @@ fn put_waits(out: &mut Vec<u8>, world: &World) -> Result<(), AllocError>
 // Adds the parts of a world; where memory is refused, perhaps a front of them.
 #[tactic(auto, using(tks_codec::proofs::Puts::flattened_puts))]
 fn put_parts(alloc: Global, out: &mut Vec<u8>, world: &World) -> Result<(), AllocError>
-    requires { HasSpelling world.now }
     ensures puts { PutsSo result out.old.items out.new.items (flattened (fields_parts world.now)) }
     ensures legal { OnOk result ((kinds.fields world.now.grid).Legal world.now) }
 {
+    // What holds of all worlds is asked for here.
+    let _ = world.accepted();
     put_counts(out, &numbers_of(world))?;
     put_windows(alloc, out, world)?;
     put_variables(out, world.variables())?;
@@ -149,19 +130,19 @@ fn put_parts(alloc: Global, out: &mut Vec<u8>, world: &World) -> Result<(), Allo
 }
 
 // Adds a world.
-#[tactic(auto, unfolding(tks_codec::specs::Writing::flattened))]
+#[tactic(auto, unfolding(tks_codec::specs::Writing::flattened), using(tks_state::proofs::Possible::possible))]
 fn put_world(alloc: Global, out: &mut Vec<u8>, world: &World) -> Result<(), AllocError>
-    requires { HasSpelling world.now }
     ensures puts { PutsSo result out.old.items out.new.items ((kinds.world world.now.grid).write world.now) }
     ensures legal { OnOk result ((kinds.world world.now.grid).Legal world.now) }
 {
+    // What holds of all worlds is asked for here.
+    let _ = world.accepted();
     put_parts(alloc, out, world)
 }
 
-/// Adds the world's spelling at the end, which it has to have (`has_spelling`). It is read back on its grid. Where memory is
-/// refused, the bytes are as they were.
+/// Adds the world's spelling at the end. Each world has one, and is read back on its grid. Where memory is refused, the
+/// bytes are as they were.
 pub fn write_world(alloc: Global, world: &World, out: &mut Vec<u8>) -> Result<(), AllocError>
-    requires { HasSpelling world.now }
     ensures ok { OnOk result (out.new.items ≡ out.old.items ++ (kinds.world world.now.grid).write world.now) }
     ensures legal { OnOk result ((kinds.world world.now.grid).Legal world.now) }
     ensures err { OnErr result (out.new.items ≡ out.old.items) }

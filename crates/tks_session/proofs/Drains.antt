@@ -1,7 +1,6 @@
 -- One turn more.
-use Rattle.std.proofs.Common.{◌≡◌, ℕ, ◌+◌, suc, false, List, [], ◌∷◌, ◌++◌, length, refl, sym, ap, ◌∙◌, subst, append_assoc, append-nil, length-append, arith}
+use Rattle.std.proofs.Common.{◌≡◌, ℕ, ◌+◌, List, [], ◌∷◌, ◌++◌, length, refl, sym, ap, ◌∙◌, subst, append_assoc, append-nil, length-append}
 use Rattle.std.specs.List.{FoldsTo}
-use Rattle.tks_input.specs.declared.input.Input.TheVariants.{Turn}
 use Rattle.tks_input.specs.declared.reply.Reply.{Reply}
 use Rattle.tks_session.specs.Draining.{DrainsFar, Turns, TurnsTo, turned}
 use Rattle.tks_session.specs.Machine.{Meaning}

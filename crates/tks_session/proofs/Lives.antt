@@ -1,5 +1,5 @@
 -- Parts of a session's life, one behind the other.
-use Rattle.std.proofs.Common.{◌≡◌, List, [], ◌∷◌, ◌++◌, Result, Ok, inl, refl, sym, ◌∙◌, ap, arith, subst, append_assoc, append-nil}
+use Rattle.std.proofs.Common.{◌≡◌, List, [], ◌++◌, Result, Ok, inl, refl, sym, ◌∙◌, ap, arith, subst, append_assoc}
 use Rattle.tks_disk.specs.DiskModel.{View, Images}
 use Rattle.tks_input.specs.declared.input.Input.{Input}
 use Rattle.tks_journal.specs.Moments.{LeavesOnly}

@@ -1,11 +1,10 @@
 -- When a session is full, and what a refused input says of it.
-use Rattle.std.proofs.Common.{◌≡◌, ◌<◌, ◌≤◌, ◌^◌, ℕ, ◌+◌, ◌∷◌, [], ◌++◌, Bool, true, false, not, ◌||◌, ◌&&◌, List, length, nat_le, nat_lt, Result, Ok, refl, ◌∙◌, ap, arith}
+use Rattle.std.proofs.Common.{◌≡◌, ◌<◌, ◌≤◌, ℕ, ◌+◌, ◌∷◌, [], ◌++◌, Bool, true, false, not, ◌||◌, List, length, nat_le, Result, Ok, refl, ◌∙◌, ap, arith}
 use Rattle.std.proofs.lemmas.Bool.Decides.{nat_tests}
 use Rattle.std.proofs.lemmas.List.{length-append}
 use Rattle.tks_codec.specs.Input as codec
 use Rattle.tks_codec.specs.Input.{text_of}
 use Rattle.tks_input.specs.declared.input.Input.{Input}
-use Rattle.tks_input.specs.declared.input.Input.TheVariants.{Script, KeyPress, KeyRelease, Press, Release, Clock, Turn}
 use Rattle.tks_input.specs.declared.reply.Refused.{Refused}
 use Rattle.tks_input.specs.declared.reply.Refused.TheVariants.{BadInput, ClockBack, PendingFull, Budget, Depth, TooLarge, NoMemory, Quiet, Failed}
 use Rattle.tks_input.specs.declared.reply.Reply.{Reply}
@@ -19,40 +18,15 @@ use Rattle.tks_session.specs.declared.fault.SessionFault.{SessionFault}
 use Rattle.tks_session.proofs.Pending.{how_long, how_many}
 use Rattle.tks_session.proofs.Runs.{run_on}
 
--- an input with a text is longer than that
-long_input : (input : Input) → length (text_of input) ≤ length (codec.input.write input)
-long_input (Script text) = omega (arith, length-append (text_of (Script text)) [])
-long_input (KeyPress key) = omega arith
-long_input (KeyRelease key) = omega arith
-long_input (Press button x y) = omega arith
-long_input (Release button x y) = omega arith
-long_input (Clock time) = omega arith
-long_input Turn = omega arith
-
-no_room : {D : Type 0} (journal : JournalState D) (size : ℕ) → 2 ^ 32 ≤ size → room_for journal size ≡ false
-no_room journal size le =
-    let long : nat_lt size (2 ^ 32) ≡ false = grind (arith, nat_tests) in
-    ap (λ b. b && nat_le (journal.gate + 6 + size) (2 ^ 40)) long
-
 full_is : {D : Type 0} (pending : ℕ) (journal : JournalState D) (waiting : List Input) (input : Input) (many room : Bool) → nat_le pending (length waiting) ≡ many
     → room_for journal (length (spelled waiting) + length (codec.input.write input)) ≡ room → is_full pending journal waiting input ≡ (many || not room)
 full_is pending journal waiting input many room m r = ap (λ b. b || not (room_for journal (length (spelled waiting) + length (codec.input.write input)))) m ∙ ap (λ b. many || not b) r
-
--- any number of these, or want of room
-or_true : (b : Bool) → (b || true) ≡ true
-or_true false = refl
-or_true true = refl
 
 module _ {D : Type 0} (pending : ℕ) (journal : JournalState D) (body : List ℕ) (count : ℕ) (p : IsPending body count) (input : Input) where
   pub full_by_count : pending ≤ count → is_full pending journal (or_none (inputs_in body)) input ≡ true
   full_by_count le =
       let many : nat_le pending (length (or_none (inputs_in body))) ≡ true = ap (nat_le pending) (how_many body count p) ∙ grind (arith, nat_tests) in
       full_is pending journal (or_none (inputs_in body)) input true _ many refl
-
-  pub full_by_length : 2 ^ 32 ≤ length (text_of input) → is_full pending journal (or_none (inputs_in body)) input ≡ true
-  full_by_length le =
-      let size = length (spelled (or_none (inputs_in body))) + length (codec.input.write input) in
-      full_is pending journal (or_none (inputs_in body)) input _ false refl (no_room journal size (omega (arith, long_input input))) ∙ or_true (nat_le pending (length (or_none (inputs_in body))))
 
   -- how long the body is with it
   size_with : (longer : List ℕ) (size : ℕ) → longer ≡ body ++ codec.input.write input → size ≡ length longer → length (spelled (or_none (inputs_in body))) + length (codec.input.write input) ≡ size

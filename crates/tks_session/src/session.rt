@@ -8,7 +8,7 @@ use crate::fault::SessionFault;
 use crate::machine::Machine;
 use std::alloc::Global;
 use std::marker::Model;
-use tks_codec::{has_spelling, write_input};
+use tks_codec::write_input;
 use tks_disk::Disk;
 use tks_input::{Input, Refused, Reply};
 use tks_journal::Journal;
@@ -142,9 +142,6 @@ impl<D: Disk, M: Machine> Session<D, M> {
             return Err(Refused::Failed);
         }
         if self.machine.pending() <= self.waiting {
-            return Err(Refused::PendingFull);
-        }
-        if !has_spelling(input) {
             return Err(Refused::PendingFull);
         }
         let before = self.body.len();

@@ -1,10 +1,10 @@
 -- Names of commands, as names of a header.
-use Rattle.std.proofs.Common.{◌≡◌, ℕ, ◌<◌, ◌≤◌, ◌^◌, ◌==◌, ◌&&◌, ◌||◌, not, Bool, true, false, leb, ltb, List, [], ◌∷◌, length, Option, Some, None, refl, sym, ap, ◌∙◌, arith}
+use Rattle.std.proofs.Common.{◌≡◌, ℕ, ◌≤◌, ◌==◌, ◌&&◌, ◌||◌, not, Bool, true, false, leb, ltb, List, [], ◌∷◌, length, Option, Some, None, refl, sym, ap, ◌∙◌, arith}
 use Rattle.std.specs.List.{AllByRecursion, list_all}
 use Rattle.std.proofs.lemmas.Bool.{and_from, and_parts, leb-true, lt-ltb, ltb-true, le-leb, eqb-true}
 use Rattle.tks_text.specs.Text.{is_text_byte, IsText}
 use Rattle.tks_codec.specs.Header as header
-use Rattle.tks_codec.specs.Spelling.{Rise}
+use Rattle.tks_codec.specs.Spelling.{Rise, text}
 use Rattle.tks_tcl.specs.Names.{is_built_in}
 use Rattle.tks_app.specs.Applications.{is_name_byte, is_name, begins_dot, Leads, AreNames}
 
@@ -58,21 +58,14 @@ name_parts name h =
 
 -- ---- names of commands
 
-lengths : (names : List (List ℕ)) → AreNames names → AllByRecursion (λ name. length name < 2 ^ 32) names
-lengths [] are = tt
-lengths (name ∷ names) are = let parts = name_parts name are.0 in (omega (arith, parts.0), lengths names are.2)
-
 rise_behind : (name : List ℕ) (names : List (List ℕ)) → Leads name names → AreNames names → Rise (λ n. n) (Some name) names
 rise_behind name [] leads are = tt
 rise_behind name (other ∷ names) leads are = (leads, rise_behind other names are.1 are.2)
 
-rise : (names : List (List ℕ)) → AreNames names → Rise (λ n. n) None names
-rise [] are = tt
-rise (name ∷ names) are = (refl, rise_behind name names are.1 are.2)
+pub header_names : (names : List (List ℕ)) → AreNames names → header.AreNames names
+header_names [] are = tt
+header_names (name ∷ names) are = (refl, rise_behind name names are.1 are.2)
 
-pub header_names : (names : List (List ℕ)) → AreNames names → length names < 2 ^ 32 → header.AreNames names
-header_names names are few = record { count = few; lengths = lengths names are; rise = rise names are }
-
-pub header_texts : (names : List (List ℕ)) → AreNames names → AllByRecursion IsText names
+pub header_texts : (names : List (List ℕ)) → AreNames names → AllByRecursion text.Legal names
 header_texts [] are = tt
-header_texts (name ∷ names) are = let parts = name_parts name are.0 in (parts.1, header_texts names are.2)
+header_texts (name ∷ names) are = let parts = name_parts name are.0 in ((omega (arith, parts.0), parts.1), header_texts names are.2)

@@ -4,7 +4,10 @@ use Rattle.std.specs.Bool.{then_some}
 use Rattle.std.specs.Cmp.Lexicographic.{bytes_decides}
 use Rattle.tks_text.specs.Size.{Extent}
 use Rattle.tks_text.specs.Text.{same_text}
+use Rattle.tks_app.specs.Applications.{AreNames}
 use Rattle.tks_app.specs.Memories.{first_memories}
+use Rattle.tks_app.specs.declared.memories.Memory.{Memory}
+use Rattle.tks_app.proofs.Rising.{empty_each, first_in_order}
 use Rattle.tks_codec.specs.Spelling.{Read}
 use Rattle.tks_codec.specs.declared.header.Header.{Header}
 use Rattle.tks_codec_world.specs.World as codec
@@ -29,19 +32,22 @@ some_left (suc read) (byte ∷ bytes) less = some_left read bytes (omega (arith,
 
 -- ---- the first world
 
-names_are : (names : List (List ℕ)) → same_names (names_of (first_memories names)) names ≡ true
-names_are [] = refl
-names_are (name ∷ names) = ap (λ b. b && same_names (names_of (first_memories names)) names) ((bytes_decides name name).1 refl) ∙ names_are names
+each_named : (names : List (List ℕ)) → same_names (names_of (empty_each names)) names ≡ true
+each_named [] = refl
+each_named (name ∷ names) = ap (λ b. b && same_names (names_of (empty_each names)) names) ((bytes_decides name name).1 refl) ∙ each_named names
+
+names_are : (names : List (List ℕ)) → AreNames names → same_names (names_of (first_memories names)) names ≡ true
+names_are names are = ap (λ (ms : List Memory). same_names (names_of ms) names) (first_in_order names are) ∙ each_named names
 
 -- a world whose bytes are read is stored in them, behind a header with the names of its memories
 stored_alone : (names : List (List ℕ)) (world : World) (read : Read World) → read ≡ Ok (world, []) → same_names (names_of world.memories) names ≡ true → stored_in names read ≡ Some world
 stored_alone names world read is same = ap (stored_in names) is ∙ ap (λ (b : Bool). then_some b world) same
 
-pub stored_first : (h : Header) (grid : Extent) (names : List (List ℕ)) (bytes : List ℕ) → (codec.world grid).Legal (first_world grid names) → bytes ≡ spelled (first_world grid names) → h.grid ≡ grid → h.names ≡ names
+pub stored_first : (h : Header) (grid : Extent) (names : List (List ℕ)) (bytes : List ℕ) → AreNames names → (codec.world grid).Legal (first_world grid names) → bytes ≡ spelled (first_world grid names) → h.grid ≡ grid → h.names ≡ names
     → stored h bytes ≡ Some (first_world grid names)
 unfolding spelled codec.world_at
-stored_first h grid names bytes legal is same_grid same =
+stored_first h grid names bytes are legal is same_grid same =
     let first = first_world grid names in
     let reads : codec.world_at grid bytes ≡ Ok (first, []) =
     ap (codec.world grid).read (is ∙ sym (append-nil ((codec.world grid).write first))) ∙ (world_lawful grid).reads_back first [] legal in
-    (λ i. stored_in (same i) (codec.world_at (same_grid i) bytes)) ∙ stored_alone names first (codec.world_at grid bytes) reads (names_are names)
+    (λ i. stored_in (same i) (codec.world_at (same_grid i) bytes)) ∙ stored_alone names first (codec.world_at grid bytes) reads (names_are names are)

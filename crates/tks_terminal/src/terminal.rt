@@ -1,6 +1,5 @@
 //! The world within limits, with an application's commands, as a session keeps it.
-ghost use Rattle.std.specs.Prelude.{◌≡◌, ◌<◌, ◌≤◌, ◌^◌, drop, length, IfOk};
-ghost use Rattle.tks_app.specs.Applications.{AreNames};
+ghost use Rattle.std.specs.Prelude.{◌≡◌, ◌≤◌, drop, length, IfOk};
 ghost use Rattle.tks_codec_world.specs.World as codec;
 ghost use Rattle.tks_session.specs.Opening.{same_names};
 ghost use Rattle.tks_state.specs.World.{first_world};
@@ -74,10 +73,8 @@ fn is_stored(world: &World, read: usize, bytes: &[u8], names: &[Txt]) -> bool
 }
 
 // The bytes of the world before any input.
-#[tactic(auto, unfolding(crate::specs::Terminals::spelled), using(tks_codec_world::proofs::First::first_has_spelling))]
+#[tactic(auto, unfolding(crate::specs::Terminals::spelled))]
 fn first_bytes(alloc: Global, grid: Size, names: &[Txt]) -> Result<Vec<u8>, AllocError>
-    requires names { AreNames names.now }
-    requires few { length names.now < 2 ^ 32 }
     ensures value { IfOk result (λ bytes. bytes.items ≡ spelled (first_world grid names.now)) }
     ensures legal { IfOk result (λ bytes. (codec.world grid).Legal (first_world grid names.now)) }
 {

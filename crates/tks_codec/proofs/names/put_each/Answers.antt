@@ -2,7 +2,6 @@ use Rattle.std.proofs.Common.{◌++◌, ◌∷◌, [], ◌∙◌, None, ap, sym,
 use Rattle.std.specs.List.{AllByRecursion}
 use Rattle.std.proofs.lemmas.Result.{err_from_is_err_and}
 use Rattle.std.proofs.lemmas.List.{take_more}
-use Rattle.tks_text.specs.Text.{IsText}
 use Rattle.tks_codec.specs.Spelling.{members, text}
 use Rattle.tks_codec.specs.Header.{name}
 use Rattle.tks_codec.proofs.Loop.{members_more, all_more}
@@ -20,5 +19,5 @@ loop-name-preserved c =
     let x = c.name-item.result in
     let more = take_more c.args.names.now i x c.loop-name-test.true ∙ ap (λ y. take i c.args.names.now ++ y ∷ []) (sym c.name-item.is) in (
       c.in_ok-put_text.ensures.puts ∙ rw (c.loop-name.invariant.0, more, members_more name None (take i c.args.names.now) x) (append_assoc c.args.out.now.items (members name None (take i c.args.names.now)) (text.write x)),
-      subst (AllByRecursion IsText) (sym more) (all_more IsText (take i c.args.names.now) x c.loop-name.invariant.1 c.in_ok-put_text.ensures.text),
+      subst (AllByRecursion text.Legal) (sym more) (all_more text.Legal (take i c.args.names.now) x c.loop-name.invariant.1 c.in_ok-put_text.ensures.legal),
     )

@@ -11,9 +11,7 @@ loop-x-preserved g c =
     let x = c.in-Some.x.now in
     let rest = c.next.new.self in
     let is = c.in-Some.ensures.steps in
-    let short = subst (AllByRecursion g.T.Member.IsShort) is c.loop-x.invariant.short in
     record {
-      short = short.1;
       there = stays_there old c.loop-x.out.items (s.write x) c.put.new.out.items c.loop-x.invariant.there c.in_ok-put.ensures.puts;
       all = one_given s c.loop-x.out.items c.put.new.out.items (old ++ members (λ before. s) None c.args.items) c.loop-x.x-iterator x rest is c.in_ok-put.ensures.puts c.loop-x.invariant.all;
       legal = λ h. c.loop-x.invariant.legal (subst (AllByRecursion (λ y. g.T.Member.IsSound y → s.Legal y)) (sym is) (c.in_ok-put.ensures.legal, h));

@@ -1,4 +1,4 @@
-use Rattle.std.proofs.Common.{◌≡◌, ◌++◌, length, None, subst, arith}
+use Rattle.std.proofs.Common.{◌≡◌, ◌++◌, length, None, subst}
 use Rattle.std.specs.Int.{w32, to_be_bytes}
 use Rattle.tks_codec.specs.Spelling.{members}
 use Rattle.tks_codec.proofs.Loop.{each_is_legal, each_by}
@@ -12,4 +12,4 @@ returns-clause-puts g c =
 pub returns-clause-legal : goal.returns-clause-legal
 returns-clause-legal g c =
     let s = g.T.Member.spelling in
-    where_put c.put_each_item.result (λ legal sound. (omega (arith, c.requires.few, c.requires.all), each_is_legal s None c.args.items (each_by g.T.Member.IsSound s.Legal c.args.items legal sound))) c.put_each_item.ensures.legal
+    where_put c.put_each_item.result (λ legal sound. (c.requires.short, each_is_legal s None c.args.items (each_by g.T.Member.IsSound s.Legal c.args.items legal sound))) c.put_each_item.ensures.legal

@@ -12,4 +12,4 @@ returns-clause-puts g c =
 pub returns-clause-legal : goal.returns-clause-legal
 returns-clause-legal g c =
     let s = g.T.Member.spelling in
-    where_put c.put_each.result (λ legal sound. (c.requires.few, each_is_legal s None c.args.xs.now (each_by g.T.Member.IsSound s.Legal c.args.xs.now legal sound))) c.put_each.ensures.legal
+    where_put c.put_each.result (λ legal sound. (c.requires, each_is_legal s None c.args.xs.now (each_by g.T.Member.IsSound s.Legal c.args.xs.now legal sound))) c.put_each.ensures.legal

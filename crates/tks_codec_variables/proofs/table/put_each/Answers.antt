@@ -1,8 +1,9 @@
 use Rattle.std.proofs.Common.{◌++◌, ℕ, List, None, sym, subst}
 use Rattle.std.specs.List.{AllByRecursion}
+use Rattle.tks_vars.specs.Table.{HasName}
 use Rattle.tks_codec.specs.Spelling.{members}
 use Rattle.tks_codec.proofs.Loop.{one_given, stays_there}
-use Rattle.tks_codec_variables.specs.Table.{entry, HasShort, HasText}
+use Rattle.tks_codec_variables.specs.Table.{entry}
 use Rattle.tks_codec_variables.proofs.table.put_each.Goals as goal
 
 pub loop-name-preserved : goal.loop-name-preserved
@@ -18,8 +19,8 @@ loop-name-preserved g c =
     let puts = c.in_ok-put_entry.ensures.puts in
     let legal = c.in_ok-put_entry.ensures.legal in
     record {
-      short = (subst (AllByRecursion (HasShort g.X.Named.IsShort)) is c.loop-name.invariant.short).1;
+      names = (subst (AllByRecursion HasName) is c.loop-name.invariant.names).1;
       there = stays_there old now (s.write e) new c.loop-name.invariant.there puts;
       all = one_given s now new (old ++ members (λ before. s) None c.args.entries) c.loop-name.name-iterator e rest is puts c.loop-name.invariant.all;
-      legal = λ h. c.loop-name.invariant.legal (subst (AllByRecursion (λ e. HasText g.X.Named.IsSound e → s.Legal e)) (sym is) (legal, h));
+      legal = λ h. c.loop-name.invariant.legal (subst (AllByRecursion s.Legal) (sym is) (legal, h));
     }

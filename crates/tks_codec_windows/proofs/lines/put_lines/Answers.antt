@@ -1,5 +1,4 @@
 use Rattle.std.proofs.Common.{◌++◌, length, subst}
-use Rattle.tks_text.specs.Text.{IsText}
 use Rattle.tks_codec.specs.Spelling.{text, list}
 use Rattle.tks_codec.specs.Writing.{PutsSo}
 use Rattle.tks_codec.proofs.Puts.{put_behind, where_put}
@@ -22,5 +21,5 @@ returns-clause-puts c =
 pub returns-clause-legal : goal.returns-clause-legal
 returns-clause-legal c =
     let t = c.args.widget.now in
-    let chars : text.Legal t.text = (c.requires.text, subst IsText c.text.ensures c.in_ok-put_text.ensures.text) in
+    let chars : text.Legal t.text = subst text.Legal c.text.ensures c.in_ok-put_text.ensures.legal in
     where_put c.put_marks.result (λ h. lines_legal t c.marks-marks.ensures.formed chars c.in_ok-put_tags.ensures.legal (subst ((list mark).Legal) c.marks-marks.ensures.value h)) c.put_marks.ensures.legal

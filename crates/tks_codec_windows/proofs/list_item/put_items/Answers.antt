@@ -12,4 +12,4 @@ returns-clause-puts c =
     put_behind c.put_each.result c.args.out.now.items (to_be_bytes w32 (length items)) c.put_u32.new.out.items (members (λ before. item) None items) c.put_each.new.out.items c.in_ok-put_u32.ensures c.put_each.ensures.puts
 
 pub returns-clause-legal : goal.returns-clause-legal
-returns-clause-legal c = where_put c.put_each.result (λ h. (c.requires.count, each_is_legal item None c.args.items.now h)) c.put_each.ensures.legal
+returns-clause-legal c = where_put c.put_each.result (λ h. (c.requires, each_is_legal item None c.args.items.now h)) c.put_each.ensures.legal

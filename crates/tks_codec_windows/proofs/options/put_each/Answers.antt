@@ -4,8 +4,6 @@ use Rattle.tks_opt.specs.Options.{values_in_order}
 use Rattle.tks_codec.specs.Spelling.{members, text}
 use Rattle.tks_codec.proofs.Loop.{one_put, one_holds}
 use Rattle.tks_codec.proofs.Puts.{put_refused}
-use Rattle.tks_codec_windows.specs.Texts.{IsShort}
-use Rattle.tks_codec_windows.proofs.OfTexts.{holds_there}
 use Rattle.tks_codec_windows.proofs.OfOptions.{in_place}
 use Rattle.tks_codec_windows.proofs.options.put_each.Goals as goal
 
@@ -21,5 +19,5 @@ loop-index-preserved c =
     let x = c.in-Some.value.now in
     let is = in_place xs i x (sym c.in-Some.ensures) in (
       one_put (λ before. text) xs i x c.args.out.now.items c.loop-index.out.items c.put_text.new.out.items is.0 is.1 c.loop-index.invariant.0 c.in_ok-put_text.ensures.puts,
-      one_holds text.Legal xs i x is.0 is.1 c.loop-index.invariant.1 (holds_there IsShort xs i x is.0 is.1 c.requires, c.in_ok-put_text.ensures.text),
+      one_holds text.Legal xs i x is.0 is.1 c.loop-index.invariant.1 c.in_ok-put_text.ensures.legal,
     )

@@ -18,8 +18,8 @@ loop-tag-preserved c =
     let t = c.args.widget.now in
     let i = c.loop-tag.tag-index in
     let x = c.tag-item.result in
-    let lt = subst (λ ys. i < length ys) c.tags-tag-items.ensures c.loop-tag-test.true in
-    let is = subst (λ ys. x ≡ get_or ys i x) c.tags-tag-items.ensures c.tag-item.is in
+    let lt = subst (λ ys. i < length ys) c.tags-tag-items.ensures.value c.loop-tag-test.true in
+    let is = subst (λ ys. x ≡ get_or ys i x) c.tags-tag-items.ensures.value c.tag-item.is in
     let long = holds_there (λ g. length g.on ≡ length t.text) t.tags i x lt is c.requires.long in (
       one_put (λ before. tag (length t.text)) t.tags i x c.args.out.now.items c.loop-tag.out.items c.put_tag.new.out.items lt is c.loop-tag.invariant.0 (subst (λ n. c.put_tag.new.out.items ≡ c.loop-tag.out.items ++ (tag n).write x) long c.in_ok-put_tag.ensures.puts),
       one_holds ((tag (length t.text)).Legal) t.tags i x lt is c.loop-tag.invariant.1 (subst (λ n. (tag n).Legal x) long c.in_ok-put_tag.ensures.legal),

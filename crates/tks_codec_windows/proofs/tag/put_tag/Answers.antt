@@ -13,4 +13,4 @@ returns-clause-puts c =
     put_behind c.put_flags.result c.args.out.now.items (text.write g.name) c.put_text.new.out.items ((ranges (length g.on)).write (ranges_of g.on)) c.put_flags.new.out.items c.in_ok-put_text.ensures.puts c.put_flags.ensures
 
 pub returns-clause-legal : goal.returns-clause-legal
-returns-clause-legal c = anyway c.put_flags.result (tag_legal c.args.tag.now c.requires.name c.requires.flags c.in_ok-put_text.ensures.text)
+returns-clause-legal c = anyway c.put_flags.result (tag_legal c.args.tag.now c.in_ok-put_text.ensures.legal c.requires)

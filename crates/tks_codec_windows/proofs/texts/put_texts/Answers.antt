@@ -11,4 +11,4 @@ returns-clause-puts c =
     put_behind c.put_each_text.result c.args.out.now.items (to_be_bytes w32 (length texts)) c.put_u32.new.out.items (members (λ before. text) None texts) c.put_each_text.new.out.items c.in_ok-put_u32.ensures c.put_each_text.ensures.puts
 
 pub returns-clause-legal : goal.returns-clause-legal
-returns-clause-legal c = where_put c.put_each_text.result (λ h. (c.requires.count, each_is_legal text None c.args.texts.now h)) c.put_each_text.ensures.legal
+returns-clause-legal c = where_put c.put_each_text.result (λ h. (c.requires, each_is_legal text None c.args.texts.now h)) c.put_each_text.ensures.legal

@@ -1,7 +1,7 @@
-use Rattle.std.proofs.Common.{◌≡◌, ◌<◌, ◌^◌, true, refl, sym, subst, arith}
+use Rattle.std.proofs.Common.{◌<◌, ◌^◌, refl, subst, arith}
 use Rattle.tks_codec.proofs.Puts.{anyway}
 use Rattle.tks_codec_events.proofs.Holding.{held_legal}
-use Rattle.tks_codec_events.specs.Memories.{memories, are_memories}
+use Rattle.tks_codec_events.specs.Memories.{memories}
 use Rattle.tks_codec_windows.specs.Texts.{texts}
 use Rattle.tks_codec_world.specs.Ends.{press}
 use Rattle.tks_codec_world.proofs.ends.put_parts.Goals as goal
@@ -11,6 +11,6 @@ returns-clause-legal c =
     let w = c.args.world.now in
     let focus : w.focus < 2 ^ 64 = omega (arith, c.number.type_inv, c.number.ensures, c.focus.ensures) in
     let pressed = subst press.Legal c.pressed.ensures c.in_ok-put_press.ensures.legal in
-    let kept = subst (λ ms. memories.Legal ms) c.memories.ensures (c.in_ok-put_memories.ensures.legal (subst (λ ms. are_memories ms ≡ true) (sym c.memories.ensures) c.requires.memories.sound)) in
+    let kept = subst (λ ms. memories.Legal ms) c.memories.ensures c.in_ok-put_memories.ensures.legal in
     let faults = subst texts.Legal c.faults.ensures c.in_ok-put_texts.ensures.legal in
     anyway c.put_u8.result (focus, (held_legal w.held, (pressed, (kept, (faults, ((omega arith, refl), refl))))))

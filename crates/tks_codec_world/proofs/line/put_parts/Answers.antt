@@ -12,5 +12,5 @@ returns-clause-legal c =
     let k = c.args.kept.now in
     let number : w.number < 2 ^ 64 = omega (arith, c.number.type_inv, c.number.ensures) in
     let own = subst (λ o. (options o.class).Legal o) (c.options.ensures ∙ ap options_of c.get.ensures) c.in_ok-put_options.ensures.legal in
-    let os = subst (λ class. (options class).Legal (options_of k.widget)) c.requires.class own in
-    where_put c.put_rest.result (λ h. line_legal w k c.args.packing number (c.requires.path, c.in_ok-put_text.ensures.text) os h.tags h.contents h.packing h.content) c.put_rest.ensures.legal
+    let os = subst (λ class. (options class).Legal (options_of k.widget)) c.requires own in
+    where_put c.put_rest.result (λ h. line_legal w k c.args.packing number c.in_ok-put_text.ensures.legal os h.tags h.contents h.packing h.content) c.put_rest.ensures.legal

@@ -8,15 +8,14 @@ use Rattle.tks_tree.specs.View.{window_seen}
 use Rattle.tks_codec.specs.Spelling.{members}
 use Rattle.tks_codec.proofs.Loop.{one_put, one_holds}
 use Rattle.tks_codec.proofs.Puts.{put_refused}
-use Rattle.tks_codec_windows.specs.Packing.{IsPacking}
 use Rattle.tks_codec_world.specs.Line.{line, line_with}
 use Rattle.tks_codec_world.specs.Windows.{packings_of, line_of, lines_from}
 use Rattle.tks_codec_world.specs.declared.line.Line.{Line}
-use Rattle.tks_codec_world.proofs.OfWindows.{lines_count, line_at_place, class_in_step, packings_legal}
+use Rattle.tks_codec_world.proofs.OfWindows.{lines_count, line_at_place, class_in_step}
 use Rattle.tks_codec_world.proofs.windows.put_each.Goals as goal
 
-pub put_line-requires-clause-class : goal.put_line-requires-clause-class
-put_line-requires-clause-class c =
+pub put_line-requires : goal.put_line-requires
+put_line-requires c =
     let ws = c.args.tree.now.windows in
     let ks = c.args.kept.now in
     let i = c.loop-index.index in
@@ -24,10 +23,7 @@ put_line-requires-clause-class c =
     let k = c.in-Some-get.one.now in
     let here : slice_get ws i ≡ Some w = search rules in
     let one : slice_get ks i ≡ Some k = search rules in
-    class_in_step ws ks i w k c.requires.in_step here (sym (get_or_from_slice_get ks i k k one)) (omega (arith, c.loop-index-test.true))
-
-pub put_line-requires-clause-packing : goal.put_line-requires-clause-packing
-put_line-requires-clause-packing c = subst IsPacking (sym c.packed_as-packing.ensures) (packings_legal c.args.kept.now c.in-Some.window.id c.requires.short)
+    class_in_step ws ks i w k c.requires here (sym (get_or_from_slice_get ks i k k one)) (omega (arith, c.loop-index-test.true))
 
 pub returns-in_err-put_line-clause-puts : goal.returns-in_err-put_line-clause-puts
 returns-in_err-put_line-clause-puts c =
@@ -51,7 +47,7 @@ loop-index-preserved c =
     let here : slice_get ws i ≡ Some w = search rules in
     let one : slice_get ks i ≡ Some k = search rules in
     let before : i < length ks = omega (arith, c.loop-index-test.true) in
-    let lt : i < length xs = omega (arith, lines_count ps ws ks c.requires.in_step, before) in
+    let lt : i < length xs = omega (arith, lines_count ps ws ks c.requires, before) in
     let is = line_at_place ps ws ks i w k here (sym (get_or_from_slice_get ks i k k one)) before in (
       one_put (λ before. line) xs i x c.args.out.now.items now new lt is c.loop-index.invariant.0 (subst (λ p. new ≡ now ++ line.write (line_with w k p)) c.packed_as-packing.ensures c.in_ok-put_line.ensures.puts),
       one_holds line.Legal xs i x lt is c.loop-index.invariant.1 (subst (λ p. line.Legal (line_with w k p)) c.packed_as-packing.ensures c.in_ok-put_line.ensures.legal),
@@ -61,12 +57,12 @@ pub returns-clause-puts : goal.returns-clause-puts
 returns-clause-puts c =
     let ks = c.args.kept.now in
     let xs = lines_from (packings_of ks) c.args.tree.now.windows ks in
-    let all = take_all c.loop-index.index xs (omega (arith, lines_count (packings_of ks) c.args.tree.now.windows ks c.requires.in_step, c.loop-index-test.false)) in
+    let all = take_all c.loop-index.index xs (omega (arith, lines_count (packings_of ks) c.args.tree.now.windows ks c.requires, c.loop-index-test.false)) in
     c.loop-index.invariant.0 ∙ ap (λ (ls : List Line). c.args.out.now.items ++ members (λ before. line) None ls) all
 
 pub returns-clause-legal : goal.returns-clause-legal
 returns-clause-legal c =
     let ks = c.args.kept.now in
     let xs = lines_from (packings_of ks) c.args.tree.now.windows ks in
-    let all = take_all c.loop-index.index xs (omega (arith, lines_count (packings_of ks) c.args.tree.now.windows ks c.requires.in_step, c.loop-index-test.false)) in
+    let all = take_all c.loop-index.index xs (omega (arith, lines_count (packings_of ks) c.args.tree.now.windows ks c.requires, c.loop-index-test.false)) in
     subst (λ (ls : List Line). AllByRecursion line.Legal ls) all c.loop-index.invariant.1

@@ -23,7 +23,7 @@ returns-clause-puts c =
     let new = c.put_each.new.out.items in
     let lines = lines_of (windows_of w) in
     let kept = c.all_kept-kept.ensures in
-    let count = c.len.ensures ∙ ap (λ (ks : List Kept). length ks) kept ∙ sym (lines_count (packings_of w.kept) w.tree.windows w.kept c.accepted.ensures.formed.windows.in_step) in
+    let count = c.len.ensures.value ∙ ap (λ (ks : List Kept). length ks) kept ∙ sym (lines_count (packings_of w.kept) w.tree.windows w.kept c.accepted.ensures.formed.windows.in_step) in
     let same =
     ap (λ (ks : List Kept). lines_from (packings_of ks) c.tree.result.now.windows ks) kept
     ∙ ap (λ (t : tree.Windows). lines_from (packings_of w.kept) t.windows w.kept) c.tree.ensures.value in
@@ -39,5 +39,5 @@ returns-clause-legal c =
     let same =
     ap (λ (ks : List Kept). lines_from (packings_of ks) c.tree.result.now.windows ks) kept
     ∙ ap (λ (t : tree.Windows). lines_from (packings_of w.kept) t.windows w.kept) c.tree.ensures.value in
-    let few : length lines < 2 ^ 32 = omega (arith, lines_count (packings_of w.kept) w.tree.windows w.kept formed.in_step, c.requires.count) in
-    where_put c.put_each.result (λ h. windows_legal (windows_of w) formed c.requires.classes (few, each_is_legal line None lines (subst (λ (ls : List Line). AllByRecursion line.Legal ls) same h))) c.put_each.ensures.legal
+    let few : length lines < 2 ^ 32 = omega (arith, lines_count (packings_of w.kept) w.tree.windows w.kept formed.in_step, ap (λ (ks : List Kept). length ks) kept, c.len.ensures.short) in
+    where_put c.put_each.result (λ h. windows_legal (windows_of w) formed (few, each_is_legal line None lines (subst (λ (ls : List Line). AllByRecursion line.Legal ls) same h))) c.put_each.ensures.legal

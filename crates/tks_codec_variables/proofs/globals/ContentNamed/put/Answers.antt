@@ -14,4 +14,4 @@ returns-in_ok-put_presence-in-Array-clause-puts c =
 
 pub returns-in_ok-put_presence-in-Array-clause-legal : goal.returns-in_ok-put_presence-in-Array-clause-legal
 returns-in_ok-put_presence-in-Array-clause-legal c =
-    rw c.in-Array.is (where_put c.put_table.result (λ legal sound. ((omega arith, refl), (legal sound, refl))) c.put_table.ensures.legal)
+    rw c.in-Array.is (where_put c.put_table.result (λ legal. ((omega arith, refl), (legal, refl))) c.put_table.ensures.legal)

@@ -8,6 +8,6 @@ use Rattle.tks_terminal.proofs.terminal.TerminalMachine.first_bytes.Goals as goa
 pub returns-clause-stored : goal.returns-clause-stored
 returns-clause-stored g c = λ h grid names.
     let t = c.args.self.now in
-    let same = c.as_slice.ensures ∙ c.in_ok-names.ensures in
-    stored_first h t.grid t.apps c.in_ok-bytes.bytes.items (subst (λ (n : List (List ℕ)). (codec.world t.grid).Legal (first_world t.grid n)) same c.in_ok-bytes.ensures.legal)
+    let same = c.as_slice.ensures.value ∙ c.in_ok-names.ensures in
+    stored_first h t.grid t.apps c.in_ok-bytes.bytes.items c.commands.ensures.names (subst (λ (n : List (List ℕ)). (codec.world t.grid).Legal (first_world t.grid n)) same c.in_ok-bytes.ensures.legal)
     (c.in_ok-bytes.ensures.value ∙ ap (λ (n : List (List ℕ)). spelled (first_world t.grid n)) same) grid names

@@ -9,5 +9,5 @@ returns-clause-legal g c =
     let t = c.args.self.now in
     let h : Header = record { generation = c.args.generation; grid = t.grid; names = t.apps; world_length = c.args.world_length } in
     subst (λ names. headers.header.Legal (record h { names = names })) (sym c.in_ok-names.ensures)
-    (c.one_header.ensures.spelled h c.ranges.generation.fits c.width.ensures.range (header_names t.apps c.commands.ensures.names c.commands.ensures.count)
+    (c.one_header.ensures.spelled h c.ranges.generation.fits c.width.ensures.range (header_names t.apps c.commands.ensures.names) c.commands.ensures.count
     (header_texts t.apps c.commands.ensures.names) c.ranges.world_length.fits)
