@@ -15,3 +15,15 @@ def requests_in(session):
         requests.append(session[at:end])
         at = end
     return requests
+
+
+# No more than 64 inputs may wait for a commit.
+WAITING = 60
+
+
+def with_commits(session):
+    """The session with a line `commit` behind every 60 requests, if it has more."""
+    requests = requests_in(session)
+    if len(requests) <= WAITING:
+        return session
+    return b''.join(request + b'commit\n' * (number % WAITING == 0) for number, request in enumerate(requests, 1))

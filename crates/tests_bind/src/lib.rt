@@ -1,8 +1,7 @@
 //! Tests of bindings: examples as calls.
 #![tactic(auto)]
 
+#[cfg(test)]
 mod scenes;
 #[cfg(test)]
 mod tests;
-
-pub use scenes::{Keys, sequence};

@@ -1,4 +1,4 @@
-use super::*;
+use crate::scenes::{Keys, sequence};
 use std::alloc::Global;
 use tks_bind::percents;
 use tks_text::Txt;

@@ -11,6 +11,8 @@ fn grown(alloc: Global) -> Option<Txt> {
     let more = Txt::from_bytes(alloc, b"defg").ok()?;
     text.append_front(&more, 2).ok()?;
     text.append_front(&more, 5).ok()?;
+    text.append_behind(&more, 2).ok()?;
+    text.append_behind(&more, 5).ok()?;
     Some(text)
 }
 
@@ -22,8 +24,8 @@ fn grows_and_compares(alloc: Global) -> Option<bool> {
     copy.push_byte(b' ').ok()?;
     Some(
         same && copy != text
-            && text.as_bytes() == b"a\nbcdedefg".as_slice()
-            && text.len() == 10
+            && text.as_bytes() == b"a\nbcdedefgfg".as_slice()
+            && text.len() == 12
             && !text.is_empty(),
     )
 }

@@ -116,24 +116,15 @@ button_begins kind.FocusIn e value of is h = absurd cc
 button_begins kind.FocusOut e value of is h = absurd cc
 button_begins kind.Virtual e value of is h = absurd cc
 
--- events with a state may have each, at each time; those of the focus have none
-state_begins : (k : Kind) (e : Event) (s : ℕ) → has_field k field.State ≡ true → begins_with k e ≡ true → begins_with k (record e { state = s }) ≡ true
-state_begins kind.KeyPress e s of h = h
-state_begins kind.KeyRelease e s of h = h
-state_begins kind.ButtonPress e s of h = h
-state_begins kind.ButtonRelease e s of h = h
-state_begins kind.Virtual e s of h = h
-state_begins kind.FocusIn e s of h = absurd cc
-state_begins kind.FocusOut e s of h = absurd cc
-
-time_begins : (k : Kind) (e : Event) (time : ℕ) → has_field k field.Time ≡ true → begins_with k e ≡ true → begins_with k (record e { time = time }) ≡ true
-time_begins kind.KeyPress e s of h = h
-time_begins kind.KeyRelease e s of h = h
-time_begins kind.ButtonPress e s of h = h
-time_begins kind.ButtonRelease e s of h = h
-time_begins kind.Virtual e s of h = h
-time_begins kind.FocusIn e s of h = absurd cc
-time_begins kind.FocusOut e s of h = absurd cc
+-- events with a state may have each, at each time; those of the focus have none, and no time
+told_begins : (k : Kind) (e : Event) (state time : ℕ) → has_field k field.State ≡ true → begins_with k e ≡ true → begins_with k (record e { state = state; time = time }) ≡ true
+told_begins kind.KeyPress e state time of h = h
+told_begins kind.KeyRelease e state time of h = h
+told_begins kind.ButtonPress e state time of h = h
+told_begins kind.ButtonRelease e state time of h = h
+told_begins kind.Virtual e state time of h = h
+told_begins kind.FocusIn e state time of h = absurd cc
+told_begins kind.FocusOut e state time of h = absurd cc
 
 -- a virtual event alone has data
 data_begins : (k : Kind) (e : Event) (value : List ℕ) → is_virtual k ≡ true → begins_with k e ≡ true → begins_with k (record e { payload = value }) ≡ true
@@ -223,10 +214,10 @@ field_begun field.Data value e new b of h =
     let same : record e { payload = value } ≡ new = cc in
     subst Begun same (record { window = b.window; time = b.time; fields = data_begins e.kind e value of b.fields })
 field_begun field.State value e new b of h =
-    mapped (λ s. record e { state = s }) (state_of value) new Begun h (λ s is. record { window = b.window; time = b.time; fields = state_begins e.kind e s of b.fields })
+    mapped (λ s. record e { state = s }) (state_of value) new Begun h (λ s is. record { window = b.window; time = b.time; fields = told_begins e.kind e s e.time of b.fields })
 field_begun field.Time value e new b of h =
     mapped (λ t. record e { time = t }) (time_of value) new Begun h
-    (λ t is. record { window = b.window; time = time_legal (integer_of value) t is; fields = time_begins e.kind e t of b.fields })
+    (λ t is. record { window = b.window; time = time_legal (integer_of value) t is; fields = told_begins e.kind e e.state t of b.fields })
 field_begun field.Column value e new b of h =
     mapped (λ z. record e { x = z }) (place_of value) new Begun h
     (λ z is. record {

@@ -1,4 +1,4 @@
-ghost use Rattle.std.specs.Prelude.{◌≡◌, ◌+◌, ◌≤◌, ◌<◌, ◌^◌, length, drop, IfOk, OnOk, OnErr};
+ghost use Rattle.std.specs.Prelude.{◌≡◌, ◌+◌, ◌≤◌, ◌<◌, ◌^◌, length, IfOk, OnOk, OnErr};
 ghost use Rattle.tks_text.specs.Fault.{Gives};
 ghost use Rattle.tks_text.specs.declared.class.Class.TheVariants as class;
 ghost use Rattle.tks_opt.specs.Options.{configured};
@@ -188,7 +188,7 @@ impl EntryWidget {
         let mut text = Txt::new(self.alloc);
         text.append_front(&self.text, place)?;
         text.append(more)?;
-        text.append(&behind(self.alloc, &self.text, place)?)?;
+        text.append_behind(&self.text, place)?;
         self.cursor = moved_on(place, more.len(), self.cursor_place());
         self.text = text;
         Ok(())
@@ -207,7 +207,7 @@ impl EntryWidget {
         }
         let mut text = Txt::new(self.alloc);
         text.append_front(&self.text, first)?;
-        text.append(&behind(self.alloc, &self.text, last)?)?;
+        text.append_behind(&self.text, last)?;
         let cursor = moved_back(first, last, self.cursor_place());
         self.cursor = cursor as u32;
         self.text = text;
@@ -252,15 +252,4 @@ impl EntryWidget {
         let copy = self.with_text(&self.text)?;
         Ok(copy)
     }
-}
-
-// What stands in a text behind a place.
-#[tactic(auto, using(tks_text::proofs::Texts::text_drop))]
-fn behind(alloc: Global, text: &Txt, place: usize) -> Result<Txt, AllocError>
-    requires { place ≤ length text.now }
-    ensures { IfOk result (λ t. t ≡ drop place text.now) }
-{
-    let rest = text.as_bytes().split_at(place).1;
-    let rest = Txt::from_text(alloc, rest)?;
-    Ok(rest)
 }

@@ -1,5 +1,5 @@
 //! Changes of a text widget's text, marks and tags.
-ghost use Rattle.std.specs.Prelude.{◌≡◌, ◌≤◌, ◌<◌, ◌^◌, ◌+◌, true, false, length, drop, map, IfOk, OnOk, OnErr};
+ghost use Rattle.std.specs.Prelude.{◌≡◌, ◌≤◌, ◌<◌, ◌^◌, ◌+◌, true, false, length, map, IfOk, OnOk, OnErr};
 ghost use Rattle.tks_lines.specs.Lines.{cut, spliced, is_editable, at_most_last, inserted, inserted_with, deleted, with_mark, without_marks, turned_marks, with_tag, without_tags, tagged};
 
 use crate::lines::TextWidget;
@@ -11,17 +11,6 @@ use std::alloc::{AllocError, Global};
 use tks_opt::State;
 use tks_text::{Seq, Txt};
 
-// What stands in a text behind a place.
-#[tactic(auto, using(tks_text::proofs::Texts::text_drop))]
-fn behind(alloc: Global, text: &Txt, place: usize) -> Result<Txt, AllocError>
-    ensures { IfOk result (λ t. t ≡ drop place text.now) }
-{
-    let bytes = text.as_bytes();
-    let rest = bytes.split_at(place.min(bytes.len())).1;
-    let rest = Txt::from_text(alloc, rest)?;
-    Ok(rest)
-}
-
 // A text with more at a place.
 fn text_with(alloc: Global, text: &Txt, place: usize, more: &Txt) -> Result<Txt, AllocError>
     ensures { IfOk result (λ t. t ≡ spliced place more.now text.now) }
@@ -29,7 +18,7 @@ fn text_with(alloc: Global, text: &Txt, place: usize, more: &Txt) -> Result<Txt,
     let mut made = Txt::new(alloc);
     made.append_front(text, place)?;
     made.append(more)?;
-    made.append(&behind(alloc, text, place)?)?;
+    made.append_behind(text, place)?;
     Ok(made)
 }
 
@@ -39,7 +28,7 @@ fn text_without(alloc: Global, text: &Txt, first: usize, last: usize) -> Result<
 {
     let mut made = Txt::new(alloc);
     made.append_front(text, first)?;
-    made.append(&behind(alloc, text, last.max(first))?)?;
+    made.append_behind(text, last.max(first))?;
     Ok(made)
 }
 

@@ -64,3 +64,6 @@ text_take (suc n) (b ∷ bytes) h = (h.0, text_take n bytes h.1)
 
 pub text_append_take : (n : ℕ) (xs ys : List ℕ) → IsText xs → IsText ys → IsText (xs ++ take n ys)
 text_append_take n xs ys h k = text_append xs (take n ys) h (text_take n ys k)
+
+pub text_append_drop : (n : ℕ) (xs ys : List ℕ) → IsText xs → IsText ys → IsText (xs ++ drop n ys)
+text_append_drop n xs ys h k = text_append xs (drop n ys) h (text_drop n ys k)

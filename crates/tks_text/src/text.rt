@@ -1,4 +1,4 @@
-ghost use Rattle.std.specs.Prelude.{◌≡◌, ℕ, ◌↔◌, ◌++◌, [], ◌∷◌, ◌==◌, take, Some, position, length, IfOk, OnOk, OnErr, not, true, false};
+ghost use Rattle.std.specs.Prelude.{◌≡◌, ℕ, ◌↔◌, ◌++◌, [], ◌∷◌, ◌==◌, take, drop, Some, position, length, IfOk, OnOk, OnErr, not, true, false};
 ghost use Rattle.tks_text.specs.Short.{IsShort};
 ghost use Rattle.tks_text.specs.Text.{is_text_byte, is_text, IsText};
 
@@ -156,6 +156,21 @@ impl Txt {
             return Err(AllocError);
         }
         self.bytes.extend_from_slice(&bytes[..count])?;
+        Ok(())
+    }
+
+    /// Adds what is behind the first `count` bytes of a text at the end, or nothing where there are fewer.
+    #[tactic(auto, using(crate::proofs::Texts::text_append_drop))]
+    pub fn append_behind(&mut self, more: &Txt, count: usize) -> Result<(), AllocError>
+        ensures ok { OnOk result (self.new ≡ self.old ++ drop count more.now) }
+        ensures err { OnErr result (self.new ≡ self.old) }
+    {
+        let bytes = more.as_bytes();
+        let bytes = &bytes[count.min(bytes.len())..];
+        if bytes.len() > MAX_LEN - self.bytes.len() {
+            return Err(AllocError);
+        }
+        self.bytes.extend_from_slice(bytes)?;
         Ok(())
     }
 
