@@ -40,6 +40,11 @@ impl Name {
     pub(crate) fn stands(&self, bytes: &[u8]) -> Ordering
         ensures { result ≡ order bytes.now self.now }
     {
-        bytes.cmp(self.bytes.as_slice())
+        let name = self.bytes.as_slice();
+        // Most names that are looked up are there, and to be equal costs less to find than an order.
+        if bytes == name {
+            return Ordering::Equal;
+        }
+        bytes.cmp(name)
     }
 }
