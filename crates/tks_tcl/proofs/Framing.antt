@@ -14,7 +14,7 @@ use Rattle.tks_tcl.specs.Lists.{ListCommand}
 use Rattle.tks_tcl.specs.Variables.{Changed, VariableCommand, value_in, increased, appended, list_appended, without_all, silent, unset_does, answers, may_grow, stores, stores_global, link_within, with_global_links, set_does, incr_does, append_does, lappend_does, global_does, info_does, variable_named}
 use Rattle.tks_tcl.specs.Plain.{Answer, Answers, PassesLimit, Ending, with_code_0, Command, of_lists, of_variables, of_code, command_named, errs, answered}
 use Rattle.tks_tcl.specs.Laws.{LeavesFrames}
-use Rattle.tks_tcl.proofs.Named.{named_or, all_so, by_kind}
+use Rattle.tks_tcl.proofs.Named.{each_variable, all_so, by_kind}
 
 -- what follows has P, whatever it follows on
 pub follows : {X Y : Type 0} (P : Y → Type 0) (r : Result X Cause) (next : X → Result Y Cause) → ((x : X) → IfOk (next x) P) → IfOk (after r next) P
@@ -108,14 +108,7 @@ module _ (limits : Limits) where
   Stays does = (first : List ℕ) (words : List (List ℕ)) (v : Variables) → IfOk (does limits first words v) (Left v)
 
   variables_stay : (name : List ℕ) → IfSome (variable_named name) Stays
-  variables_stay name =
-      named_or Stays (same_text name (codes "append")) _ _ append_stays
-      (named_or Stays (same_text name (codes "global")) _ _ global_stays
-      (named_or Stays (same_text name (codes "incr")) _ _ incr_stays
-      (named_or Stays (same_text name (codes "info")) _ _ info_stays
-      (named_or Stays (same_text name (codes "lappend")) _ _ lappend_stays
-      (named_or Stays (same_text name (codes "set")) _ _ set_stays
-      (named_or Stays (same_text name (codes "unset")) _ _ unset_stays tt))))))
+  variables_stay = each_variable Stays append_stays global_stays incr_stays info_stays lappend_stays set_stays unset_stays
 
   -- ---- their answers
 

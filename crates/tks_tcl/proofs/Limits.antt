@@ -14,7 +14,7 @@ use Rattle.tks_tcl.specs.Lists.{ListCommand}
 use Rattle.tks_tcl.specs.Variables.{VariableCommand, answers, may_grow, stores, stores_global, link_within, with_global_links, value_in, increased, appended, list_appended, silent, set_does, incr_does, append_does, lappend_does, global_does, info_does, unset_does, variable_named}
 use Rattle.tks_tcl.specs.Plain.{Answer, Answers, PassesLimit, Ending, with_code_0, Command, of_lists, of_variables, of_code, command_named, answered, plain}
 use Rattle.tks_tcl.specs.Laws.{AnswersStay}
-use Rattle.tks_tcl.proofs.Named.{named_or, by_kind}
+use Rattle.tks_tcl.proofs.Named.{named_or, each_variable, by_kind}
 
 -- ---- values
 
@@ -148,14 +148,9 @@ module _ (limits wider : Limits) (w : Wider limits wider) where
   VariableKeeps does = (command : List ℕ) (words : List (List ℕ)) (variables : Variables) → Keeps (does limits command words variables) (does wider command words variables)
 
   variables_keep : (name : List ℕ) → IfSome (variable_named name) VariableKeeps
-  variables_keep name =
-      named_or VariableKeeps (same_text name (codes "append")) _ _ append_keeps
-      (named_or VariableKeeps (same_text name (codes "global")) _ _ global_keeps
-      (named_or VariableKeeps (same_text name (codes "incr")) _ _ incr_keeps
-      (named_or VariableKeeps (same_text name (codes "info")) _ _ info_keeps
-      (named_or VariableKeeps (same_text name (codes "lappend")) _ _ lappend_keeps
-      (named_or VariableKeeps (same_text name (codes "set")) _ _ set_keeps
-      (named_or VariableKeeps (same_text name (codes "unset")) _ _ (λ command words variables. itself (unset_does command words variables)) tt))))))
+  variables_keep =
+      each_variable VariableKeeps append_keeps global_keeps incr_keeps info_keeps lappend_keeps set_keeps
+      (λ command words variables. itself (unset_does command words variables))
 
   says_keeps : (number : ℕ) (text : List ℕ) → Keeps (says limits number text) (says wider number text)
   says_keeps number text = after_keeps (within_keeps text) (λ text. itself (Ok (number, text)))
