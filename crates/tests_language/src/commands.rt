@@ -1,7 +1,7 @@
 //! The commands that run no script, called by themselves, also under narrow limits.
 
 use std::alloc::Global;
-use tks_tcl::{is_built_in, plain};
+use tks_tcl::{ListTable, is_built_in, plain};
 use tks_text::{Limits, Seq, Txt};
 use tks_vars::Vars;
 
@@ -14,13 +14,19 @@ pub fn push_text(shown: &mut String, text: &Txt) -> Option<()> {
 }
 
 // What a command answers, its words with bars between them: its code and its text, `none`, or why it stops.
-fn answer(alloc: Global, variables: &mut Vars, words: &str, limits: &Limits) -> Option<String> {
-    let mut list = Seq::new(alloc);
+fn answer(
+    alloc: Global,
+    lists: &mut ListTable,
+    variables: &mut Vars,
+    words: &str,
+    limits: &Limits,
+) -> Option<String> {
+    let mut given = Seq::new(alloc);
     for word in words.split('|') {
-        list.push(Txt::from_bytes(alloc, word.as_bytes()).ok()?)
+        given.push(Txt::from_bytes(alloc, word.as_bytes()).ok()?)
             .ok()?;
     }
-    match plain(alloc, variables, list.as_slice(), limits) {
+    match plain(alloc, lists, variables, given.as_slice(), limits) {
         Ok(Some((code, text))) => {
             let mut shown = format!(in alloc; "{code} ").ok()?;
             push_text(&mut shown, &text)?;
@@ -32,9 +38,15 @@ fn answer(alloc: Global, variables: &mut Vars, words: &str, limits: &Limits) -> 
 }
 
 // Whether the command of a row, before its `=`, answers what stands behind that.
-fn answers(alloc: Global, variables: &mut Vars, row: &str, limits: &Limits) -> Option<bool> {
+fn answers(
+    alloc: Global,
+    lists: &mut ListTable,
+    variables: &mut Vars,
+    row: &str,
+    limits: &Limits,
+) -> Option<bool> {
     let (words, want) = row.split_once('=')?;
-    Some(answer(alloc, variables, words, limits)?.as_str() == want)
+    Some(answer(alloc, lists, variables, words, limits)?.as_str() == want)
 }
 
 #[test]
@@ -44,6 +56,7 @@ fn limits_are_kept(rt: HostRuntime) {
         items: 2,
         ..Limits::format1()
     };
+    let mut lists = ListTable::new(rt.alloc());
     let mut variables = Vars::new(rt.alloc());
     let rows =
         "set|a|1234567=0 1234567\nappend|a|8=0 12345678\nappend|a|9=too large\nset|a=0 12345678\n\
@@ -53,7 +66,7 @@ fn limits_are_kept(rt: HostRuntime) {
          set|b(z)|1=too large\nincr|c=too large\nset|b(y)|2=0 2\nglobal|a|b=0 \nexpr|1=none\nfoo=none\n=none";
     for row in rows.lines() {
         assert_eq!(rt;
-            answers(rt.alloc(), &mut variables, row, &limits),
+            answers(rt.alloc(), &mut lists, &mut variables, row, &limits),
             Some(true),
             "at {row}"
         );
@@ -62,12 +75,52 @@ fn limits_are_kept(rt: HostRuntime) {
     let rows = "global|a|b|c=too large\nset|a|1=0 1\nglobal|b=0 \nglobal|c=too large\nglobal|b=0 ";
     for row in rows.lines() {
         assert_eq!(rt;
-            answers(rt.alloc(), &mut variables, row, &limits),
+            answers(rt.alloc(), &mut lists, &mut variables, row, &limits),
             Some(true),
             "at {row}"
         );
     }
-    assert!(rt; matches!(&plain(rt.alloc(), &mut variables, &[], &limits), Ok(None)));
+    assert!(rt; matches!(&plain(rt.alloc(), &mut lists, &mut variables, &[], &limits), Ok(None)));
+}
+
+// Whether each row answers what it should, with lists that are kept from one row to the next.
+fn all_answer(alloc: Global, lists: &mut ListTable, rows: &str) -> Option<bool> {
+    let limits = Limits::format1();
+    let mut variables = Vars::new(alloc);
+    for row in rows.lines() {
+        if !answers(alloc, lists, &mut variables, row, &limits)? {
+            return Some(false);
+        }
+    }
+    Some(true)
+}
+
+// Whether lists that differ in their last element alone, more than are kept, are each read right.
+fn many_answer(alloc: Global, lists: &mut ListTable) -> Option<bool> {
+    for last in 10..40 {
+        let row =
+            format!(in alloc; "lindex|alpha beta gamma delta epsilon {last}|end=0 {last}").ok()?;
+        if !all_answer(alloc, lists, row.as_str())? {
+            return Some(false);
+        }
+    }
+    Some(true)
+}
+
+#[test]
+fn lists_are_read_right_again(rt: HostRuntime) {
+    let mut lists = ListTable::new(rt.alloc());
+    let rows = "lindex|alpha beta gamma delta epsilon zeta|5=0 zeta\nlindex|alpha beta gamma delta epsilon zeta|5=0 zeta\n\
+         lindex|alpha beta gamma delta epsilon iota|5=0 iota\nlindex|alpha beta gamma delta epsilon zeta|end=0 zeta\n\
+         llength|alpha beta gamma delta epsilon iota=0 6\nlrange|alpha beta gamma delta epsilon zeta|1|2=0 beta gamma\n\
+         lsearch|-exact|alpha beta gamma delta epsilon iota|iota=0 5\n\
+         lsearch|-exact|alpha beta gamma delta epsilon zeta|iota=0 -1\n\
+         join|alpha beta gamma delta epsilon iota|+=0 alpha+beta+gamma+delta+epsilon+iota\n\
+         llength|alpha beta gamma delta epsilon {zeta=1 E15\nllength|alpha beta gamma delta epsilon {zeta=1 E15";
+    assert_eq!(rt; all_answer(rt.alloc(), &mut lists, rows), Some(true));
+    assert_eq!(rt; many_answer(rt.alloc(), &mut lists), Some(true));
+    assert_eq!(rt; many_answer(rt.alloc(), &mut lists), Some(true));
+    assert_eq!(rt; all_answer(rt.alloc(), &mut lists, rows), Some(true));
 }
 
 // Whether a name is that of a built-in command.

@@ -15,7 +15,7 @@ use crate::procedures::{enter, run_proc};
 use crate::rest::Rest;
 use std::alloc::Global;
 use tks_parse::{Command, Left};
-use tks_tcl::{Interrupt, concatenated_within, list_in, plain, store, wrong_words};
+use tks_tcl::{Interrupt, ListTable, concatenated_within, plain, store, wrong_words};
 use tks_text::{ErrorNumber, Limits, ScriptFault, Seq, Txt, decimal_of};
 use tks_vars::Vars;
 
@@ -23,6 +23,7 @@ use tks_vars::Vars;
 #[tactic(auto, using(tks_tcl::proofs::Causes::tells))]
 fn foreach_form(
     alloc: Global,
+    lists: &ListTable,
     command: &Txt,
     words: &[Txt],
 ) -> Result<(Txt, Txt, Rest<Txt>), Interrupt>
@@ -30,7 +31,7 @@ fn foreach_form(
 {
     match words {
         [name, list, body] => {
-            let elements = list_in(alloc, list)?;
+            let elements = lists.own_list(alloc, list)?;
             let name = name.try_clone()?;
             let body = body.try_clone()?;
             Ok((name, body, Rest::of(elements.into_items())))
@@ -105,7 +106,7 @@ impl Machine {
         if let Some(control) = Control::named(command) {
             return self.run_control(alloc, host, variables, control, command, rest, limits);
         }
-        if let Some((code, text)) = plain(alloc, variables, words, limits)? {
+        if let Some((code, text)) = plain(alloc, self.table.lists(), variables, words, limits)? {
             return Ok(Now::At(Ending { code, text }));
         }
         match host.call(variables, words)? {
@@ -218,7 +219,7 @@ impl Machine {
         ensures spends { self.new.fuel ≤ self.old.fuel }
         ensures goes { GoesSo H.meaning limits.now (resume H.meaning limits.now self.old.left self.old.stack (foreach_does limits.now (evaluate H.meaning limits.now self.old.left) command.now words.now (H.state host.now) variables.old self.old.fuel)) result self.new (H.state host.now) variables.new }
     {
-        let (name, body, elements) = foreach_form(alloc, command, words)?;
+        let (name, body, elements) = foreach_form(alloc, self.table.lists(), command, words)?;
         self.next_element(alloc, host, variables, name, body, elements, limits)
     }
 

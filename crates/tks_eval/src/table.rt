@@ -7,6 +7,7 @@ use std::alloc::{AllocError, Global};
 use std::marker::Model;
 use tks_expr::{Expr, parse_expr};
 use tks_parse::{Script, parse};
+use tks_tcl::ListTable;
 use tks_text::{Failure, Txt};
 
 /// A text with the script that it spells.
@@ -78,14 +79,15 @@ impl KeptExpr {
 /// How many scripts, and how many expressions, a table keeps.
 const PLACES: usize = 32;
 
-/// Scripts and expressions that were parsed in a run, each with its text. Where no place is left, the oldest goes. Contracts
-/// see nothing of what is kept, and want of memory keeps nothing more.
+/// Scripts and expressions that were parsed in a run, each with its text, and lists that were read. Where no place is left,
+/// the oldest goes. Contracts see nothing of what is kept, and want of memory keeps nothing more.
 #[derive(Drop)]
 pub struct ParseTable {
     scripts: Vec<KeptScript>,
     exprs: Vec<KeptExpr>,
     oldest_script: usize,
     oldest_expr: usize,
+    lists: ListTable,
 }
 
 impl Model for ParseTable {
@@ -114,6 +116,7 @@ impl ParseTable {
             exprs: Vec::new(alloc),
             oldest_script: 0,
             oldest_expr: 0,
+            lists: ListTable::new(alloc),
         }
     }
 
@@ -187,5 +190,10 @@ impl ParseTable {
         let expr = parse_expr(alloc, text)?;
         let _ = self.keep_expr(text, &expr);
         Ok(expr)
+    }
+
+    /// The lists that were read.
+    pub fn lists(&mut self) -> &mut ListTable {
+        &mut self.lists
     }
 }

@@ -7,6 +7,7 @@ use crate::command::Command;
 use crate::interrupt::{Interrupt, within};
 use crate::stop::Stop;
 use crate::strings::run_string;
+use crate::table::ListTable;
 use std::alloc::Global;
 use tks_text::{Limits, ScriptFault, Txt};
 use tks_vars::Vars;
@@ -14,6 +15,7 @@ use tks_vars::Vars;
 // What a command comes to, given its first word and the others.
 fn run_command(
     alloc: Global,
+    lists: &mut ListTable,
     command: Command,
     name: &Txt,
     words: &[Txt],
@@ -29,7 +31,7 @@ fn run_command(
             Ok(ended)
         }
         Command::OfLists(command) => {
-            let text = command.run(alloc, name, words, limits)?;
+            let text = command.run(alloc, lists, name, words, limits)?;
             Ok((0, text))
         }
         Command::OfStrings => {
@@ -60,6 +62,7 @@ fn err(alloc: Global, fault: &ScriptFault, limits: &Limits) -> Result<(u8, Txt),
 /// value, a text or the list of variables would pass its limit, and `NoMemory`.
 pub fn plain(
     alloc: Global,
+    lists: &mut ListTable,
     variables: &mut Vars,
     words: &[Txt],
     limits: &Limits,
@@ -72,7 +75,7 @@ pub fn plain(
     let Some(command) = Command::named(name) else {
         return Ok(None);
     };
-    match run_command(alloc, command, name, rest, variables, limits) {
+    match run_command(alloc, lists, command, name, rest, variables, limits) {
         Ok(ended) => Ok(Some(ended)),
         Err(Interrupt::Script(fault)) => {
             let ended = err(alloc, &fault, limits)?;

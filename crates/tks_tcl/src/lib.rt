@@ -12,6 +12,7 @@ mod lists;
 mod room;
 mod stop;
 mod strings;
+mod table;
 mod variables;
 mod words;
 
@@ -24,5 +25,6 @@ pub use laws::{
 };
 pub use lists::{concatenated, concatenated_within, joined_within};
 pub use stop::Stop;
+pub use table::ListTable;
 pub use variables::{is_missing, store, store_global};
 pub use words::{integer_in, list_in};

@@ -11,7 +11,8 @@ ghost use Rattle.tks_tcl.specs.View.{list_command_of};
 use crate::index::{index_in, range};
 use crate::interrupt::{Interrupt, error_about, within, wrong_words};
 use crate::room::have_room;
-use crate::words::{count_text, list_in};
+use crate::table::ListTable;
+use crate::words::count_text;
 use std::alloc::{AllocError, Global};
 use tks_list::join;
 use tks_text::{ErrorNumber, Limits, Seq, Txt, is_space, space_len};
@@ -34,6 +35,7 @@ impl ListCommand {
     pub fn run(
         self,
         alloc: Global,
+        lists: &mut ListTable,
         command: &Txt,
         words: &[Txt],
         limits: &Limits,
@@ -42,12 +44,12 @@ impl ListCommand {
     {
         match self {
             ListCommand::Concat => concatenated_within(alloc, words, limits),
-            ListCommand::Join => run_join(alloc, command, words, limits),
-            ListCommand::Lindex => within(run_lindex(alloc, command, words)?, limits),
+            ListCommand::Join => run_join(alloc, lists, command, words, limits),
+            ListCommand::Lindex => within(run_lindex(alloc, lists, command, words)?, limits),
             ListCommand::List => list_within(alloc, words, limits),
-            ListCommand::Llength => within(run_llength(alloc, command, words)?, limits),
-            ListCommand::Lrange => within(run_lrange(alloc, command, words)?, limits),
-            ListCommand::Lsearch => within(run_lsearch(alloc, command, words)?, limits),
+            ListCommand::Llength => within(run_llength(alloc, lists, command, words)?, limits),
+            ListCommand::Lrange => within(run_lrange(alloc, lists, command, words)?, limits),
+            ListCommand::Lsearch => within(run_lsearch(alloc, lists, command, words)?, limits),
             ListCommand::Split => within(run_split(alloc, command, words)?, limits),
         }
     }
@@ -65,13 +67,18 @@ fn list_within(alloc: Global, elements: &[Txt], limits: &Limits) -> Result<Txt, 
 
 // llength l
 #[tactic(auto, using(crate::proofs::Causes::tells))]
-fn run_llength(alloc: Global, command: &Txt, words: &[Txt]) -> Result<Txt, Interrupt>
+fn run_llength(
+    alloc: Global,
+    lists: &mut ListTable,
+    command: &Txt,
+    words: &[Txt],
+) -> Result<Txt, Interrupt>
     ensures { GivesSo (λ t. t) result (llength_does command.now words.now) }
 {
     match words {
         [list] => {
-            let list = list_in(alloc, list)?;
-            Ok(count_text(alloc, list.len())?)
+            let list = lists.list(alloc, list)?;
+            Ok(count_text(alloc, list.get().len())?)
         }
         _ => Err(wrong_words(command)),
     }
@@ -89,14 +96,19 @@ fn first_or_empty(alloc: Global, list: &[Txt]) -> Result<Txt, AllocError>
 
 // lindex l i
 #[tactic(auto, using(crate::proofs::Causes::tells))]
-fn run_lindex(alloc: Global, command: &Txt, words: &[Txt]) -> Result<Txt, Interrupt>
+fn run_lindex(
+    alloc: Global,
+    lists: &mut ListTable,
+    command: &Txt,
+    words: &[Txt],
+) -> Result<Txt, Interrupt>
     ensures { GivesSo (λ t. t) result (lindex_does command.now words.now) }
 {
     match words {
         [list, index] => {
-            let list = list_in(alloc, list)?;
+            let list = lists.list(alloc, list)?;
             let index = index_in(alloc, index)?;
-            Ok(first_or_empty(alloc, range(list.as_slice(), index, index))?)
+            Ok(first_or_empty(alloc, range(list.get().as_slice(), index, index))?)
         }
         _ => Err(wrong_words(command)),
     }
@@ -104,15 +116,20 @@ fn run_lindex(alloc: Global, command: &Txt, words: &[Txt]) -> Result<Txt, Interr
 
 // lrange l a b
 #[tactic(auto, using(crate::proofs::Causes::tells))]
-fn run_lrange(alloc: Global, command: &Txt, words: &[Txt]) -> Result<Txt, Interrupt>
+fn run_lrange(
+    alloc: Global,
+    lists: &mut ListTable,
+    command: &Txt,
+    words: &[Txt],
+) -> Result<Txt, Interrupt>
     ensures { GivesSo (λ t. t) result (lrange_does command.now words.now) }
 {
     match words {
         [list, first, last] => {
-            let list = list_in(alloc, list)?;
+            let list = lists.list(alloc, list)?;
             let first = index_in(alloc, first)?;
             let last = index_in(alloc, last)?;
-            Ok(join(alloc, range(list.as_slice(), first, last))?)
+            Ok(join(alloc, range(list.get().as_slice(), first, last))?)
         }
         _ => Err(wrong_words(command)),
     }
@@ -138,24 +155,29 @@ fn place_text(alloc: Global, place: Option<usize>) -> Result<Txt, AllocError>
 }
 
 // The place of an element in a list.
-fn searched(alloc: Global, list: &Txt, value: &Txt) -> Result<Txt, Interrupt>
+fn searched(alloc: Global, lists: &mut ListTable, list: &Txt, value: &Txt) -> Result<Txt, Interrupt>
     ensures { GivesSo (λ t. t) result (searched list.now value.now) }
 {
-    let list = list_in(alloc, list)?;
-    let found = place(list.as_slice(), value);
+    let list = lists.list(alloc, list)?;
+    let found = place(list.get().as_slice(), value);
     let text = place_text(alloc, found)?;
     Ok(text)
 }
 
 // lsearch -exact l v
 #[tactic(auto, using(crate::proofs::Causes::tells))]
-fn run_lsearch(alloc: Global, command: &Txt, words: &[Txt]) -> Result<Txt, Interrupt>
+fn run_lsearch(
+    alloc: Global,
+    lists: &mut ListTable,
+    command: &Txt,
+    words: &[Txt],
+) -> Result<Txt, Interrupt>
     ensures { GivesSo (λ t. t) result (lsearch_does command.now words.now) }
 {
     match words {
         [option, list, value] => {
             if option.as_bytes() == b"-exact".as_slice() {
-                searched(alloc, list, value)
+                searched(alloc, lists, list, value)
             } else {
                 Err(error_about(ErrorNumber::UnknownOption, option))
             }
@@ -212,19 +234,25 @@ pub fn joined_within(
 
 // join l ?sep?
 #[tactic(auto, using(crate::proofs::Causes::tells))]
-fn run_join(alloc: Global, command: &Txt, words: &[Txt], limits: &Limits) -> Result<Txt, Interrupt>
+fn run_join(
+    alloc: Global,
+    lists: &mut ListTable,
+    command: &Txt,
+    words: &[Txt],
+    limits: &Limits,
+) -> Result<Txt, Interrupt>
     ensures { GivesSo (λ t. t) result (after (join_does command.now words.now) (within limits.now)) }
 {
     match words {
         [list] => {
-            let list = list_in(alloc, list)?;
+            let list = lists.list(alloc, list)?;
             let space = Txt::from_text(alloc, b" ")?;
-            let text = joined_within(alloc, list.as_slice(), &space, limits)?;
+            let text = joined_within(alloc, list.get().as_slice(), &space, limits)?;
             Ok(text)
         }
         [list, separator] => {
-            let list = list_in(alloc, list)?;
-            let text = joined_within(alloc, list.as_slice(), separator, limits)?;
+            let list = lists.list(alloc, list)?;
+            let text = joined_within(alloc, list.get().as_slice(), separator, limits)?;
             Ok(text)
         }
         _ => Err(wrong_words(command)),
