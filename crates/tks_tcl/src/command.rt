@@ -1,4 +1,5 @@
 ghost use Rattle.std.specs.Prelude.{◌≡◌, option_map};
+ghost use Rattle.tks_text.specs.Text.{same_text};
 ghost use Rattle.tks_tcl.specs.Codes.{code_named};
 ghost use Rattle.tks_tcl.specs.Lists.{list_named};
 ghost use Rattle.tks_tcl.specs.Variables.{variable_named};
@@ -20,17 +21,27 @@ pub enum Command {
     OfVariables(VariableCommand),
 }
 
+// Whether a name is this word. Most words differ in their first byte already.
+fn is(name: &[u8], word: &[u8]) -> bool
+    ensures { result ≡ same_text name.now word.now }
+{
+    match (name, word) {
+        ([c, ..], [d, ..]) if c != d => false,
+        _ => name == word,
+    }
+}
+
 // The command with a code of its own, of this name.
 fn code_named(name: &[u8]) -> Option<CodeCommand>
     ensures { option_map code_command_of result ≡ code_named name.now }
 {
-    if name == b"break".as_slice() {
+    if is(name, b"break") {
         Some(CodeCommand::Break)
-    } else if name == b"continue".as_slice() {
+    } else if is(name, b"continue") {
         Some(CodeCommand::Continue)
-    } else if name == b"error".as_slice() {
+    } else if is(name, b"error") {
         Some(CodeCommand::Error)
-    } else if name == b"return".as_slice() {
+    } else if is(name, b"return") {
         Some(CodeCommand::Return)
     } else {
         None
@@ -41,21 +52,21 @@ fn code_named(name: &[u8]) -> Option<CodeCommand>
 fn list_named(name: &[u8]) -> Option<ListCommand>
     ensures { option_map list_command_of result ≡ list_named name.now }
 {
-    if name == b"concat".as_slice() {
+    if is(name, b"concat") {
         Some(ListCommand::Concat)
-    } else if name == b"join".as_slice() {
+    } else if is(name, b"join") {
         Some(ListCommand::Join)
-    } else if name == b"lindex".as_slice() {
+    } else if is(name, b"lindex") {
         Some(ListCommand::Lindex)
-    } else if name == b"list".as_slice() {
+    } else if is(name, b"list") {
         Some(ListCommand::List)
-    } else if name == b"llength".as_slice() {
+    } else if is(name, b"llength") {
         Some(ListCommand::Llength)
-    } else if name == b"lrange".as_slice() {
+    } else if is(name, b"lrange") {
         Some(ListCommand::Lrange)
-    } else if name == b"lsearch".as_slice() {
+    } else if is(name, b"lsearch") {
         Some(ListCommand::Lsearch)
-    } else if name == b"split".as_slice() {
+    } else if is(name, b"split") {
         Some(ListCommand::Split)
     } else {
         None
@@ -66,19 +77,19 @@ fn list_named(name: &[u8]) -> Option<ListCommand>
 fn variable_named(name: &[u8]) -> Option<VariableCommand>
     ensures { option_map variable_command_of result ≡ variable_named name.now }
 {
-    if name == b"append".as_slice() {
+    if is(name, b"append") {
         Some(VariableCommand::Append)
-    } else if name == b"global".as_slice() {
+    } else if is(name, b"global") {
         Some(VariableCommand::Global)
-    } else if name == b"incr".as_slice() {
+    } else if is(name, b"incr") {
         Some(VariableCommand::Incr)
-    } else if name == b"info".as_slice() {
+    } else if is(name, b"info") {
         Some(VariableCommand::Info)
-    } else if name == b"lappend".as_slice() {
+    } else if is(name, b"lappend") {
         Some(VariableCommand::Lappend)
-    } else if name == b"set".as_slice() {
+    } else if is(name, b"set") {
         Some(VariableCommand::Set)
-    } else if name == b"unset".as_slice() {
+    } else if is(name, b"unset") {
         Some(VariableCommand::Unset)
     } else {
         None
@@ -91,7 +102,7 @@ impl Command {
         ensures { option_map command_of result ≡ command_named name.now }
     {
         let name = name.as_bytes();
-        if name == b"string".as_slice() {
+        if is(name, b"string") {
             return Some(Command::OfStrings);
         }
         if let Some(command) = variable_named(name) {
@@ -111,42 +122,42 @@ impl Command {
 fn runs_scripts(name: &[u8]) -> bool
     ensures { result ≡ runs_scripts name.now }
 {
-    name == b"catch".as_slice()
-        || name == b"eval".as_slice()
-        || name == b"expr".as_slice()
-        || name == b"for".as_slice()
-        || name == b"foreach".as_slice()
-        || name == b"if".as_slice()
-        || name == b"proc".as_slice()
-        || name == b"while".as_slice()
+    is(name, b"catch")
+        || is(name, b"eval")
+        || is(name, b"expr")
+        || is(name, b"for")
+        || is(name, b"foreach")
+        || is(name, b"if")
+        || is(name, b"proc")
+        || is(name, b"while")
 }
 
 // Whether a command of this name makes windows.
 fn makes_window(name: &[u8]) -> bool
     ensures { result ≡ makes_window name.now }
 {
-    name == b"button".as_slice()
-        || name == b"checkbutton".as_slice()
-        || name == b"entry".as_slice()
-        || name == b"frame".as_slice()
-        || name == b"label".as_slice()
-        || name == b"listbox".as_slice()
-        || name == b"text".as_slice()
+    is(name, b"button")
+        || is(name, b"checkbutton")
+        || is(name, b"entry")
+        || is(name, b"frame")
+        || is(name, b"label")
+        || is(name, b"listbox")
+        || is(name, b"text")
 }
 
 // Whether a command of this name acts on windows or events.
 fn acts_on_windows(name: &[u8]) -> bool
     ensures { result ≡ acts_on_windows name.now }
 {
-    name == b"after".as_slice()
-        || name == b"bind".as_slice()
-        || name == b"bindtags".as_slice()
-        || name == b"destroy".as_slice()
-        || name == b"event".as_slice()
-        || name == b"focus".as_slice()
-        || name == b"pack".as_slice()
-        || name == b"tk_focusNext".as_slice()
-        || name == b"tk_focusPrev".as_slice()
+    is(name, b"after")
+        || is(name, b"bind")
+        || is(name, b"bindtags")
+        || is(name, b"destroy")
+        || is(name, b"event")
+        || is(name, b"focus")
+        || is(name, b"pack")
+        || is(name, b"tk_focusNext")
+        || is(name, b"tk_focusPrev")
 }
 
 /// Whether a name is that of a built-in command, also of one that isn't there yet. No procedure has it.

@@ -1,8 +1,8 @@
 use Rattle.std.proofs.Common.{rules}
 use Rattle.tks_tcl.proofs.command.runs_scripts.Goals as goal
 
-pub returns-then-eq-7 : goal.returns-then-eq-7
-returns-then-eq-7 = search rules
+pub returns-then-is-7 : goal.returns-then-is-7
+returns-then-is-7 = search rules
 
-pub returns-else-eq-7 : goal.returns-else-eq-7
-returns-else-eq-7 = search rules
+pub returns-else-is-7 : goal.returns-else-is-7
+returns-else-is-7 = search rules
