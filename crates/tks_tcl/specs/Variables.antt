@@ -32,6 +32,10 @@ with_default default (Err fault) = if is_missing fault.number then Ok default el
 abbrev pub value_or : List ℕ → Variables → List ℕ → Result (List ℕ) Cause
 value_or default variables name = with_default default (value_of variables name)
 
+-- the integer in a variable, or 0 where it is missing
+abbrev pub integer_or_zero : Variables → List ℕ → Result ℤ Cause
+integer_or_zero variables name = after (value_or (codes "0") variables name) integer_in
+
 -- the decimal of an integer of 64 bits
 abbrev pub decimal_within : ℤ → Result (List ℕ) Cause
 decimal_within z = if fits_i64 z then Ok (signed_decimal z) else Err (Fault (bare OutOfRange))

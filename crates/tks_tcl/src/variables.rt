@@ -1,6 +1,6 @@
-ghost use Rattle.std.specs.Prelude.{◌≡◌, ◌+ℤ◌, OnErr};
+ghost use Rattle.std.specs.Prelude.{◌≡◌, ◌+ℤ◌, codes, OnErr};
 ghost use Rattle.tks_tcl.specs.Meets.{GivesSo};
-ghost use Rattle.tks_tcl.specs.Variables.{value_in, is_missing, value_or, decimal_within, increased, without_all, may_grow, stores, stores_global, link_within, with_global_links, set_does, unset_does, incr_does, append_does, lappend_does, global_does, info_does};
+ghost use Rattle.tks_tcl.specs.Variables.{value_in, is_missing, value_or, integer_or_zero, decimal_within, increased, without_all, may_grow, stores, stores_global, link_within, with_global_links, set_does, unset_does, incr_does, append_does, lappend_does, global_does, info_does};
 ghost use Rattle.tks_tcl.specs.View.{variable_command_of};
 
 use crate::growing::{add_elements, add_texts};
@@ -213,14 +213,38 @@ fn run_unset(
     Ok(Txt::new(alloc))
 }
 
+// The integer in a variable, or 0 where it is missing.
+fn integer_or_zero(variables: &Vars, name: &Txt) -> Result<i64, Interrupt>
+    ensures { GivesSo (λ z. z) result (integer_or_zero variables.now name.now) }
+{
+    match variables.get(name) {
+        Ok(value) => integer_in(value),
+        Err(Failure::Script(fault)) => {
+            if is_missing(fault.number) {
+                Ok(0)
+            } else {
+                Err(Interrupt::Script(fault))
+            }
+        }
+        Err(Failure::NoMemory) => Err(Interrupt::NoMemory),
+    }
+}
+
 // The integer in a variable, and another added.
 fn increased(alloc: Global, variables: &Vars, name: &Txt, amount: &Txt) -> Result<Txt, Interrupt>
     ensures { GivesSo (λ t. t) result (increased variables.now name.now amount.now) }
 {
-    let zero = Txt::from_text(alloc, b"0")?;
-    let value = integer_in(&value_or(zero, variables, name)?)?;
+    let value = integer_or_zero(variables, name)?;
     let amount = integer_in(amount)?;
     sum(alloc, value, amount)
+}
+
+// The integer in a variable, and 1 added.
+fn increased_by_one(alloc: Global, variables: &Vars, name: &Txt) -> Result<Txt, Interrupt>
+    ensures { GivesSo (λ t. t) result (increased variables.now name.now (codes "1")) }
+{
+    let value = integer_or_zero(variables, name)?;
+    sum(alloc, value, 1)
 }
 
 // The decimal of a sum.
@@ -247,8 +271,7 @@ fn run_incr(
 {
     match words {
         [name] => {
-            let one = Txt::from_text(alloc, b"1")?;
-            let value = increased(alloc, variables, name, &one)?;
+            let value = increased_by_one(alloc, variables, name)?;
             let value = store(variables, name, value, limits)?;
             Ok(value)
         }
