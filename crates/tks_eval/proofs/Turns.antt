@@ -1,15 +1,25 @@
 -- A loop is a test, its body and the loop again.
-use Rattle.std.proofs.Common.{◌≡◌, ◌==◌, ◌≤◌, ℕ, zero, suc, Bool, true, false, cond, List, [], Result, Ok, Err, refl, ap, arith}
+use Rattle.std.proofs.Common.{◌≡◌, ◌==◌, ◌≤◌, ℕ, zero, suc, Bool, true, false, cond, List, [], Result, Ok, Err, refl, ap, ◌∙◌, arith}
 use Rattle.tks_text.specs.declared.limits.Limits.{Limits}
 use Rattle.tks_parse.specs.Reading.{script_of}
 use Rattle.tks_vars.specs.Variables.{Variables}
 use Rattle.tks_tcl.specs.Cause.{Cause, Fault, OverLimit, value_or_fault}
+use Rattle.tks_expr.specs.Tree.{Expr}
+use Rattle.tks_expr.specs.Reading.{expr_of}
 use Rattle.tks_expr.specs.Operation.{truth_of}
 use Rattle.tks_eval.specs.Outcome.{Outcome, End, Stopped, Next, Level, after, after_body, after_next, given}
-use Rattle.tks_eval.specs.Evaluation.{Loop, if_holds, after_truth, expression_does, tested, script_does, behind_body, turn_does, turns, loop_does, done}
+use Rattle.tks_eval.specs.Evaluation.{Loop, if_holds, after_truth, value_does, expression_does, tested, script_does, behind_body, turn_does, turns, loop_does, done}
 use Rattle.tks_eval.proofs.Spending.{Spends, Thrifty, script_spends, expression_spends, optional_spends}
 
 module _ {S : Type 0} where
+  -- a test, once its step is taken and its condition is read
+  pub tested_reads : (limits : Limits) (inner : Level S) (condition : List ℕ) (first second : Next S) (state : S) (variables : Variables) (fuel less : ℕ) (e : Expr)
+      → fuel ≡ suc less → expr_of condition ≡ Ok e
+      → tested limits inner condition first second state variables fuel ≡ after_truth limits (value_does limits inner e state variables less) first second
+  tested_reads limits inner condition first second state variables fuel less e step read =
+      ap (tested limits inner condition first second state variables) step
+      ∙ ap (λ r. after_truth limits (given limits (value_or_fault r) state variables less (λ e. value_does limits inner e state variables less)) first second) read
+
   -- two ways to go on that are the same with no more steps than so many
   abbrev pub SameUpTo : ℕ → Next S → Next S → Type 0
   SameUpTo bound f g = (state : S) (variables : Variables) (fuel : ℕ) → fuel ≤ bound → f state variables fuel ≡ g state variables fuel

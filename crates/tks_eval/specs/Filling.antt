@@ -4,7 +4,7 @@ use Rattle.tks_text.specs.declared.limits.Limits.{Limits}
 use Rattle.tks_parse.specs.Tree.{Words, no_word, word, Parts, no_part, char, variable, element, nested}
 use Rattle.tks_parse.specs.View.{parts_of}
 use Rattle.tks_vars.specs.Variables.{Variables}
-use Rattle.tks_tcl.specs.Cause.{Cause, after}
+use Rattle.tks_tcl.specs.Cause.{Cause, after, value_or_fault}
 use Rattle.tks_eval.specs.Outcome.{appended}
 use Rattle.tks_eval.specs.Evaluation.{with_value, words_in}
 use Rattle.tks_eval.specs.declared.words.Inner.{Inner}
@@ -16,6 +16,8 @@ use Rattle.tks_eval.specs.declared.frame.Now.{Now}
 use Rattle.tks_eval.specs.declared.frame.Now.TheVariants as now
 use Rattle.tks_parse.specs.declared.tree.Part.{Part}
 use Rattle.tks_expr.specs.Tree.{Expr, Literal, Made, One, Two, Both, Either, Conditional}
+use Rattle.tks_expr.specs.Operation.{applied}
+use Rattle.tks_expr.specs.declared.operator.Binary.{Binary}
 
 -- the parts behind the characters and the scalars that come first, and the text with these
 abbrev pub filled : Limits → Variables → Parts → List ℕ → Result (Parts × List ℕ) Cause
@@ -85,3 +87,25 @@ operand_made limits variables (Two op a b) = Ok None
 operand_made limits variables (Both a b) = Ok None
 operand_made limits variables (Either a b) = Ok None
 operand_made limits variables (Conditional c a b) = Ok None
+
+-- what comes of a text, if there is one
+abbrev pub if_made : Option (List ℕ) → (List ℕ → Result (Option (List ℕ)) Cause) → Result (Option (List ℕ)) Cause
+if_made None next = Ok None
+if_made (Some text) next = next text
+
+-- the text of an operator between two operands that are made at once
+abbrev pub between_made : Limits → Variables → Binary → Expr → Expr → Result (Option (List ℕ)) Cause
+between_made limits variables op a b =
+    after (operand_made limits variables a) (λ left. if_made left (λ x.
+    after (operand_made limits variables b) (λ right. if_made right (λ y.
+    after (value_or_fault (applied op x y)) (λ text. Ok (Some text))))))
+
+-- the text of an expression that is an operand, or an operator between two, and is made at once
+abbrev pub value_made : Limits → Variables → Expr → Result (Option (List ℕ)) Cause
+value_made limits variables (Literal text) = Ok (Some text)
+value_made limits variables (Made parts) = operand_made limits variables (Made parts)
+value_made limits variables (One op a) = Ok None
+value_made limits variables (Two op a b) = between_made limits variables op a b
+value_made limits variables (Both a b) = Ok None
+value_made limits variables (Either a b) = Ok None
+value_made limits variables (Conditional c a b) = Ok None

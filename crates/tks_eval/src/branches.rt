@@ -1,10 +1,11 @@
 ghost use Rattle.std.specs.Prelude.{◌≡◌, ◌≤◌, ◌<◌, ◌+◌, ◌||◌, ◌∷◌, List, [], length, IfOk, IfSome, MatchOption};
 ghost use Rattle.tks_eval.specs.Outcome.{End};
 ghost use Rattle.tks_eval.specs.Branches.{Test, Condition, BehindBody, is_keyword, with_last, with_test, branches, no_branches};
-ghost use Rattle.tks_eval.specs.Evaluation.{evaluate, branches_do, if_does};
+ghost use Rattle.tks_eval.specs.Evaluation.{evaluate, script_does, branches_do, if_does};
 ghost use Rattle.tks_eval.specs.Machine.{resume, frame_weight, optional_weight, GoesSo, Falls};
 ghost use Rattle.tks_eval.specs.declared.frame.Frame.TheVariants as frame;
 
+use crate::expressions::value_at_once;
 use crate::frame::{Ending, Frame, Now};
 use crate::halt::{Halt, error_about};
 use crate::host::Host;
@@ -158,21 +159,64 @@ impl Machine {
         let Branches { tests, otherwise } = branches;
         let mut tests = tests;
         match tests.next() {
-            None => match otherwise {
-                None => Ok(Now::At(Ending {
-                    code: 0,
-                    text: Txt::new(alloc),
-                })),
-                Some(body) => Ok(Now::Open(self.table.script(alloc, &body)?)),
-            },
+            None => self.open_otherwise(alloc, host, variables, otherwise, limits),
             Some(test) => {
                 let Test { condition, body } = test;
                 let expr = self.read_condition(alloc, &condition)?;
                 let rest = Branches { tests, otherwise };
+                if let Some(text) = value_at_once(alloc, &expr, variables, limits)? {
+                    return self.after_test(alloc, host, variables, body, rest, text, limits);
+                }
                 self.stack.push(Frame::Branch { body, rest })?;
                 Ok(Now::Value(expr))
             }
         }
+    }
+
+    // Goes on with an `if`, no condition of which held.
+    fn open_otherwise<H: Host>(
+        &mut self,
+        alloc: Global,
+        host: &H,
+        variables: &Vars,
+        otherwise: Option<Txt>,
+        limits: &Limits,
+    ) -> Result<Now, Halt>
+        ensures falls { Falls result (optional_weight otherwise + 1) self.old self.new }
+        ensures goes { GoesSo H.meaning limits.now (resume H.meaning limits.now self.old.left self.old.stack (script_does (evaluate H.meaning limits.now self.old.left) otherwise (H.state host.now) variables.now self.old.fuel)) result self.new (H.state host.now) variables.now }
+    {
+        match otherwise {
+            None => Ok(Now::At(Ending {
+                code: 0,
+                text: Txt::new(alloc),
+            })),
+            Some(body) => Ok(Now::Open(self.table.script(alloc, &body)?)),
+        }
+    }
+
+    // Goes on with an `if`, a condition of which came to this text at once.
+    #[tactic(auto, using(crate::proofs::Halts::fault_halts))]
+    fn after_test<H: Host>(
+        &mut self,
+        alloc: Global,
+        host: &H,
+        variables: &Vars,
+        body: Txt,
+        rest: Branches,
+        text: Txt,
+        limits: &Limits,
+    ) -> Result<Now, Halt>
+        ensures spends { self.new.fuel ≤ self.old.fuel }
+        ensures goes { GoesSo H.meaning limits.now (resume H.meaning limits.now self.old.left (frame.Branch body rest ∷ self.old.stack) (End 0 text (H.state host.now) variables.now self.old.fuel)) result self.new (H.state host.now) variables.now }
+    {
+        if truth_of(&text)? {
+            return Ok(Now::Open(self.table.script(alloc, &body)?));
+        }
+        if rest.tests.is_empty() {
+            return self.open_otherwise(alloc, host, variables, rest.otherwise, limits);
+        }
+        self.stack.push(Frame::Branch { body, rest })?;
+        Ok(Now::At(Ending { code: 0, text }))
     }
 
     /// Goes on with an `if` behind a condition.

@@ -5,7 +5,7 @@ ghost use Rattle.tks_eval.specs.Outcome.{End};
 ghost use Rattle.tks_eval.specs.Meets.{ReadsSo};
 ghost use Rattle.tks_eval.specs.Evaluation.{evaluate, value_does, expr_does};
 ghost use Rattle.tks_eval.specs.Values.{signs_applied, truth_shown, join_on, links_do};
-ghost use Rattle.tks_eval.specs.Filling.{operand_made};
+ghost use Rattle.tks_eval.specs.Filling.{operand_made, between_made, value_made};
 ghost use Rattle.tks_tcl.specs.Meets.{GivesSo};
 ghost use Rattle.tks_eval.specs.Machine.{resume, value_weight, links_weight, value_frame_weight, GoesSo, Falls};
 ghost use Rattle.tks_expr.specs.declared.sign.Join.TheVariants as joins;
@@ -92,6 +92,57 @@ fn operand(
     }
 }
 
+// The text of an expression that is an operand, or an operator between two, and is made at once.
+#[tactic(auto, using(crate::proofs::Operands::value_under))]
+pub fn value_at_once(
+    alloc: Global,
+    expr: &Expr,
+    variables: &Vars,
+    limits: &Limits,
+) -> Result<Option<Txt>, Interrupt>
+    ensures { GivesSo (λ t. t) result (value_made limits.now variables.now expr.now) }
+{
+    match expr.node() {
+        Node::Chain(first, link, links) => {
+            if !links.as_slice().is_empty() {
+                return Ok(None);
+            }
+            match link.join {
+                Join::Of(operator) => {
+                    between(alloc, operator, first, &link.right, variables, limits)
+                }
+                Join::And => Ok(None),
+                Join::Or => Ok(None),
+            }
+        }
+        Node::Literal(_) => operand(alloc, expr, variables, limits),
+        Node::Made(_) => operand(alloc, expr, variables, limits),
+        Node::Signs(_, _, _) => Ok(None),
+        Node::Conditional(_, _, _) => Ok(None),
+    }
+}
+
+// The text of an operator between two operands that are made at once.
+fn between(
+    alloc: Global,
+    operator: Binary,
+    left: &Expr,
+    right: &Expr,
+    variables: &Vars,
+    limits: &Limits,
+) -> Result<Option<Txt>, Interrupt>
+    ensures { GivesSo (λ t. t) result (between_made limits.now variables.now operator left.now right.now) }
+{
+    let Some(left) = operand(alloc, left, variables, limits)? else {
+        return Ok(None);
+    };
+    let Some(right) = operand(alloc, right, variables, limits)? else {
+        return Ok(None);
+    };
+    let text = apply(alloc, operator, &left, &right)?;
+    Ok(Some(text))
+}
+
 impl Machine {
     // expr word ..
     #[tactic(auto, using(crate::proofs::Halts::given_halts, crate::proofs::Halts::fault_halts, crate::proofs::Halts::error_halts))]
@@ -113,6 +164,10 @@ impl Machine {
         let space = Txt::from_text(alloc, b" ")?;
         let text = joined_within(alloc, words, &space, limits)?;
         let expr = self.table.expr(alloc, &text)?;
+        if let Some(value) = value_at_once(alloc, &expr, variables, limits)? {
+            let text = result_of(alloc, &value)?;
+            return Ok(Now::At(Ending { code: 0, text }));
+        }
         self.stack.push(Frame::Value(ValueFrame::Whole))?;
         Ok(Now::Value(expr))
     }

@@ -10,6 +10,7 @@ mod frame;
 mod globals;
 mod halt;
 mod host;
+mod known;
 mod laws;
 mod loops;
 mod machine;

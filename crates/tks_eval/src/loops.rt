@@ -1,26 +1,37 @@
-ghost use Rattle.std.specs.Prelude.{◌≡◌, ◌≤◌, ◌+◌, ◌∷◌};
+ghost use Rattle.std.specs.Prelude.{◌≡◌, ◌≤◌, ◌+◌, ◌∷◌, IfOk, option_copied};
+ghost use Rattle.tks_expr.specs.Reading.{expr_of};
 ghost use Rattle.tks_eval.specs.Outcome.{End};
+ghost use Rattle.tks_eval.specs.Meets.{ReadsSo};
 ghost use Rattle.tks_eval.specs.Evaluation.{evaluate, behind_body, loop_does, while_does, for_does};
 ghost use Rattle.tks_eval.specs.Machine.{resume, loop_weight, optional_weight, GoesSo, Falls};
 ghost use Rattle.tks_eval.specs.declared.frame.Frame.TheVariants as frame;
 ghost use Rattle.tks_eval.specs.declared.loops.Stage.TheVariants as stages;
 
+use crate::expressions::value_at_once;
 use crate::frame::{Ending, Frame, Now};
 use crate::halt::{Halt, error_about};
 use crate::host::Host;
+use crate::known::{KnownExpr, KnownScript};
 use crate::machine::Machine;
-use std::alloc::Global;
+use std::alloc::{AllocError, Global};
 use std::marker::Model;
-use tks_expr::truth_of;
+use std::rc::Rc;
+use tks_expr::{Expr, truth_of};
 use tks_text::{ErrorNumber, Limits, Txt};
 use tks_vars::Vars;
 
 /// A loop: its condition, its body, and the script that a `for` runs behind that.
 #[derive(Drop)]
+struct LoopParts {
+    condition: KnownExpr,
+    body: KnownScript,
+    next: Option<KnownScript>,
+}
+
+/// A loop, whose parts are read once for all its turns, and which is small to move.
+#[derive(Drop)]
 pub struct Loop {
-    pub condition: Txt,
-    pub body: Txt,
-    pub next: Option<Txt>,
+    parts: Rc<LoopParts>,
 }
 
 impl Model for Loop {
@@ -28,7 +39,50 @@ impl Model for Loop {
 
     ghost Value = { Loop };
 
-    ghost view = { λ l. record { condition = l.condition; body = l.body; next = l.next } };
+    ghost view = { λ l. record { condition = l.parts.value.condition; body = l.parts.value.body; next = l.parts.value.next } };
+}
+
+impl Loop {
+    // The loop of these parts.
+    fn new(
+        alloc: Global,
+        condition: KnownExpr,
+        body: KnownScript,
+        next: Option<KnownScript>,
+    ) -> Result<Loop, AllocError>
+        ensures { IfOk result (λ l. l ≡ record { condition = condition; body = body; next = next }) }
+    {
+        let parts = LoopParts {
+            condition,
+            body,
+            next,
+        };
+        match Rc::new(alloc, parts) {
+            Ok(parts) => Ok(Loop { parts }),
+            Err(_) => Err(AllocError),
+        }
+    }
+
+    // The condition.
+    fn condition(&self) -> &KnownExpr
+        ensures { result.now ≡ self.now.condition }
+    {
+        &self.parts.as_ref().condition
+    }
+
+    // The body.
+    fn body(&self) -> &KnownScript
+        ensures { result.now ≡ self.now.body }
+    {
+        &self.parts.as_ref().body
+    }
+
+    // The script behind the body.
+    fn next(&self) -> Option<&KnownScript>
+        ensures { option_copied result ≡ self.now.next }
+    {
+        self.parts.as_ref().next.as_ref()
+    }
 }
 
 /// What a loop waits for.
@@ -60,11 +114,9 @@ impl Machine {
         let [condition, body] = words else {
             return Err(error_about(ErrorNumber::WrongWords, command));
         };
-        let turns = Loop {
-            condition: condition.try_clone()?,
-            body: body.try_clone()?,
-            next: None,
-        };
+        let condition = KnownExpr::read(alloc, &mut self.table, condition)?;
+        let body = KnownScript::read(alloc, &mut self.table, body)?;
+        let turns = Loop::new(alloc, condition, body, None)?;
         self.next_turn(alloc, host, variables, turns, limits)
     }
 
@@ -86,13 +138,22 @@ impl Machine {
             return Err(error_about(ErrorNumber::WrongWords, command));
         };
         let start = self.table.script(alloc, start)?;
-        let turns = Loop {
-            condition: condition.try_clone()?,
-            body: body.try_clone()?,
-            next: Some(next.try_clone()?),
-        };
+        let condition = KnownExpr::read(alloc, &mut self.table, condition)?;
+        let body = KnownScript::read(alloc, &mut self.table, body)?;
+        let next = KnownScript::read(alloc, &mut self.table, next)?;
+        let turns = Loop::new(alloc, condition, body, Some(next))?;
         self.stack.push(Frame::Turns(Stage::Start, turns))?;
         Ok(Now::Open(start))
+    }
+
+    // Takes a step, and reads a condition that is known.
+    fn read_known(&mut self, alloc: Global, condition: &KnownExpr) -> Result<Expr, Halt>
+        ensures reads { ReadsSo (expr_of condition.now) result self.old.fuel self.new.fuel }
+        ensures kept { self.new ≡ record self.old { fuel = self.new.fuel } }
+    {
+        self.take_step()?;
+        let expr = condition.expr(alloc)?;
+        Ok(expr)
     }
 
     // Goes on with the next turn of a loop.
@@ -108,7 +169,10 @@ impl Machine {
         ensures falls { Falls result 1 self.old self.new }
         ensures goes { GoesSo H.meaning limits.now (resume H.meaning limits.now self.old.left self.old.stack (loop_does limits.now (evaluate H.meaning limits.now self.old.left) turns (H.state host.now) variables.now self.old.fuel)) result self.new (H.state host.now) variables.now }
     {
-        let expr = self.read_condition(alloc, &turns.condition)?;
+        let expr = self.read_known(alloc, turns.condition())?;
+        if let Some(text) = value_at_once(alloc, &expr, variables, limits)? {
+            return self.open_body(alloc, host, variables, turns, text, limits);
+        }
         self.stack.push(Frame::Turns(Stage::Condition, turns))?;
         Ok(Now::Value(expr))
     }
@@ -162,7 +226,7 @@ impl Machine {
                 text: Txt::new(alloc),
             }));
         }
-        let body = self.table.script(alloc, &turns.body)?;
+        let body = turns.body().script()?;
         self.stack.push(Frame::Turns(Stage::Body, turns))?;
         Ok(Now::Open(body))
     }
@@ -179,10 +243,10 @@ impl Machine {
         ensures falls { Falls result (loop_weight stages.Body turns) self.old self.new }
         ensures goes { GoesSo H.meaning limits.now (resume H.meaning limits.now self.old.left self.old.stack (behind_body (evaluate H.meaning limits.now self.old.left) turns (loop_does limits.now (evaluate H.meaning limits.now self.old.left) turns) (H.state host.now) variables.now self.old.fuel)) result self.new (H.state host.now) variables.now }
     {
-        match &turns.next {
+        match turns.next() {
             None => self.next_turn(alloc, host, variables, turns, limits),
             Some(next) => {
-                let next = self.table.script(alloc, next)?;
+                let next = next.script()?;
                 self.stack.push(Frame::Turns(Stage::Next, turns))?;
                 Ok(Now::Open(next))
             }

@@ -177,28 +177,28 @@ impl Machine {
     fn open<H: Host>(
         &mut self,
         alloc: Global,
-        host: &H,
-        variables: &Vars,
+        host: &mut H,
+        variables: &mut Vars,
         script: Script,
         limits: &Limits,
     ) -> Result<Now, Halt>
+        ensures same_place { H.place host.new ≡ H.place host.old }
         ensures falls { Falls result (4 * script_size script + 2) self.old self.new }
-        ensures goes { GoesSo H.meaning limits.now (resume H.meaning limits.now self.old.left self.old.stack (evaluate H.meaning limits.now self.old.left script (H.state host.now) variables.now self.old.fuel)) result self.new (H.state host.now) variables.now }
+        ensures goes { GoesSo H.meaning limits.now (resume H.meaning limits.now self.old.left self.old.stack (evaluate H.meaning limits.now self.old.left script (H.state host.old) variables.old self.old.fuel)) result self.new (H.state host.new) variables.new }
     {
-        if self.left == 0 {
+        let levels = self.left;
+        if levels == 0 {
             return Err(Halt::Stop(Stop::Depth));
         }
-        let (commands, fault) = script.into_contents();
-        self.stack.push(Frame::Commands {
-            rest: commands,
-            fault,
-            levels: self.left,
-        })?;
         self.left -= 1;
-        Ok(Now::At(Ending {
+        let (commands, fault) = script.into_contents();
+        let begun = Ending {
             code: 0,
             text: Txt::new(alloc),
-        }))
+        };
+        self.after_command(
+            alloc, host, variables, commands, fault, levels, begun, limits,
+        )
     }
 
     // Goes on with what waited for an end.

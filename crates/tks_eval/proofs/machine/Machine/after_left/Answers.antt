@@ -6,7 +6,7 @@ use Rattle.tks_eval.specs.Machine.{resume, GoesSo}
 use Rattle.tks_eval.specs.Meets.{halt_of_failure}
 use Rattle.tks_eval.specs.Values.{told_text, links_do}
 use Rattle.tks_eval.proofs.Halts.{text_halts}
-use Rattle.tks_eval.proofs.Operands.{operand_halts, operand_is}
+use Rattle.tks_eval.proofs.Operands.{operand_halts, operand_is, operand_told}
 use Rattle.tks_eval.proofs.machine.Machine.after_left.Goals as goal
 
 pub returns-in_err-value-clause-goes : goal.returns-in_err-value-clause-goes
@@ -42,13 +42,10 @@ returns-then-is_empty-clause-goes g c =
     let level = evaluate host limits m.left in
     let state = g.H.Host.state c.args.host.now in
     let variables = c.args.variables.now in
-    let links = c.args.links in
-    let none : links ≡ [] = search rules in
+    let none : c.args.links ≡ [] = search rules in
     let made = rw c.in-Some.is at c.in_ok-value.ensures in
-    let does = operand_is limits variables level state m.fuel c.args.right c.in-Some.value made in
-    let told = ap (λ o. links_do limits level links (after o (λ y. told_text limits level (applied c.args.operator c.args.text y)))) does
-    ∙ ap (λ r. links_do limits level links (told_text limits level r state variables m.fuel)) c.in_ok-text.ensures in
-    ap (resume host limits m.left m.stack) (told ∙ ap (λ ls. links_do limits level ls (End 0 c.in_ok-text.text state variables m.fuel)) none)
+    let told = operand_told limits variables level state m.fuel c.args.links c.args.right c.in-Some.value c.in_ok-text.text (applied c.args.operator c.args.text) made c.in_ok-text.ensures in
+    ap (resume host limits m.left m.stack) (told ∙ ap (λ links. links_do limits level links (End 0 c.in_ok-text.text state variables m.fuel)) none)
 
 pub returns-clause-goes : goal.returns-clause-goes
 returns-clause-goes g c =
@@ -56,11 +53,6 @@ returns-clause-goes g c =
     let limits = c.args.limits.now in
     let m = c.args.self.now in
     let level = evaluate host limits m.left in
-    let state = g.H.Host.state c.args.host.now in
-    let variables = c.args.variables.now in
-    let links = c.args.links in
     let made = rw c.in-Some.is at c.in_ok-value.ensures in
-    let does = operand_is limits variables level state m.fuel c.args.right c.in-Some.value made in
-    let told = ap (λ o. links_do limits level links (after o (λ y. told_text limits level (applied c.args.operator c.args.text y)))) does
-    ∙ ap (λ r. links_do limits level links (told_text limits level r state variables m.fuel)) c.in_ok-text.ensures in
+    let told = operand_told limits c.args.variables.now level (g.H.Host.state c.args.host.now) m.fuel c.args.links c.args.right c.in-Some.value c.in_ok-text.text (applied c.args.operator c.args.text) made c.in_ok-text.ensures in
     rw c.in_ok-push-2.ensures.ok (ap (resume host limits m.left m.stack) told)
