@@ -23,7 +23,8 @@ fn answer(
 ) -> Option<String> {
     let mut given = Seq::new(alloc);
     for word in words.split('|') {
-        given.push(Txt::from_bytes(alloc, word.as_bytes()).ok()?)
+        given
+            .push(Txt::from_bytes(alloc, word.as_bytes()).ok()?)
             .ok()?;
     }
     match plain(alloc, lists, variables, given.as_slice(), limits) {
@@ -80,7 +81,12 @@ fn limits_are_kept(rt: HostRuntime) {
             "at {row}"
         );
     }
-    assert!(rt; matches!(&plain(rt.alloc(), &mut lists, &mut variables, &[], &limits), Ok(None)));
+    assert!(rt;
+        matches!(
+            &plain(rt.alloc(), &mut lists, &mut variables, &[], &limits),
+            Ok(None)
+        )
+    );
 }
 
 // Whether each row answers what it should, with lists that are kept from one row to the next.
@@ -98,8 +104,9 @@ fn all_answer(alloc: Global, lists: &mut ListTable, rows: &str) -> Option<bool> 
 // Whether lists that differ in their last element alone, more than are kept, are each read right.
 fn many_answer(alloc: Global, lists: &mut ListTable) -> Option<bool> {
     for last in 10..40 {
-        let row =
-            format!(in alloc; "lindex|alpha beta gamma delta epsilon {last}|end=0 {last}").ok()?;
+        let row = format!(in alloc;
+            "lindex|alpha beta gamma delta epsilon {last}|end=0 {last}"
+        ).ok()?;
         if !all_answer(alloc, lists, row.as_str())? {
             return Some(false);
         }
@@ -110,7 +117,8 @@ fn many_answer(alloc: Global, lists: &mut ListTable) -> Option<bool> {
 #[test]
 fn lists_are_read_right_again(rt: HostRuntime) {
     let mut lists = ListTable::new(rt.alloc());
-    let rows = "lindex|alpha beta gamma delta epsilon zeta|5=0 zeta\nlindex|alpha beta gamma delta epsilon zeta|5=0 zeta\n\
+    let rows =
+        "lindex|alpha beta gamma delta epsilon zeta|5=0 zeta\nlindex|alpha beta gamma delta epsilon zeta|5=0 zeta\n\
          lindex|alpha beta gamma delta epsilon iota|5=0 iota\nlindex|alpha beta gamma delta epsilon zeta|end=0 zeta\n\
          llength|alpha beta gamma delta epsilon iota=0 6\nlrange|alpha beta gamma delta epsilon zeta|1|2=0 beta gamma\n\
          lsearch|-exact|alpha beta gamma delta epsilon iota|iota=0 5\n\
