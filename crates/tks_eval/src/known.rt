@@ -1,9 +1,8 @@
-ghost use Rattle.std.specs.Prelude.{◌≡◌, IfOk};
+ghost use Rattle.std.specs.Prelude.{◌≡◌, IfOk, IfSome, Ok};
 ghost use Rattle.tks_parse.specs.Reading.{script_of};
 ghost use Rattle.tks_expr.specs.Reading.{expr_of};
 ghost use Rattle.tks_text.specs.Fault.{Gives};
 
-use crate::table::ParseTable;
 use std::alloc::{AllocError, Global};
 use std::marker::Model;
 use tks_expr::{Expr, parse_expr};
@@ -29,15 +28,11 @@ impl Model for KnownScript {
 }
 
 impl KnownScript {
-    /// The text, with its script.
-    pub fn read(
-        alloc: Global,
-        table: &mut ParseTable,
-        text: &Txt,
-    ) -> Result<KnownScript, AllocError>
+    /// This text, with its script.
+    pub fn new(text: &Txt, script: Script) -> Result<KnownScript, AllocError>
+        requires { script ≡ script_of text.now }
         ensures { IfOk result (λ k. k ≡ text.now) }
     {
-        let script = table.script(alloc, text)?;
         Ok(KnownScript {
             text: text.try_clone()?,
             script,
@@ -49,6 +44,19 @@ impl KnownScript {
         ensures { IfOk result (λ s. s ≡ script_of self.now) }
     {
         self.script.share()
+    }
+
+    /// The script, where this is its text.
+    pub fn script_of(&self, text: &Txt) -> Option<Script>
+        ensures { IfSome result (λ s. s ≡ script_of text.now) }
+    {
+        if self.text != *text {
+            return None;
+        }
+        match self.script.share() {
+            Ok(script) => Some(script),
+            Err(_) => None,
+        }
     }
 }
 
@@ -71,22 +79,15 @@ impl Model for KnownExpr {
 }
 
 impl KnownExpr {
-    /// The text, with its expression.
-    pub fn read(alloc: Global, table: &mut ParseTable, text: &Txt) -> Result<KnownExpr, AllocError>
+    /// This text, with its expression, if that is there.
+    pub fn new(text: &Txt, expr: Option<Expr>) -> Result<KnownExpr, AllocError>
+        requires { IfSome expr (λ e. expr_of text.now ≡ Ok e) }
         ensures { IfOk result (λ k. k ≡ text.now) }
     {
-        let copy = text.try_clone()?;
-        match table.expr(alloc, text) {
-            Ok(expr) => Ok(KnownExpr {
-                text: copy,
-                expr: Some(expr),
-            }),
-            Err(Failure::Script(_)) => Ok(KnownExpr {
-                text: copy,
-                expr: None,
-            }),
-            Err(Failure::NoMemory) => Err(AllocError),
-        }
+        Ok(KnownExpr {
+            text: text.try_clone()?,
+            expr,
+        })
     }
 
     /// The expression.
@@ -96,6 +97,19 @@ impl KnownExpr {
         match &self.expr {
             Some(expr) => Ok(expr.share()?),
             None => parse_expr(alloc, &self.text),
+        }
+    }
+
+    /// The expression, where this is its text.
+    pub fn expr_of(&self, text: &Txt) -> Option<Expr>
+        ensures { IfSome result (λ e. expr_of text.now ≡ Ok e) }
+    {
+        if self.text != *text {
+            return None;
+        }
+        match self.expr.as_ref()?.share() {
+            Ok(expr) => Some(expr),
+            Err(_) => None,
         }
     }
 }

@@ -114,8 +114,8 @@ impl Machine {
         let [condition, body] = words else {
             return Err(error_about(ErrorNumber::WrongWords, command));
         };
-        let condition = KnownExpr::read(alloc, &mut self.table, condition)?;
-        let body = KnownScript::read(alloc, &mut self.table, body)?;
+        let condition = self.table.known_expr(alloc, condition)?;
+        let body = self.table.known_script(alloc, body)?;
         let turns = Loop::new(alloc, condition, body, None)?;
         self.next_turn(alloc, host, variables, turns, limits)
     }
@@ -138,9 +138,9 @@ impl Machine {
             return Err(error_about(ErrorNumber::WrongWords, command));
         };
         let start = self.table.script(alloc, start)?;
-        let condition = KnownExpr::read(alloc, &mut self.table, condition)?;
-        let body = KnownScript::read(alloc, &mut self.table, body)?;
-        let next = KnownScript::read(alloc, &mut self.table, next)?;
+        let condition = self.table.known_expr(alloc, condition)?;
+        let body = self.table.known_script(alloc, body)?;
+        let next = self.table.known_script(alloc, next)?;
         let turns = Loop::new(alloc, condition, body, Some(next))?;
         self.stack.push(Frame::Turns(Stage::Start, turns))?;
         Ok(Now::Open(start))

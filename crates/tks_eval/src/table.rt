@@ -3,78 +3,13 @@ ghost use Rattle.tks_expr.specs.Reading.{expr_of};
 ghost use Rattle.tks_parse.specs.Reading.{script_of};
 ghost use Rattle.tks_text.specs.Fault.{Gives};
 
+use crate::known::{KnownExpr, KnownScript};
 use std::alloc::{AllocError, Global};
 use std::marker::Model;
 use tks_expr::{Expr, parse_expr};
 use tks_parse::{Script, parse};
 use tks_tcl::ListTable;
 use tks_text::{Failure, Txt};
-
-/// A text with the script that it spells.
-#[derive(Drop)]
-struct KeptScript {
-    text: Txt,
-    script: Script,
-}
-
-impl Model for KeptScript {
-    ghost use Rattle.std.specs.Prelude.{List, ℕ, ◌≡◌};
-    ghost use Rattle.tks_parse.specs.Reading.{script_of};
-
-    ghost Value = { List ℕ };
-
-    ghost view = { λ k. k.text };
-
-    ghost invariant = { λ k. k.script ≡ script_of k.text };
-}
-
-impl KeptScript {
-    // The script, where this is its text.
-    fn script(&self, text: &Txt) -> Option<Script>
-        ensures { IfSome result (λ s. s ≡ script_of text.now) }
-    {
-        if self.text != *text {
-            return None;
-        }
-        match self.script.share() {
-            Ok(script) => Some(script),
-            Err(_) => None,
-        }
-    }
-}
-
-/// A text with the expression that it spells.
-#[derive(Drop)]
-struct KeptExpr {
-    text: Txt,
-    expr: Expr,
-}
-
-impl Model for KeptExpr {
-    ghost use Rattle.std.specs.Prelude.{List, ℕ, ◌≡◌, Ok};
-    ghost use Rattle.tks_expr.specs.Reading.{expr_of};
-
-    ghost Value = { List ℕ };
-
-    ghost view = { λ k. k.text };
-
-    ghost invariant = { λ k. expr_of k.text ≡ Ok k.expr };
-}
-
-impl KeptExpr {
-    // The expression, where this is its text.
-    fn expr(&self, text: &Txt) -> Option<Expr>
-        ensures { IfSome result (λ e. expr_of text.now ≡ Ok e) }
-    {
-        if self.text != *text {
-            return None;
-        }
-        match self.expr.share() {
-            Ok(expr) => Some(expr),
-            Err(_) => None,
-        }
-    }
-}
 
 /// How many scripts, and how many expressions, a table keeps.
 const PLACES: usize = 32;
@@ -83,8 +18,8 @@ const PLACES: usize = 32;
 /// the oldest goes. Contracts see nothing of what is kept, and want of memory keeps nothing more.
 #[derive(Drop)]
 pub struct ParseTable {
-    scripts: Vec<KeptScript>,
-    exprs: Vec<KeptExpr>,
+    scripts: Vec<KnownScript>,
+    exprs: Vec<KnownExpr>,
     oldest_script: usize,
     oldest_expr: usize,
     lists: ListTable,
@@ -124,10 +59,7 @@ impl ParseTable {
     fn keep_script(&mut self, text: &Txt, script: &Script) -> Result<(), AllocError>
         requires { script.now ≡ script_of text.now }
     {
-        let kept = KeptScript {
-            text: text.try_clone()?,
-            script: script.share()?,
-        };
+        let kept = KnownScript::new(text, script.share()?)?;
         self.oldest_script = keep(&mut self.scripts, self.oldest_script, kept);
         Ok(())
     }
@@ -137,7 +69,7 @@ impl ParseTable {
         ensures { IfSome result (λ s. s ≡ script_of text.now) }
     {
         for kept in self.scripts.as_slice() {
-            if let Some(script) = kept.script(text) {
+            if let Some(script) = kept.script_of(text) {
                 return Some(script);
             }
         }
@@ -160,10 +92,7 @@ impl ParseTable {
     fn keep_expr(&mut self, text: &Txt, expr: &Expr) -> Result<(), AllocError>
         requires { expr_of text.now ≡ Ok expr.now }
     {
-        let kept = KeptExpr {
-            text: text.try_clone()?,
-            expr: expr.share()?,
-        };
+        let kept = KnownExpr::new(text, Some(expr.share()?))?;
         self.oldest_expr = keep(&mut self.exprs, self.oldest_expr, kept);
         Ok(())
     }
@@ -173,7 +102,7 @@ impl ParseTable {
         ensures { IfSome result (λ e. expr_of text.now ≡ Ok e) }
     {
         for kept in self.exprs.as_slice() {
-            if let Some(expr) = kept.expr(text) {
+            if let Some(expr) = kept.expr_of(text) {
                 return Some(expr);
             }
         }
@@ -190,6 +119,25 @@ impl ParseTable {
         let expr = parse_expr(alloc, text)?;
         let _ = self.keep_expr(text, &expr);
         Ok(expr)
+    }
+
+    /// A text with the script that it spells.
+    pub fn known_script(&mut self, alloc: Global, text: &Txt) -> Result<KnownScript, AllocError>
+        ensures { IfOk result (λ k. k ≡ text.now) }
+    {
+        let script = self.script(alloc, text)?;
+        KnownScript::new(text, script)
+    }
+
+    /// A text with the expression that it spells, if it spells one.
+    pub fn known_expr(&mut self, alloc: Global, text: &Txt) -> Result<KnownExpr, AllocError>
+        ensures { IfOk result (λ k. k ≡ text.now) }
+    {
+        match self.expr(alloc, text) {
+            Ok(expr) => KnownExpr::new(text, Some(expr)),
+            Err(Failure::Script(_)) => KnownExpr::new(text, None),
+            Err(Failure::NoMemory) => Err(AllocError),
+        }
     }
 
     /// The lists that were read.
