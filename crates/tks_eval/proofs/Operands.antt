@@ -156,6 +156,13 @@ expr_reads limits inner state variables fuel first (w ∷ words) text e some joi
     ap (λ r. given limits r state variables fuel (λ text. result_told limits (expression_does limits inner text state variables fuel))) joins
     ∙ ap (λ r. result_told limits (given limits (value_or_fault r) state variables fuel (λ e. value_does limits inner e state variables fuel))) read
 
+-- and its value is made at once
+pub expr_is : {S : Type 0} (limits : Limits) (inner : Level S) (state : S) (variables : Variables) (fuel : ℕ) (first : List ℕ) (words : List (List ℕ)) (text : List ℕ) (e : Expr) (value : List ℕ)
+    → (length words == 0) ≡ false → within limits (joined_by (codes " ") words) ≡ Ok text → expr_of text ≡ Ok e → value_made limits variables e ≡ Ok (Some value)
+    → expr_does limits inner first words state variables fuel ≡ result_told limits (End 0 value state variables fuel)
+expr_is limits inner state variables fuel first words text e value some joins read made =
+    expr_reads limits inner state variables fuel first words text e some joins read ∙ ap (result_told limits) (value_is limits variables inner state fuel e value made)
+
 module _ {S : Type 0} (host : Meaning S) (limits : Limits) (m : Machine) (state : S) (variables : Variables) where
   -- a text that isn't there, with more behind it
   made_halts : (links : List Link) (outcome : Outcome S) (made : Result (Option (List ℕ)) Cause) (or : Option (List ℕ) → Outcome S) (next : List ℕ → Next S) (why : Interrupt)

@@ -44,7 +44,7 @@ fn keep<T: Drop>(items: &mut Vec<T>, oldest: usize, item: T) -> usize {
 }
 
 impl ParseTable {
-    /// Nothing kept.
+    /// Nothing kept. A table is seen as nothing at all, so there is nothing that a clause could tell of one.
     pub fn new(alloc: Global) -> ParseTable {
         ParseTable {
             scripts: Vec::new(alloc),

@@ -65,7 +65,7 @@ impl Model for ListTable {
 }
 
 impl ListTable {
-    /// Nothing kept.
+    /// Nothing kept. A table is seen as nothing at all, so there is nothing that a clause could tell of one.
     pub fn new(alloc: Global) -> ListTable {
         ListTable {
             lists: Vec::new(alloc),

@@ -10,7 +10,7 @@ use Rattle.tks_eval.specs.Machine.{resume, GoesSo}
 use Rattle.tks_eval.specs.Meets.{ReadsSo, halt_of_interrupt}
 use Rattle.tks_eval.proofs.Halts.{test_halts}
 use Rattle.tks_eval.proofs.Operands.{value_is, value_halts}
-use Rattle.tks_eval.proofs.Turns.{tested_reads}
+use Rattle.tks_eval.proofs.Turns.{branches_read}
 use Rattle.tks_eval.proofs.machine.Machine.next_branch.Goals as goal
 
 pub returns-in_err-expr-in-Some-clause-goes : goal.returns-in_err-expr-in-Some-clause-goes
@@ -45,8 +45,8 @@ returns-in_err-text-in-Some-clause-goes g c =
     let condition : c.test.inside.condition ≡ test.condition = ap (λ (t : Test). t.condition) c.test.view_is in
     let e = c.in_ok-expr-in-Some.expr in
     let read = rw condition at c.in_ok-expr-in-Some.ensures.reads.1 in
-    let does = ap (λ ts. branches_do limits inner c.args.branches.otherwise ts state variables old.fuel) tests
-    ∙ tested_reads limits inner test.condition first second state variables old.fuel m.fuel e c.in_ok-expr-in-Some.ensures.reads.0 read in
+    let does = branches_read limits inner c.args.branches.otherwise test c.args.branches.tests c.next.new.self state variables old.fuel m.fuel e
+    tests c.in_ok-expr-in-Some.ensures.reads.0 read in
     let why = c.in_err-text-in-Some.field-0.0 in
     let halts = value_halts host limits (record old { fuel = m.fuel }) state variables e
     (λ text state variables fuel. given limits (value_or_fault (truth_of text)) state variables fuel (λ holds. if_holds holds first second state variables fuel))
@@ -75,8 +75,8 @@ returns-in-Some-2-clause-goes g c =
     let e = c.in_ok-expr-in-Some.expr in
     let read = rw condition at c.in_ok-expr-in-Some.ensures.reads.1 in
     let made = rw c.in-Some-2.is at c.in_ok-text-in-Some.ensures in
-    let does = ap (λ ts. branches_do limits inner c.args.branches.otherwise ts state variables old.fuel) tests
-    ∙ tested_reads limits inner test.condition first second state variables old.fuel m.fuel e c.in_ok-expr-in-Some.ensures.reads.0 read
+    let does = branches_read limits inner c.args.branches.otherwise test c.args.branches.tests c.next.new.self state variables old.fuel m.fuel e
+    tests c.in_ok-expr-in-Some.ensures.reads.0 read
     ∙ ap (λ o. after_truth limits o first second) (value_is limits variables inner state m.fuel e c.in-Some-2.text made) in
     let goes = rw (c.read_condition.ensures.kept, body, otherwise) at c.after_test.ensures.goes in
     rw does goes

@@ -3,11 +3,11 @@ use Rattle.tks_expr.specs.Operation.{result_of}
 use Rattle.tks_tcl.specs.Cause.{value_or_fault, within}
 use Rattle.tks_tcl.specs.Lists.{joined_by}
 use Rattle.tks_eval.specs.Outcome.{End, given}
-use Rattle.tks_eval.specs.Evaluation.{evaluate, result_told}
+use Rattle.tks_eval.specs.Evaluation.{evaluate}
 use Rattle.tks_eval.specs.Machine.{resume, GoesSo}
 use Rattle.tks_eval.specs.Meets.{halt_of_failure, halt_of_interrupt}
 use Rattle.tks_eval.proofs.Halts.{fault_halts}
-use Rattle.tks_eval.proofs.Operands.{expr_reads, value_is, value_halts}
+use Rattle.tks_eval.proofs.Operands.{expr_reads, expr_is, value_halts}
 use Rattle.tks_eval.proofs.machine.Machine.run_expr.Goals as goal
 
 pub returns-in_err-value-clause-goes : goal.returns-in_err-value-clause-goes
@@ -38,14 +38,12 @@ returns-in_err-text-2-clause-goes g c =
     let variables = c.args.variables.now in
     let some : (length c.args.words.now == 0) ≡ false = search rules in
     let joins : within limits (joined_by (codes " ") c.args.words.now) ≡ Ok c.in_ok-text.text = search rules in
-    let e = c.in_ok-expr.expr in
     let value = c.in-Some.value in
     let made = rw c.in-Some.is at c.in_ok-value.ensures in
-    let reads = expr_reads limits inner state variables m.fuel c.args.command.now c.args.words.now c.in_ok-text.text e some joins c.in_ok-expr.ensures
-    ∙ ap (result_told limits) (value_is limits variables inner state m.fuel e value made) in
+    let does = expr_is limits inner state variables m.fuel c.args.command.now c.args.words.now c.in_ok-text.text c.in_ok-expr.expr value some joins c.in_ok-expr.ensures made in
     let why = c.in_err-text-2.field-0.0 in
     let halts = fault_halts host limits m state variables (λ t. t) (result_of value) (λ result. End 0 result state variables m.fuel) why c.in_err-text-2.ensures in
-    let whole = subst (λ o. GoesSo host limits (resume host limits m.left m.stack o) (Err (halt_of_failure why)) m state variables) (sym reads) halts in
+    let whole = subst (λ o. GoesSo host limits (resume host limits m.left m.stack o) (Err (halt_of_failure why)) m state variables) (sym does) halts in
     search rules
 
 pub returns-in-Some-clause-goes : goal.returns-in-Some-clause-goes
@@ -58,8 +56,6 @@ returns-in-Some-clause-goes g c =
     let variables = c.args.variables.now in
     let some : (length c.args.words.now == 0) ≡ false = search rules in
     let joins : within limits (joined_by (codes " ") c.args.words.now) ≡ Ok c.in_ok-text.text = search rules in
-    let e = c.in_ok-expr.expr in
     let made = rw c.in-Some.is at c.in_ok-value.ensures in
-    ap (resume host limits m.left m.stack) (expr_reads limits inner state variables m.fuel c.args.command.now c.args.words.now c.in_ok-text.text e some joins c.in_ok-expr.ensures
-    ∙ ap (result_told limits) (value_is limits variables inner state m.fuel e c.in-Some.value made)
+    ap (resume host limits m.left m.stack) (expr_is limits inner state variables m.fuel c.args.command.now c.args.words.now c.in_ok-text.text c.in_ok-expr.expr c.in-Some.value some joins c.in_ok-expr.ensures made
     ∙ ap (λ r. given limits (value_or_fault r) state variables m.fuel (λ result. End 0 result state variables m.fuel)) c.in_ok-text-2.ensures)
