@@ -1,4 +1,4 @@
-# Makes the rows of crates/rows_event: `xvfb-run -a wish8.6 tools/rows/events.tcl FOLDER` writes FOLDER/stdin and
+# Makes rows of crates/rows_parts: `xvfb-run -a wish8.6 tools/rows/events.tcl FOLDER` writes FOLDER/stdin and
 # FOLDER/stdout.
 #
 # What a text spells is asked of wish 8.6.13: `bind . TEXT x; bind .`. Its answer is then put into this project's

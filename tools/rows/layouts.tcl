@@ -1,5 +1,5 @@
 # Layouts drawn by a fixed generator of random numbers, each with what Tk makes of it, a pixel standing for a cell:
-# `xvfb-run -a wish layouts.tcl 3000`. crates/rows_windows/src/layout.rt says how a layout and its answer are
+# `xvfb-run -a wish layouts.tcl 3000`. crates/rows_parts/src/layout.rt says how a layout and its answer are
 # written. Tk has no frame that asks for less than a pixel, so no layout has one.
 
 set seed 11

@@ -1,4 +1,4 @@
-# Writes the rows of crates/rows_readers: what scripts and expressions are read as, and calls on variables.
+# Writes rows of crates/rows_parts: what scripts and expressions are read as, and calls on variables.
 #
 #     tclsh readers.tcl FOLDER
 #

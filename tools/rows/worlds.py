@@ -1,6 +1,6 @@
 #!/usr/bin/env python3
 """Worlds as bytes, from plain descriptions of them: `python3 tools/rows/worlds.py BASE` writes BASE.in and BASE.out for
-crates/rows_worlds. `python3 tools/rows/worlds.py told` writes the first world's bytes with a word to each part, as in
+crates/rows. `python3 tools/rows/worlds.py told` writes the first world's bytes with a word to each part, as in
 docs/FORMAT.md.
 
 Each world is told twice: by the lines that lead to it, and field by field, worked out by hand from the pages of docs. The
@@ -276,9 +276,9 @@ def told_world(it):
 # ---- what is written
 
 def rows(base):
-    given, wanted = ['Sessions, and the bytes of the worlds that they leave: written by tools/rows/worlds.py.'], []
+    given, wanted = [], []
     for world in WORLDS:
-        heading = '== %d %d %s' % (world['grid'] + (world['title'],))
+        heading = '== world %d %d %s' % (world['grid'] + (world['title'],))
         spelling = b''.join(part for part, _ in told_world(world)).hex()
         given += [heading] + world['lines']
         wanted += [heading] + [spelling[at:at + 64] for at in range(0, len(spelling), 64)]

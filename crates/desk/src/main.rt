@@ -6,18 +6,17 @@ ghost use Rattle.tks_app.specs.declared.answer.AppAnswer.{AppAnswer};
 ghost use Rattle.tks_desk.specs.Own.{next_of, swap_of};
 
 use std::alloc::{AllocError, Global};
-use std::fs::File;
-use std::io::{BufReader, BufWriter, Write};
+use std::io::{BufRead, BufReader, BufWriter, Write};
 use std::process::ExitCode;
 use tks_app::{AppAnswer, AppBody, AppClosure};
 use tks_desk::{
-    CommandLine, Own, RunFault, command_line, next_number, own_apps, put_fault, run, status_of,
+    CommandLine, RunEnd, RunFault, command_line, next_number, own_apps, put_fault, run, status_of,
     swap_word,
 };
-use tks_disk::{FileDisk, FileDiskFault};
+use tks_disk::{Disk, FileDisk, FileDiskFault};
 use tks_session::{Session, SessionFault};
 use tks_terminal::Terminal;
-use tks_text::{Limits, Txt};
+use tks_text::{Limits, Size, Txt};
 
 /// The status where reading or writing a standard stream failed.
 const BAD_STREAM: u8 = 3;
@@ -65,45 +64,58 @@ fn serve<B: AppBody>(rt: HostRuntime, words: &CommandLine, next: B, swap: B) -> 
     let Ok(mut writer) = BufWriter::new(alloc, rt.stdout()) else {
         return ExitCode::from(NO_MEMORY);
     };
-    let mut session = match opened(&rt, alloc, words, next, swap) {
-        Ok(session) => session,
-        Err(fault) => return ended_by(&mut writer, &fault),
-    };
-    match run(alloc, &mut reader, &mut writer, &mut session) {
-        Ok(_) => ExitCode::SUCCESS,
-        Err(RunFault::Read | RunFault::Write) => ExitCode::from(BAD_STREAM),
-        Err(RunFault::Memory) => ended_by(&mut writer, &SessionFault::NoMemory),
-        Err(RunFault::Session(fault)) => ended_by(&mut writer, &fault),
+    match FileDisk::open(&rt, alloc, words.store.as_str()) {
+        Ok(disk) => serve_on(
+            alloc,
+            &mut reader,
+            &mut writer,
+            disk,
+            words.grid,
+            next,
+            swap,
+        ),
+        Err(FileDiskFault::NoMemory) => ended_by(&mut writer, &SessionFault::NoMemory),
+        Err(FileDiskFault::Device) => ended_by(&mut writer, &SessionFault::Disk),
     }
 }
 
-// Opens the session in the store, within the limits of format 1.
-fn opened<B: AppBody>(
-    rt: &HostRuntime,
+// Serves a reader and a writer, over the session on this disk, within the limits of format 1.
+fn serve_on<R: BufRead, W: Write, D: Disk + Drop, B: AppBody>(
     alloc: Global,
-    words: &CommandLine,
+    reader: &mut R,
+    writer: &mut W,
+    disk: D,
+    grid: Size,
     next: B,
     swap: B,
-) -> Result<Session<FileDisk<File>, Terminal<Own, B>>, SessionFault>
+) -> ExitCode
     requires next { B.callable next × ((memory : List ℕ) (words : List (List ℕ)) (a : AppAnswer) → B.may_answer next memory words a → a ≡ next_of memory words) }
     requires swap { B.callable swap × ((memory : List ℕ) (words : List (List ℕ)) (a : AppAnswer) → B.may_answer swap memory words a → a ≡ swap_of memory words) }
 {
-    let disk = match FileDisk::open(rt, alloc, words.store.as_str()) {
-        Ok(disk) => disk,
-        Err(FileDiskFault::NoMemory) => return Err(SessionFault::NoMemory),
-        Err(FileDiskFault::Device) => return Err(SessionFault::Disk),
-    };
     let Ok(apps) = own_apps(alloc, next, swap) else {
-        return Err(SessionFault::NoMemory);
+        return ended_by(writer, &SessionFault::NoMemory);
     };
     let terminal = Terminal {
         limits: Limits::format1(),
-        grid: words.grid,
+        grid,
         apps,
     };
     match Session::open(alloc, disk, terminal) {
-        Ok(session) => Ok(session),
-        Err(refused) => Err(refused.fault),
+        Ok(mut session) => {
+            let end = run(alloc, reader, writer, &mut session);
+            status_behind(writer, &end)
+        }
+        Err(refused) => ended_by(writer, &refused.fault),
+    }
+}
+
+// The status behind a run; a fault of the session's own is written as the last line.
+fn status_behind<W: Write>(writer: &mut W, end: &Result<RunEnd, RunFault>) -> ExitCode {
+    match end {
+        Ok(_) => ExitCode::SUCCESS,
+        Err(RunFault::Read | RunFault::Write) => ExitCode::from(BAD_STREAM),
+        Err(RunFault::Memory) => ended_by(writer, &SessionFault::NoMemory),
+        Err(RunFault::Session(fault)) => ended_by(writer, fault),
     }
 }
 

@@ -1,23 +1,34 @@
-//! Runs each session of its input from fresh, and writes what it answers.
+//! Runs each session of its input from fresh, and writes what it comes to.
 //!
-//! A session is a line `== WIDTH HEIGHT TITLE`, with the size of its grid, and then its own lines, up to
-//! the next such line. The line with the size is repeated, and the answers follow it. What stands before
-//! the first session is passed over.
+//! A session is a line `== WIDTH HEIGHT TITLE`, with the size of its grid, and then its own lines, up to the next such line. The
+//! line with the size is repeated, and the answers follow it. Behind a line `== world WIDTH HEIGHT TITLE` nothing of the answers
+//! is written, but the bytes of the world that the lines leave, in hex, and whether they are sound: they are read back, no cut of
+//! them is a world, and with a byte changed they are another world or none. (`tools/rows/worlds.py` makes the bytes that are
+//! wanted from the table of docs/FORMAT.md.) What stands before the first session is passed over.
+//!
+//! With the words `damage COUNT SEED` it draws so many damaged spellings of each world instead of changing its bytes in turn, and
+//! writes how many are worlds still, where each of them is sound: `tools/damaged_worlds` runs it so.
 #![tactic(auto)]
+
+mod damage;
+mod sound;
+mod worlds;
 
 ghost use Rattle.std.specs.Prelude.{◌≡◌, ℕ, List, IfOk};
 ghost use Rattle.tks_app.specs.declared.answer.AppAnswer.{AppAnswer};
 ghost use Rattle.tks_desk.specs.Own.{next_of, swap_of};
 
 use std::alloc::{AllocError, Global};
+use std::env;
 use std::io::{Read, Write};
 use std::process::ExitCode;
 use tks_app::{AppAnswer, AppBody, AppClosure};
-use tks_desk::{next_number, own_apps, run, swap_word};
-use tks_disk::MemoryDisk;
+use tks_desk::{Own, next_number, own_apps, run, swap_word};
+use tks_disk::{Disk, MemoryDisk};
 use tks_session::Session;
 use tks_terminal::Terminal;
 use tks_text::{Limits, Size, Txt};
+use worlds::{Task, put_world};
 
 /// What begins a session, behind a newline.
 const HEADING: &str = "\n== ";
@@ -34,7 +45,8 @@ fn main(rt: HostRuntime) -> ExitCode {
     let Ok(sessions) = String::from_utf8(read) else {
         return ExitCode::FAILURE;
     };
-    let mut answers = Vec::new(alloc);
+    let task = task_of(&rt);
+    let mut written = Vec::new(alloc);
     for session in sessions.as_str().split(HEADING).skip(1) {
         let next = Box::new(
             alloc,
@@ -48,51 +60,74 @@ fn main(rt: HostRuntime) -> ExitCode {
                 ensures { IfOk result (λ a. a ≡ swap_of memory.now words.now) }
             { swap_word(alloc, memory, words) },
         );
-        let answered = match (next, swap) {
+        let is_put = match (next, swap) {
             (Ok(next), Ok(swap)) => {
                 let next: AppClosure = next;
                 let swap: AppClosure = swap;
-                answer(alloc, session, next, swap, &mut answers).is_some()
+                let disk = MemoryDisk::new(alloc);
+                put_session(alloc, session, disk, next, swap, &task, &mut written).is_some()
             }
             _ => false,
         };
-        if !answered {
+        if !is_put {
             return ExitCode::FAILURE;
         }
     }
-    match rt.stdout().write_all(answers.as_slice()) {
+    match rt.stdout().write_all(written.as_slice()) {
         Ok(()) => ExitCode::SUCCESS,
         Err(_) => ExitCode::FAILURE,
     }
 }
 
-// Adds the heading of a session and what its lines answer.
-fn answer<B: AppBody>(
+// The task that the words name, if they do.
+fn task_of(rt: &HostRuntime) -> Option<Task> {
+    let mut words = env::args(rt).ok()?.skip(1);
+    if words.next()?.as_str() != "damage" {
+        return None;
+    }
+    let count = words.next()?.parse::<u64>().ok()?;
+    let seed = words.next()?.parse::<u64>().ok()?;
+    Some(Task { count, seed })
+}
+
+// Adds the heading of a session, and what it comes to on this disk, an empty one, with commands of these closures.
+fn put_session<D: Disk + Drop, B: AppBody>(
     alloc: Global,
     session: &str,
+    disk: D,
     next: B,
     swap: B,
-    answers: &mut Vec<u8>,
+    task: &Option<Task>,
+    written: &mut Vec<u8>,
 ) -> Option<()>
     requires next { B.callable next × ((memory : List ℕ) (words : List (List ℕ)) (a : AppAnswer) → B.may_answer next memory words a → a ≡ next_of memory words) }
     requires swap { B.callable swap × ((memory : List ℕ) (words : List (List ℕ)) (a : AppAnswer) → B.may_answer swap memory words a → a ≡ swap_of memory words) }
 {
     let (heading, lines) = session.split_once('\n').unwrap_or((session, ""));
-    answers.extend_from_slice(b"== ").ok()?;
-    answers.extend_from_slice(heading.as_bytes()).ok()?;
-    answers.push(b'\n').ok()?;
+    put_heading(heading, written)?;
+    let of_world = heading.strip_prefix("world ");
     let terminal = Terminal {
         limits: Limits {
             pending: PENDING,
             ..Limits::format1()
         },
-        grid: grid_of(heading)?,
+        grid: grid_of(of_world.unwrap_or(heading))?,
         apps: own_apps(alloc, next, swap).ok()?,
     };
-    let mut session = Session::open(alloc, MemoryDisk::new(alloc), terminal).ok()?;
-    let mut lines = lines.as_bytes();
-    run(alloc, &mut lines, answers, &mut session).ok()?;
-    Some(())
+    match Session::open(alloc, disk, terminal) {
+        Ok(mut session) if of_world.is_some() => {
+            put_world_left(alloc, &mut session, lines, task, written)
+        }
+        Ok(mut session) => put_answers(alloc, &mut session, lines, written),
+        Err(_) => None,
+    }
+}
+
+// Adds the line that a session begins with.
+fn put_heading(heading: &str, written: &mut Vec<u8>) -> Option<()> {
+    written.extend_from_slice(b"== ").ok()?;
+    written.extend_from_slice(heading.as_bytes()).ok()?;
+    written.push(b'\n').ok()
 }
 
 // The size of the grid at the front of a heading.
@@ -101,4 +136,29 @@ fn grid_of(heading: &str) -> Option<Size> {
     let width = words.next()?.parse::<u16>().ok()?;
     let height = words.next()?.parse::<u16>().ok()?;
     Size::new(width, height)
+}
+
+// Adds what a session answers to lines.
+fn put_answers<D: Disk, B: AppBody>(
+    alloc: Global,
+    session: &mut Session<D, Terminal<Own, B>>,
+    lines: &str,
+    written: &mut Vec<u8>,
+) -> Option<()> {
+    let mut lines = lines.as_bytes();
+    run(alloc, &mut lines, written, session).ok()?;
+    Some(())
+}
+
+// Adds the bytes of the world that lines leave, and what is told of them.
+fn put_world_left<D: Disk, B: AppBody>(
+    alloc: Global,
+    session: &mut Session<D, Terminal<Own, B>>,
+    lines: &str,
+    task: &Option<Task>,
+    written: &mut Vec<u8>,
+) -> Option<()> {
+    let mut answers = Vec::new(alloc);
+    put_answers(alloc, session, lines, &mut answers)?;
+    put_world(alloc, session.world(), task, written)
 }

@@ -10,6 +10,14 @@ pub enum Read {
     Bad(usize),
 }
 
+/// Whether bytes came of it, just these.
+pub fn is(spelled: Option<Vec<u8>>, bytes: &[u8]) -> bool {
+    match spelled {
+        Some(spelled) => spelled.as_slice() == bytes,
+        None => false,
+    }
+}
+
 /// An input's spelling behind other bytes, which stay.
 pub fn input_spelled(alloc: Global, input: &Input) -> Option<Vec<u8>> {
     let mut out = Vec::from_slice(alloc, b"!").ok()?;

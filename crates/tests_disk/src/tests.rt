@@ -11,14 +11,39 @@ fn any_left(dice: &mut Dice) -> Left {
     }
 }
 
-// What a crash leaves of each side, and that it is all synced: a further crash leaves the same.
+// Whether both sides have what the plain program says that a crash leaves of them.
+fn sides_agree<D: Disk>(
+    alloc: Global,
+    disk: &mut D,
+    plain: &Plain,
+    left: (Left, Left),
+) -> Option<bool> {
+    let of_a = plain.left(alloc, Side::A, left.0).ok()?;
+    let of_b = plain.left(alloc, Side::B, left.1).ok()?;
+    Some(reads_as(disk, Side::A, &of_a)? && reads_as(disk, Side::B, &of_b)?)
+}
+
+// Whether a further crash leaves the same: all was synced.
+fn all_is_synced(
+    alloc: Global,
+    disk: &MemoryDisk,
+    plain: &Plain,
+    left: (Left, Left),
+    dice: &mut Dice,
+) -> Option<bool> {
+    match disk.crash(alloc, any_left(dice), any_left(dice)) {
+        Ok(mut again) => sides_agree(alloc, &mut again, plain, left),
+        Err(_) => None,
+    }
+}
+
+// What a crash leaves of each side, and that it is all synced.
 fn crash_agrees(alloc: Global, disk: &MemoryDisk, plain: &Plain, dice: &mut Dice) -> Option<bool> {
-    let (a, b) = (any_left(dice), any_left(dice));
-    let left = disk.crash(alloc, a, b).ok()?;
-    let mut again = left.crash(alloc, any_left(dice), any_left(dice)).ok()?;
-    let of_a = plain.left(alloc, Side::A, a).ok()?;
-    let of_b = plain.left(alloc, Side::B, b).ok()?;
-    Some(reads_as(&mut again, Side::A, &of_a)? && reads_as(&mut again, Side::B, &of_b)?)
+    let left = (any_left(dice), any_left(dice));
+    match disk.crash(alloc, left.0, left.1) {
+        Ok(crashed) => all_is_synced(alloc, &crashed, plain, left, dice),
+        Err(_) => None,
+    }
 }
 
 #[test]

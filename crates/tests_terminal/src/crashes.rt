@@ -1,28 +1,29 @@
 //! What a commit writes, and what a crash leaves of it.
 
-use crate::own::{Body, bytes_of, left_by, opens_and_tells, terminal, told};
+use crate::own::{bytes_of, crash_tells, left_by, terminal, told};
 use std::alloc::Global;
+use tks_app::AppBody;
 use tks_desk::Own;
-use tks_disk::{Fuse, Left, MemoryDisk, Side};
+use tks_disk::{Disk, Fuse, Left, MemoryDisk, Side};
 use tks_session::Session;
 use tks_terminal::Terminal;
 use tks_text::Limits;
 
-fn format1(alloc: Global) -> Option<Terminal<Own, Body>> {
-    terminal(alloc, 3, Limits::format1())
-}
-
 // An open gate, the frame's length, the input, and the next gate, closed.
 const FRAME: &[u8] = b"\x01\0\0\0\x0c\x01\0\0\0\x07set x 5\0";
 
+// The first side that lines leave.
+fn side_left(alloc: Global, lines: &[u8]) -> Option<Vec<u8>> {
+    match left_by(alloc, lines) {
+        Some(mut disk) => bytes_of(alloc, &mut disk, Side::A),
+        None => None,
+    }
+}
+
 // Whether the commit of a script puts just this frame behind the side's first gate.
 fn frame(alloc: Global) -> Option<bool> {
-    let before = bytes_of(alloc, &mut left_by(alloc, b"commit\n")?, Side::A)?;
-    let after = bytes_of(
-        alloc,
-        &mut left_by(alloc, b"cmd set x 5\ncommit\n")?,
-        Side::A,
-    )?;
+    let before = side_left(alloc, b"commit\n")?;
+    let after = side_left(alloc, b"cmd set x 5\ncommit\n")?;
     let (gate, front) = before.as_slice().split_last()?;
     Some(*gate == 0 && after.as_slice().strip_prefix(front)? == FRAME)
 }
@@ -32,18 +33,29 @@ fn a_commit_writes_a_frame(rt: HostRuntime) {
     assert_eq!(rt; frame(rt.alloc()), Some(true));
 }
 
+// Whether the commit of `set a 2` is told on a disk, and the disk behind it.
+fn commit_on<D: Disk + Drop, B: AppBody>(
+    alloc: Global,
+    disk: D,
+    terminal: Terminal<Own, B>,
+) -> (bool, D) {
+    match Session::open(alloc, disk, terminal) {
+        Ok(mut session) => {
+            let is_posted = told(alloc, &mut session, b"cmd set a 2\n").is_some();
+            let is_told = is_posted && session.commit().is_ok();
+            (is_told, session.close().0)
+        }
+        Err(refused) => (false, refused.disk),
+    }
+}
+
 // A store with `set a 1`, on which `set a 2` is posted and committed, stopped after so many calls of the disk: whether the
 // commit was told, and the disk.
 fn second_commit(alloc: Global, calls: u64) -> Option<(bool, MemoryDisk)> {
+    let terminal = terminal(alloc, 3, Limits::format1())?;
     let disk = left_by(alloc, b"cmd set a 1\ncommit\n")?;
-    match Session::open(alloc, Fuse::new(disk, calls), format1(alloc)?) {
-        Ok(mut session) => {
-            told(alloc, &mut session, b"cmd set a 2\n")?;
-            let is_told = session.commit().is_ok();
-            Some((is_told, session.close().0.into_inner()))
-        }
-        Err(refused) => Some((false, refused.disk.into_inner())),
-    }
+    let (is_told, fuse) = commit_on(alloc, Fuse::new(disk, calls), terminal);
+    Some((is_told, fuse.into_inner()))
 }
 
 // With how many calls the commit is told.
@@ -56,16 +68,10 @@ fn calls_of_commit(alloc: Global) -> Option<u64> {
     None
 }
 
-// Whether what such a crash leaves opens to this value behind so many inputs.
-fn leaves(alloc: Global, disk: &MemoryDisk, left: Left, want: &[u8]) -> Option<bool> {
-    let crashed = disk.crash(alloc, left, Left::Old).ok()?;
-    opens_and_tells(alloc, crashed, format1(alloc)?, b"cmd set a\n", want)
-}
-
-// Whether each of these crashes leaves what opens so.
+// Whether each of these crashes leaves what opens to this value behind so many inputs.
 fn all_leave(alloc: Global, disk: &MemoryDisk, rows: &[(Left, &[u8])]) -> Option<bool> {
     for (left, want) in rows {
-        if !leaves(alloc, disk, *left, want)? {
+        if !crash_tells(alloc, disk, *left, b"cmd set a\n", want)? {
             return Some(false);
         }
     }
@@ -75,10 +81,11 @@ fn all_leave(alloc: Global, disk: &MemoryDisk, rows: &[(Left, &[u8])]) -> Option
 // The same of a commit that is stopped after so many calls, and whether it is told.
 fn stopped(alloc: Global, calls: u64, is_told: bool, rows: &[(Left, &[u8])]) -> Option<bool> {
     let (was_told, disk) = second_commit(alloc, calls)?;
-    if was_told != is_told {
-        return Some(false);
+    if was_told == is_told {
+        all_leave(alloc, &disk, rows)
+    } else {
+        Some(false)
     }
-    all_leave(alloc, &disk, rows)
 }
 
 // A commit is two writes, each with a sync behind it. With the first write the gate stays out of what is torn, whatever byte it
@@ -110,11 +117,9 @@ fn a_commit_that_is_torn(rt: HostRuntime) {
 fn restarted(alloc: Global) -> Option<bool> {
     let lines =
         b"cmd app.next\ncmd app.next\ncmd app.swap kept\ncommit\ncmd app.next; app.swap lost\n";
-    let disk = left_by(alloc, lines)?
-        .crash(alloc, Left::Old, Left::Old)
-        .ok()?;
+    let disk = left_by(alloc, lines)?;
     let more = b"cmd app.next\ncmd app.swap other\n";
-    opens_and_tells(alloc, disk, format1(alloc)?, more, b"ok 4 3\nok 5 kept\n")
+    crash_tells(alloc, &disk, Left::Old, more, b"ok 4 3\nok 5 kept\n")
 }
 
 #[test]

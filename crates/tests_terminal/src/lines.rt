@@ -1,11 +1,12 @@
 //! Runs over readers and writers that a row has not: such as break, are narrow, or hold long lines.
 
-use crate::own::{Body, left_by, opens_and_tells, terminal};
+use crate::own::{crash_tells, left_by, terminal};
 use std::alloc::Global;
 use std::io;
 use std::io::{BufRead, ErrorKind, Read, Write};
+use tks_app::AppBody;
 use tks_desk::{Own, RunEnd, RunFault, run};
-use tks_disk::{Left, MemoryDisk};
+use tks_disk::{Disk, Left, MemoryDisk};
 use tks_session::Session;
 use tks_terminal::Terminal;
 use tks_text::Limits;
@@ -87,19 +88,24 @@ fn told(end: &Result<RunEnd, RunFault>) -> &'static str {
     }
 }
 
-// A session of a grid of 20 by 3 on an empty disk.
-fn fresh_session(alloc: Global) -> Option<Session<MemoryDisk, Terminal<Own, Body>>> {
-    let terminal = terminal(alloc, 3, Limits::format1())?;
-    Session::open(alloc, MemoryDisk::new(alloc), terminal).ok()
-}
-
-// What a fresh session writes for an input, and then how the run ends.
-fn talk<R: BufRead>(alloc: Global, reader: &mut R) -> Option<Vec<u8>> {
-    let mut session = fresh_session(alloc)?;
+// What a session on an empty disk writes for an input, and then how the run ends.
+fn talk_on<D: Disk + Drop, B: AppBody, R: BufRead>(
+    alloc: Global,
+    disk: D,
+    terminal: Terminal<Own, B>,
+    reader: &mut R,
+) -> Option<Vec<u8>> {
+    let mut session = Session::open(alloc, disk, terminal).ok()?;
     let mut written = Vec::new(alloc);
     let end = run(alloc, reader, &mut written, &mut session);
     written.extend_from_slice(told(&end).as_bytes()).ok()?;
     Some(written)
+}
+
+// The same of one with a grid of 20 by 3.
+fn talk<R: BufRead>(alloc: Global, reader: &mut R) -> Option<Vec<u8>> {
+    let terminal = terminal(alloc, 3, Limits::format1())?;
+    talk_on(alloc, MemoryDisk::new(alloc), terminal, reader)
 }
 
 // Whether a reader is answered so.
@@ -225,9 +231,9 @@ fn a_reader_that_breaks(rt: HostRuntime) {
 
 // Whether a session's run over these lines ends with its writer, which takes so many bytes and perhaps doesn't flush, and
 // whether this is what it took by then.
-fn ends_with_its_writer(
+fn ends_with_its_writer<D: Disk, B: AppBody>(
     alloc: Global,
-    session: &mut Session<MemoryDisk, Terminal<Own, Body>>,
+    session: &mut Session<D, Terminal<Own, B>>,
     lines: &[u8],
     most: usize,
     flushes: bool,
@@ -244,11 +250,24 @@ fn ends_with_its_writer(
     told(&end) == "write fault" && writer.held.as_slice() == want
 }
 
-// The same of a fresh session.
-fn breaks(alloc: Global, most: usize, flushes: bool, want: &[u8]) -> Option<bool> {
-    let mut session = fresh_session(alloc)?;
+// The same of a session on an empty disk.
+fn breaks_on<D: Disk + Drop, B: AppBody>(
+    alloc: Global,
+    disk: D,
+    terminal: Terminal<Own, B>,
+    most: usize,
+    flushes: bool,
+    want: &[u8],
+) -> Option<bool> {
+    let mut session = Session::open(alloc, disk, terminal).ok()?;
     let lines = b"cmd set x 5\ncmd set x 6\ncmd set x 7\n";
     Some(ends_with_its_writer(alloc, &mut session, lines, most, flushes, want))
+}
+
+// The same of one with a grid of 20 by 3.
+fn breaks(alloc: Global, most: usize, flushes: bool, want: &[u8]) -> Option<bool> {
+    let terminal = terminal(alloc, 3, Limits::format1())?;
+    breaks_on(alloc, MemoryDisk::new(alloc), terminal, most, flushes, want)
 }
 
 #[test]
@@ -278,28 +297,42 @@ const DRAINED: &[u8] =
     b"ok 1 after#2\nok 2 timer after#0\nok 3 timer after#1\nok 4 timer after#2\ndrained 3\n";
 
 // Whether a session that goes on behind such a run answers a line as behind all three turns.
-fn has_drained(alloc: Global, session: &mut Session<MemoryDisk, Terminal<Own, Body>>) -> bool {
+fn has_drained<D: Disk, B: AppBody>(
+    alloc: Global,
+    session: &mut Session<D, Terminal<Own, B>>,
+) -> bool {
     let mut reader: &[u8] = b"cmd set r\n";
     let mut written = Vec::new(alloc);
     let end = run(alloc, &mut reader, &mut written, session);
     told(&end) == "end" && written.as_slice() == b"ok 5 abc\n".as_slice()
 }
 
-// Whether a run whose writer breaks behind so many bytes, inside a `drain`, writes nothing more, runs the turns that are
-// left, and ends with that fault.
-fn drains_on(alloc: Global, most: usize) -> Option<bool> {
-    let mut session = fresh_session(alloc)?;
+// Whether a run on an empty disk whose writer breaks behind so many bytes, inside a `drain`, writes nothing more, runs the
+// turns that are left, and ends with that fault.
+fn drains_on<D: Disk + Drop, B: AppBody>(
+    alloc: Global,
+    disk: D,
+    terminal: Terminal<Own, B>,
+    most: usize,
+) -> Option<bool> {
     let (front, _) = DRAINED.split_at_checked(most)?;
+    let mut session = Session::open(alloc, disk, terminal).ok()?;
     Some(
         ends_with_its_writer(alloc, &mut session, DRAINING, most, true, front)
             && has_drained(alloc, &mut session),
     )
 }
 
+// The same of one with a grid of 20 by 3.
+fn drains(alloc: Global, most: usize) -> Option<bool> {
+    let terminal = terminal(alloc, 3, Limits::format1())?;
+    drains_on(alloc, MemoryDisk::new(alloc), terminal, most)
+}
+
 #[test]
 fn a_writer_that_breaks_in_a_drain(rt: HostRuntime) {
     for most in [13, 20, 32, 50, 70, 79] {
-        assert_eq!(rt; drains_on(rt.alloc(), most), Some(true), "at {most}");
+        assert_eq!(rt; drains(rt.alloc(), most), Some(true), "at {most}");
     }
 }
 
@@ -333,16 +366,8 @@ fn committed_stands(alloc: Global) -> Option<bool> {
     let second = b"cmd set x\nscreen\ncommit\n";
     let want =
         b"ok 3 5\n|        old         |\n|                    |\n|                    |\ncommitted 3\n";
-    let left = left_by(alloc, first)?
-        .crash(alloc, Left::Old, Left::Old)
-        .ok()?;
-    opens_and_tells(
-        alloc,
-        left,
-        terminal(alloc, 3, Limits::format1())?,
-        second,
-        want,
-    )
+    let disk = left_by(alloc, first)?;
+    crash_tells(alloc, &disk, Left::Old, second, want)
 }
 
 #[test]

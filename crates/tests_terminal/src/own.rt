@@ -6,7 +6,7 @@ ghost use Rattle.tks_desk.specs.Own.{next_of, swap_of};
 use std::alloc::{AllocError, Global};
 use tks_app::{AppAnswer, AppBody, AppCommand, Apps};
 use tks_desk::{Own, next_number, own_apps, run, swap_word};
-use tks_disk::{Disk, MemoryDisk, Side};
+use tks_disk::{Disk, Left, MemoryDisk, Side};
 use tks_session::{Session, SessionFault};
 use tks_terminal::Terminal;
 use tks_text::{Limits, Size, Txt};
@@ -102,12 +102,42 @@ pub fn opens_and_tells<D: Disk + Drop, B: AppBody>(
     }
 }
 
+// The disk as lines leave it, of a session that is opened on it.
+fn left_on<D: Disk + Drop, B: AppBody>(
+    alloc: Global,
+    disk: D,
+    terminal: Terminal<Own, B>,
+    lines: &[u8],
+) -> Option<D> {
+    match Session::open(alloc, disk, terminal) {
+        Ok(mut session) => {
+            let is_told = told(alloc, &mut session, lines).is_some();
+            let disk = session.close().0;
+            if is_told { Some(disk) } else { None }
+        }
+        Err(_) => None,
+    }
+}
+
 /// The disk that such lines leave, of a fresh session with both commands on a grid of 20 by 3 cells.
 pub fn left_by(alloc: Global, lines: &[u8]) -> Option<MemoryDisk> {
     let terminal = terminal(alloc, 3, Limits::format1())?;
-    let mut session = Session::open(alloc, MemoryDisk::new(alloc), terminal).ok()?;
-    told(alloc, &mut session, lines)?;
-    Some(session.close().0)
+    left_on(alloc, MemoryDisk::new(alloc), terminal, lines)
+}
+
+/// Whether what a crash leaves of a disk opens to a session of this kind that answers lines so.
+pub fn crash_tells(
+    alloc: Global,
+    disk: &MemoryDisk,
+    left: Left,
+    lines: &[u8],
+    want: &[u8],
+) -> Option<bool> {
+    let terminal = terminal(alloc, 3, Limits::format1())?;
+    match disk.crash(alloc, left, Left::Old) {
+        Ok(crashed) => opens_and_tells(alloc, crashed, terminal, lines, want),
+        Err(_) => None,
+    }
 }
 
 /// Why a disk isn't opened, and the disk that is handed back.

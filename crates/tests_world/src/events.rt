@@ -57,12 +57,16 @@ fn gives(
 }
 
 // The focus window's scripts in the order of its tags, their percent forms replaced; each key joins the history.
+fn gives_both(alloc: Global, world: &mut World) -> Option<bool> {
+    Some(
+        gives(alloc, world, b"x", b"set r x", b"set . 7")?
+            && gives(alloc, world, b"y", b"set r xy", b"set . 7")?,
+    )
+}
+
 fn two_keys(alloc: Global) -> Option<bool> {
     let mut world = world_of(alloc, 20, 3, BOUND)?;
-    Some(
-        gives(alloc, &mut world, b"x", b"set r x", b"set . 7")?
-            && gives(alloc, &mut world, b"y", b"set r xy", b"set . 7")?,
-    )
+    gives_both(alloc, &mut world)
 }
 
 #[test]
@@ -73,12 +77,13 @@ fn events_give_scripts_before_any_runs(rt: HostRuntime) {
 
 // Whether a key stops at a limit of so many bytes, which its scripts of 7 bytes pass or don't.
 fn stops_at(alloc: Global, text: u32) -> Option<bool> {
-    let mut world = world_of(alloc, 20, 3, BOUND)?;
     let limits = Limits {
         text,
         ..Limits::format1()
     };
-    match begin(alloc, &mut world, key(alloc, b"x")?, &limits) {
+    let key = key(alloc, b"x")?;
+    let mut world = world_of(alloc, 20, 3, BOUND)?;
+    match begin(alloc, &mut world, key, &limits) {
         Ok(_) => Some(false),
         Err(Stop::TooLarge) => Some(true),
         Err(_) => None,

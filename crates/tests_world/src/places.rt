@@ -59,11 +59,16 @@ fn windows_lie_where_they_lie_in_wish(rt: HostRuntime) {
     }
 }
 
+// Whether these are the places of a world's windows.
+fn has_places(alloc: Global, world: &World, want: &str) -> Option<bool> {
+    Some(places(alloc, world)?.as_slice() == want.as_bytes())
+}
+
 // Whether the windows of a row lie where it says.
 fn lies(alloc: Global, row: &str) -> Option<bool> {
     let (script, want) = row.split_once(" => ")?;
     let world = world_of(alloc, 20, 10, script)?;
-    Some(places(alloc, &world)?.as_slice() == want.as_bytes())
+    has_places(alloc, &world, want)
 }
 
 // The last character of a window's path.
@@ -86,13 +91,18 @@ fn seen(alloc: Global, world: &World) -> Option<Vec<u8>> {
     Some(seen)
 }
 
-// Whether each cell shows the window that covers it, and none is seen outside.
+// Whether these windows are seen in a world's cells, and none outside.
+fn shows(alloc: Global, world: &World, want: &str) -> Option<bool> {
+    let outside = window_at(world, 20, 0).ok()?;
+    Some(seen(alloc, world)?.as_slice() == want.as_bytes() && outside.is_none())
+}
+
+// Whether each cell shows the window that covers it.
 fn shows_each(alloc: Global) -> Option<bool> {
     let script = "frame .f;label .f.a -text abc;pack .f.a -side left;pack .f -anchor w";
-    let world = world_of(alloc, 20, 3, script)?;
     let want = "aaa.........................................................";
-    let outside = window_at(&world, 20, 0).ok()?;
-    Some(seen(alloc, &world)?.as_slice() == want.as_bytes() && outside.is_none())
+    let world = world_of(alloc, 20, 3, script)?;
+    shows(alloc, &world, want)
 }
 
 #[test]

@@ -58,17 +58,22 @@ fn answer_at_last(alloc: Global, world: &mut World, row: &str) -> Option<Vec<u8>
 }
 
 // The first row that isn't answered as it says, of rows for one world.
-fn differing<'a>(alloc: Global, rows: &[(&'a str, &str)]) -> &'a str {
-    let Some(mut world) = first_world(alloc, 20, 6) else {
-        return "no world";
-    };
+fn differing_in<'a>(alloc: Global, world: &mut World, rows: &[(&'a str, &str)]) -> &'a str {
     for (row, want) in rows {
-        match answer_at_last(alloc, &mut world, row) {
+        match answer_at_last(alloc, world, row) {
             Some(told) if told.as_slice() == want.as_bytes() => {}
             _ => return row,
         }
     }
     "none"
+}
+
+// The same of the first world.
+fn differing<'a>(alloc: Global, rows: &[(&'a str, &str)]) -> &'a str {
+    match first_world(alloc, 20, 6) {
+        Some(mut world) => differing_in(alloc, &mut world, rows),
+        None => "no world",
+    }
 }
 
 // Each script changes several parts of a world, and the last of its commands tells what came of it.

@@ -4,14 +4,23 @@ use std::alloc::Global;
 use tks_text::{Class, Txt};
 use tks_tree::{Tree, WindowId};
 
-// The tree of frames of these paths, with spaces between them.
-fn planted(alloc: Global, paths: &str) -> Option<Tree> {
-    let mut tree = Tree::new(alloc).ok()?;
+// Makes frames of these paths, with spaces between them.
+fn plant(alloc: Global, tree: &mut Tree, paths: &str) -> Option<()> {
     for path in paths.split(' ') {
         let path = Txt::from_bytes(alloc, path.as_bytes()).ok()?;
         tree.create(&path, Class::Frame).ok()?;
     }
-    Some(tree)
+    Some(())
+}
+
+// The tree of frames of these paths.
+fn planted(alloc: Global, paths: &str) -> Option<Tree> {
+    let mut tree = Tree::new(alloc).ok()?;
+    if plant(alloc, &mut tree, paths).is_some() {
+        Some(tree)
+    } else {
+        None
+    }
 }
 
 // The next window in the order of the focus, where it has this path and this one is the one before it.
@@ -29,15 +38,20 @@ fn next(tree: &Tree, from: WindowId, path: &str) -> Option<WindowId> {
     }
 }
 
-// Whether the order of the focus, from `.` on, is this; and where no window takes it, it stays.
-fn has_order(alloc: Global, made: &str, order: &str) -> Option<bool> {
-    let tree = planted(alloc, made)?;
+// Whether the order of a tree's focus, from `.` on, is this; and where no window takes it, it stays.
+fn is_order(tree: &Tree, order: &str) -> Option<bool> {
     let mut window = WindowId::root();
     for path in order.split(' ') {
-        window = next(&tree, window, path)?;
+        window = next(tree, window, path)?;
     }
     let stays = tree.next_in_focus_order(window, |_| false).ok()?;
     Some(stays.number() == window.number())
+}
+
+// The same of the tree of frames of these paths.
+fn has_order(alloc: Global, made: &str, order: &str) -> Option<bool> {
+    let tree = planted(alloc, made)?;
+    is_order(&tree, order)
 }
 
 // Windows in the order in which they are made, and that of the focus: by tools/rows/focus.tcl with wish 8.6.13.
@@ -67,19 +81,33 @@ fn the_focus_goes_as_in_wish(rt: HostRuntime) {
     }
 }
 
-// The number of a window that is made anew where one was, on a tree whose copy keeps two children of `.`.
-fn second_number(alloc: Global) -> Option<u64> {
-    let mut tree = planted(alloc, ".a .b")?;
-    let copy = tree.try_clone().ok()?;
+// The number of a window that is made anew where `.b` was.
+fn made_anew(alloc: Global, tree: &mut Tree) -> Option<u64> {
     let path = Txt::from_bytes(alloc, b".b").ok()?;
     let window = tree.resolve(&path).ok()?;
     tree.destroy(window).ok()?;
-    let window = tree.create(&path, Class::Label).ok()?;
-    if copy.children(WindowId::root()).ok()?.len() == 2 && copy.len() == 3 && tree.len() == 3 {
-        Some(window.number())
+    Some(tree.create(&path, Class::Label).ok()?.number())
+}
+
+// Whether a tree has two windows beside `.`, which are its children.
+fn has_two(tree: &Tree) -> Option<bool> {
+    Some(tree.children(WindowId::root()).ok()?.len() == 2 && tree.len() == 3)
+}
+
+// The number of such a window, on a tree whose copy keeps its two.
+fn number_beside_copy(alloc: Global, tree: &mut Tree) -> Option<u64> {
+    let copy = tree.try_clone().ok()?;
+    let number = made_anew(alloc, tree);
+    if has_two(&copy) == Some(true) && has_two(tree) == Some(true) {
+        number
     } else {
         None
     }
+}
+
+fn second_number(alloc: Global) -> Option<u64> {
+    let mut tree = planted(alloc, ".a .b")?;
+    number_beside_copy(alloc, &mut tree)
 }
 
 #[test]

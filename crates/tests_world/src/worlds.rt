@@ -16,13 +16,22 @@ pub fn first_world(alloc: Global, width: u16, height: u16) -> Option<World> {
     World::first(alloc, Size::new(width, height)?, &[]).ok()
 }
 
+// Whether a script is accepted with code 0.
+fn is_accepted(alloc: Global, world: &mut World, script: &str) -> Option<bool> {
+    let input = Input::Script(Txt::from_bytes(alloc, script.as_bytes()).ok()?);
+    let apps: Apps<Nothing, Nothing> = Apps::new(alloc);
+    let reply = step(alloc, world, &apps, &input, &Limits::format1()).ok()?;
+    Some(reply.code == 0)
+}
+
 /// The world behind a script that is accepted with code 0.
 pub fn world_of(alloc: Global, width: u16, height: u16, script: &str) -> Option<World> {
     let mut world = first_world(alloc, width, height)?;
-    let input = Input::Script(Txt::from_bytes(alloc, script.as_bytes()).ok()?);
-    let apps: Apps<Nothing, Nothing> = Apps::new(alloc);
-    let reply = step(alloc, &mut world, &apps, &input, &Limits::format1()).ok()?;
-    if reply.code == 0 { Some(world) } else { None }
+    if is_accepted(alloc, &mut world, script) == Some(true) {
+        Some(world)
+    } else {
+        None
+    }
 }
 
 /// A reply's number, code and text.
@@ -147,22 +156,27 @@ const HELD: [(&str, &str); 18] = [
 ];
 
 // The first row that isn't answered as it says, of rows for one world, under limits of three items and of seven bytes.
-fn differing_row<'a>(alloc: Global, rows: &[(&'a str, &str)]) -> &'a str {
+fn differing_command<'a>(alloc: Global, world: &mut World, rows: &[(&'a str, &str)]) -> &'a str {
     let limits = Limits {
         items: 3,
         text: 7,
         ..Limits::format1()
     };
-    let Some(mut world) = first_world(alloc, 20, 3) else {
-        return "no world";
-    };
     for (row, want) in rows {
-        match command_answer(alloc, &mut world, &limits, row) {
+        match command_answer(alloc, world, &limits, row) {
             Some(told) if told.as_slice() == want.as_bytes() => {}
             _ => return row,
         }
     }
     "none"
+}
+
+// The same of the first world.
+fn differing_row<'a>(alloc: Global, rows: &[(&'a str, &str)]) -> &'a str {
+    match first_world(alloc, 20, 3) {
+        Some(mut world) => differing_command(alloc, &mut world, rows),
+        None => "no world",
+    }
 }
 
 #[test]
@@ -184,11 +198,15 @@ fn go_their_ways(alloc: Global, world: &mut World, copy: &mut World) -> bool {
         && differing(alloc, copy, &limits, &[("set x", "2 0 5")]) == "none"
 }
 
-// Whether a world's copy goes its own way.
+// Whether the copy of a world in which `x` is 5 goes its own way.
+fn parts_from_its_copy(alloc: Global, world: &mut World) -> Option<bool> {
+    let mut copy = world.try_clone().ok()?;
+    Some(go_their_ways(alloc, world, &mut copy))
+}
+
 fn copy_goes_its_own_way(alloc: Global) -> Option<bool> {
     let mut world = world_of(alloc, 20, 3, "set x 5")?;
-    let mut copy = world.try_clone().ok()?;
-    Some(go_their_ways(alloc, &mut world, &mut copy))
+    parts_from_its_copy(alloc, &mut world)
 }
 
 #[test]

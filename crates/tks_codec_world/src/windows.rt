@@ -1,5 +1,5 @@
 //! The windows.
-ghost use Rattle.std.specs.Prelude.{◌≡◌, map, None, option_map, IfOk, OnOk};
+ghost use Rattle.std.specs.Prelude.{◌≡◌, ◌++◌, [], ◌∷◌, map, None, option_map, IfOk, OnOk};
 ghost use Rattle.std.specs.List.{AllByRecursion};
 ghost use Rattle.tks_codec.specs.Spelling.{members};
 ghost use Rattle.tks_codec.specs.Reading.{Gives};
@@ -7,7 +7,7 @@ ghost use Rattle.tks_codec.specs.Writing.{PutsSo};
 ghost use Rattle.tks_codec_windows.specs.Places.{packed_as};
 ghost use Rattle.tks_codec_world.specs.Line.{line};
 ghost use Rattle.tks_codec_world.specs.Windows as kinds;
-ghost use Rattle.tks_codec_world.specs.Windows.{packings_of, lines_from, held_of, parts_from, windows_seen, windows_at};
+ghost use Rattle.tks_codec_world.specs.Windows.{packings_of, lines_from, held_of, part_of, parts_from, windows_seen, windows_at};
 ghost use Rattle.tks_state.specs.WellFormed.{InStep};
 ghost use Rattle.tks_state.specs.World.{windows_of};
 
@@ -29,6 +29,21 @@ struct Held {
     tags: Option<Seq<Txt>>,
 }
 
+// Adds a line's place, and what there is besides.
+fn part(line: Line, places: &mut Vec<Place>, others: &mut Vec<Held>) -> Result<(), AllocError>
+    ensures places { OnOk result (places.new.items ≡ places.old.items ++ line.place ∷ []) }
+    ensures others { OnOk result (others.new.items ≡ others.old.items ++ held_of line ∷ []) }
+{
+    let Line {
+        place,
+        tags,
+        widget,
+    } = line;
+    others.push(Held { widget, tags })?;
+    places.push(place)?;
+    Ok(())
+}
+
 // Lines as places, and what there is besides.
 fn split(alloc: Global, lines: Vec<Line>) -> Result<(Vec<Place>, Vec<Held>), AllocError>
     ensures places { IfOk result (λ x. x.0.items ≡ map (λ l. l.place) lines.items) }
@@ -37,15 +52,21 @@ fn split(alloc: Global, lines: Vec<Line>) -> Result<(Vec<Place>, Vec<Held>), All
     let mut places = Vec::with_capacity(alloc, lines.len())?;
     let mut others = Vec::with_capacity(alloc, lines.len())?;
     for line in lines {
-        let Line {
-            place,
-            tags,
-            widget,
-        } = line;
-        places.push(place)?;
-        others.push(Held { widget, tags })?;
+        part(line, &mut places, &mut others)?;
     }
     Ok((places, others))
+}
+
+// What a window holds, with how others are packed in it.
+fn with_packing(one: Held, packing: Packing) -> WindowParts
+    ensures { result ≡ part_of one packing }
+{
+    let Held { widget, tags } = one;
+    WindowParts {
+        widget,
+        tags,
+        packing,
+    }
 }
 
 // What windows hold, with how others are packed in each.
@@ -62,12 +83,7 @@ fn join(
         let Some(packing) = packings.next() else {
             return Ok(parts);
         };
-        let Held { widget, tags } = one;
-        parts.push(WindowParts {
-            widget,
-            tags,
-            packing,
-        })?;
+        parts.push(with_packing(one, packing))?;
     }
     Ok(parts)
 }

@@ -93,12 +93,15 @@ abbrev pub if_made : Option (List ℕ) → (List ℕ → Result (Option (List �
 if_made None next = Ok None
 if_made (Some text) next = next text
 
+-- the text of an operator behind a left operand of this text, where the right one is made at once
+abbrev pub behind_left : Limits → Variables → Binary → List ℕ → Expr → Result (Option (List ℕ)) Cause
+behind_left limits variables op x b =
+    after (operand_made limits variables b) (λ right. if_made right (λ y.
+    after (value_or_fault (applied op x y)) (λ text. Ok (Some text))))
+
 -- the text of an operator between two operands that are made at once
 abbrev pub between_made : Limits → Variables → Binary → Expr → Expr → Result (Option (List ℕ)) Cause
-between_made limits variables op a b =
-    after (operand_made limits variables a) (λ left. if_made left (λ x.
-    after (operand_made limits variables b) (λ right. if_made right (λ y.
-    after (value_or_fault (applied op x y)) (λ text. Ok (Some text))))))
+between_made limits variables op a b = after (operand_made limits variables a) (λ left. if_made left (λ x. behind_left limits variables op x b))
 
 -- the text of an expression that is an operand, or an operator between two, and is made at once
 abbrev pub value_made : Limits → Variables → Expr → Result (Option (List ℕ)) Cause

@@ -1,5 +1,5 @@
 -- What the code's answers say of the definitions.
-use Rattle.std.specs.Prelude.{◌≡◌, ◌≤◌, ℕ, suc, true, false, Option, Some, None, Result, Ok, Err}
+use Rattle.std.specs.Prelude.{◌≡◌, ◌≤◌, ℕ, suc, true, false, List, Option, Some, None, Result, Ok, Err}
 use Rattle.tks_text.specs.Fault.{fault_text}
 use Rattle.tks_text.specs.declared.fault.ScriptFault.{ScriptFault}
 use Rattle.tks_text.specs.declared.limits.Limits.{Limits}
@@ -7,6 +7,8 @@ use Rattle.tks_text.specs.declared.fault.Failure.{Failure}
 use Rattle.tks_text.specs.declared.fault.Failure.TheVariants as failure
 use Rattle.tks_vars.specs.Variables.{Variables}
 use Rattle.tks_expr.specs.Tree.{Expr}
+use Rattle.tks_tcl.specs.Cause.{Cause}
+use Rattle.tks_tcl.specs.Meets as tcl
 use Rattle.tks_tcl.specs.declared.interrupt.Interrupt.{Interrupt}
 use Rattle.tks_tcl.specs.declared.interrupt.Interrupt.TheVariants as interrupt
 use Rattle.tks_tcl.specs.declared.stop.Stop.{Stop}
@@ -51,6 +53,18 @@ abbrev pub TellsSo : ScriptFault → Halt → Type 0
 TellsSo fault (halt.Fault told) = told ≡ fault
 TellsSo fault (halt.Stop stop.NoMemory) = Unit {0}
 TellsSo fault (halt.Stop why) = ⊥
+
+-- ---- operands
+
+-- a text is the operand's; where there is none, nothing is told
+abbrev pub StandsAs : Option (List ℕ) → Result (Option (List ℕ)) Cause → Type 0
+StandsAs None made = Unit {0}
+StandsAs (Some text) made = made ≡ Ok (Some text)
+
+-- what a call returned, seen by view, is where an operand's text stands, if it is told; or why it can't be made
+abbrev pub StandsSo : {X : Type 0} → (X → Option (List ℕ)) → Result X Interrupt → Result (Option (List ℕ)) Cause → Type 0
+StandsSo view (Ok x) made = StandsAs (view x) made
+StandsSo view (Err why) made = tcl.FailsSo why made
 
 -- ---- ends
 

@@ -1,11 +1,11 @@
-ghost use Rattle.std.specs.Prelude.{◌≡◌, ◌≤◌, ◌∷◌, ◌+◌};
+ghost use Rattle.std.specs.Prelude.{◌≡◌, ◌≤◌, [], ◌∷◌, ◌+◌, option_copied};
 ghost use Rattle.tks_text.specs.Fault.{Gives};
 ghost use Rattle.tks_expr.specs.Reading.{expr_of};
 ghost use Rattle.tks_eval.specs.Outcome.{End};
-ghost use Rattle.tks_eval.specs.Meets.{ReadsSo};
-ghost use Rattle.tks_eval.specs.Evaluation.{evaluate, value_does, expr_does};
+ghost use Rattle.tks_eval.specs.Meets.{ReadsSo, StandsSo};
+ghost use Rattle.tks_eval.specs.Evaluation.{evaluate, value_does, expr_does, with_value};
 ghost use Rattle.tks_eval.specs.Values.{signs_applied, truth_shown, join_on, links_do};
-ghost use Rattle.tks_eval.specs.Filling.{operand_made, between_made, value_made};
+ghost use Rattle.tks_eval.specs.Filling.{operand_made, behind_left, between_made, value_made};
 ghost use Rattle.tks_tcl.specs.Meets.{GivesSo};
 ghost use Rattle.tks_eval.specs.Machine.{resume, value_weight, links_weight, value_frame_weight, GoesSo, Falls};
 ghost use Rattle.tks_expr.specs.declared.sign.Join.TheVariants as joins;
@@ -22,6 +22,7 @@ use std::alloc::Global;
 use tks_expr::{
     Binary, Expr, Join, Link, Node, Unary, apply, apply_unary, result_of, share_links, truth_of,
 };
+use tks_parse::Part;
 use tks_tcl::{Interrupt, joined_within};
 use tks_text::{ErrorNumber, Failure, Limits, Txt};
 use tks_vars::Vars;
@@ -92,6 +93,40 @@ fn operand(
     }
 }
 
+// The value of a variable that alone is a text.
+fn scalar<'a>(name: &Txt, variables: &'a Vars, limits: &Limits) -> Result<&'a Txt, Interrupt>
+    ensures { GivesSo (λ t. t.now) result (with_value limits.now variables.now name.now []) }
+{
+    let value = variables.get(name)?;
+    if value.len() > limits.text as usize {
+        return Err(Interrupt::TooLarge);
+    }
+    Ok(value)
+}
+
+// The text of an operand where it stands already, so that it needs no copy: a literal, or a scalar's value.
+fn standing<'a>(
+    expr: &'a Expr,
+    variables: &'a Vars,
+    limits: &Limits,
+) -> Result<Option<&'a Txt>, Interrupt>
+    ensures { StandsSo (λ t. option_copied t) result (operand_made limits.now variables.now expr.now) }
+{
+    match expr.node() {
+        Node::Literal(text) => Ok(Some(text)),
+        Node::Made(parts) => match parts.as_slice() {
+            [Part::Variable(name, None)] => {
+                let value = scalar(name, variables, limits)?;
+                Ok(Some(value))
+            }
+            _ => Ok(None),
+        },
+        Node::Signs(_, _, _) => Ok(None),
+        Node::Chain(_, _, _) => Ok(None),
+        Node::Conditional(_, _, _) => Ok(None),
+    }
+}
+
 // The text of an expression that is an operand, or an operator between two, and is made at once.
 #[tactic(auto, using(crate::proofs::Operands::value_under))]
 pub fn value_at_once(
@@ -133,13 +168,36 @@ fn between(
 ) -> Result<Option<Txt>, Interrupt>
     ensures { GivesSo (λ t. t) result (between_made limits.now variables.now operator left.now right.now) }
 {
-    let Some(left) = operand(alloc, left, variables, limits)? else {
+    if let Some(text) = standing(left, variables, limits)? {
+        let text = behind_left(alloc, operator, text, right, variables, limits)?;
+        return Ok(text);
+    }
+    let Some(text) = operand(alloc, left, variables, limits)? else {
         return Ok(None);
     };
-    let Some(right) = operand(alloc, right, variables, limits)? else {
+    let text = behind_left(alloc, operator, &text, right, variables, limits)?;
+    Ok(text)
+}
+
+// The same, where the left operand has this text.
+fn behind_left(
+    alloc: Global,
+    operator: Binary,
+    left: &Txt,
+    right: &Expr,
+    variables: &Vars,
+    limits: &Limits,
+) -> Result<Option<Txt>, Interrupt>
+    ensures { GivesSo (λ t. t) result (behind_left limits.now variables.now operator left.now right.now) }
+{
+    if let Some(text) = standing(right, variables, limits)? {
+        let text = apply(alloc, operator, left, text)?;
+        return Ok(Some(text));
+    }
+    let Some(text) = operand(alloc, right, variables, limits)? else {
         return Ok(None);
     };
-    let text = apply(alloc, operator, &left, &right)?;
+    let text = apply(alloc, operator, left, &text)?;
     Ok(Some(text))
 }
 

@@ -33,12 +33,16 @@ impl Numbered for Kept {
 
 impl Kept {
     /// What is kept of a new window: nothing is packed in it, and no tags were set.
-    pub(crate) fn new(alloc: Global, window: WindowId, widget: Widget) -> Result<Kept, AllocError>
+    pub(crate) fn new(
+        alloc: Global,
+        window: WindowId,
+        widget: Shared<Widget>,
+    ) -> Result<Kept, AllocError>
         ensures { IfOk result (λ k. k ≡ new_kept window widget) }
     {
         Ok(Kept {
             window,
-            widget: Shared::new(alloc, widget)?,
+            widget,
             tags: None,
             packing: Shared::new(alloc, Packing::new(alloc))?,
         })

@@ -1,10 +1,13 @@
 //! What a world is made again of, and which parts are those of a world.
-ghost use Rattle.std.specs.Prelude.{◌≡◌, map, IfOk};
+ghost use Rattle.std.specs.Prelude.{◌≡◌, ◌≤◌, ◌^◌, nat_le, length, map, Some, None, IfOk, if◌then◌else◌};
 ghost use Rattle.std.specs.List.{list_all};
 ghost use Rattle.tks_tree.specs.View.{window_seen};
 ghost use Rattle.tks_tree.specs.Windows.{parent};
+ghost use Rattle.tks_state.specs.Events.{max_faults};
 ghost use Rattle.tks_state.specs.Restoring.{kept_of_parts, is_kept_of, are_in_step, is_among, are_distinct, is_number, packs_children};
 
+use crate::event_loop::EventLoop;
+use crate::events::Events;
 use crate::kept::Kept;
 use crate::widget::Widget;
 use std::alloc::{AllocError, Global};
@@ -51,6 +54,61 @@ pub struct WorldParts {
     pub memories: Memories,
     pub faults: Seq<Txt>,
     pub grid: Size,
+}
+
+/// What the bindings, virtual events, the history and the faults of a world are made again of.
+#[derive(Drop)]
+pub(crate) struct EventParts {
+    pub bindings: Bindings,
+    pub virtuals: Virtuals,
+    pub history: History,
+    pub faults: Seq<Txt>,
+}
+
+impl EventParts {
+    /// Those, where no more faults are kept than may be.
+    pub(crate) fn made(self, alloc: Global) -> Result<Option<Events>, AllocError>
+        ensures { IfOk result (λ made. made ≡ (if nat_le (length self.faults) max_faults then Some (record { bindings = self.bindings.present; virtuals = self.virtuals.present; history = self.history.present; faults = self.faults }) else None)) }
+    {
+        let EventParts {
+            bindings,
+            virtuals,
+            history,
+            faults,
+        } = self;
+        let events = Events::restore(alloc, bindings, virtuals, history, faults.into_items())?;
+        Ok(events)
+    }
+}
+
+/// What a world's event loop is made again of.
+#[derive(Drop)]
+pub(crate) struct LoopParts {
+    pub clock: u64,
+    pub queue: Queue,
+    pub timers: Timers,
+    pub focus: WindowId,
+    pub held: Held,
+    pub pressed: Option<WindowId>,
+}
+
+impl LoopParts {
+    /// The event loop.
+    pub(crate) fn made(self, alloc: Global) -> Result<EventLoop, AllocError>
+        requires { self.clock ≤ 2 ^ 62 }
+        ensures { IfOk result (λ x. x ≡ record { clock = self.clock; queue = self.queue.present; timers = self.timers.present; focus = self.focus; held = self.held; pressed = self.pressed }) }
+    {
+        let LoopParts {
+            clock,
+            queue,
+            timers,
+            focus,
+            held,
+            pressed,
+        } = self;
+        let event_loop = EventLoop::restore(alloc, clock, queue, timers, focus, held, pressed)?;
+        Ok(event_loop)
+    }
 }
 
 // What is kept of a window, of its parts.

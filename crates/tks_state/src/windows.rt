@@ -17,7 +17,7 @@ use crate::widget::Widget;
 use std::alloc::{AllocError, Global};
 use std::marker::Model;
 use tks_button::Frame;
-use tks_share::{Copied, SharedList};
+use tks_share::{Copied, Shared, SharedList};
 use tks_text::{ErrorNumber, Failure, ScriptFault, Seq, Txt};
 use tks_tree::{CreateFault, Tree, WindowId};
 
@@ -197,7 +197,7 @@ impl Windows {
         ensures { IfOk result (λ x. x ≡ first_windows) }
     {
         let path = Txt::from_text(alloc, b".")?;
-        let widget = Widget::Frame(Frame::root(alloc, &path)?);
+        let widget = Shared::new(alloc, Widget::Frame(Frame::root(alloc, &path)?))?;
         let mut kept = SharedList::new(alloc);
         kept.push(Kept::new(alloc, WindowId::root(), widget)?)?;
         Ok(Windows {
@@ -248,6 +248,7 @@ impl Windows {
         ensures stay { Stay self.old.tree.windows self.new.tree.windows }
     {
         let class = widget.options().class();
+        let widget = Shared::new(self.alloc, widget)?;
         let mut tree = self.tree.try_clone()?;
         let window = tree.create(path, class)?;
         self.kept.push(Kept::new(self.alloc, window, widget)?)?;

@@ -20,7 +20,7 @@ ghost use Rattle.tks_state.specs.World.{world_with, first_world, with_window, wi
 use crate::event_loop::{EventLoop, is_there, left_pressed};
 use crate::events::Events;
 use crate::kept::Kept;
-use crate::restoring::{WorldParts, kept_of_parts};
+use crate::restoring::{EventParts, LoopParts, WindowParts, WorldParts, kept_of_parts};
 use crate::widget::Widget;
 use crate::windows::Windows;
 use std::alloc::{AllocError, AllocFailed, Global};
@@ -109,7 +109,6 @@ impl World {
     }
 
     // The same, where no number is too great.
-    #[tactic(auto, unfolding(crate::specs::Restoring::is_possible))]
     fn of_parts(alloc: Global, parts: WorldParts) -> Result<Option<World>, AllocError>
         requires counted { parts.accepted ≤ 2 ^ 62 }
         requires clock { parts.clock ≤ 2 ^ 62 }
@@ -133,19 +132,54 @@ impl World {
             faults,
             grid,
         } = parts;
+        let events = EventParts {
+            bindings,
+            virtuals,
+            history,
+            faults,
+        };
+        let event_loop = LoopParts {
+            clock,
+            queue,
+            timers,
+            focus,
+            held,
+            pressed,
+        };
+        World::of_groups(
+            alloc, accepted, tree, windows, variables, events, event_loop, memories, grid,
+        )
+    }
+
+    // The same, of parts that are let go together where one is refused.
+    #[tactic(auto, unfolding(crate::specs::Restoring::is_possible))]
+    fn of_groups(
+        alloc: Global,
+        accepted: u64,
+        tree: Tree,
+        windows: Vec<WindowParts>,
+        variables: Vars,
+        events: EventParts,
+        event_loop: LoopParts,
+        memories: Memories,
+        grid: Size,
+    ) -> Result<Option<World>, AllocError>
+        requires counted { accepted ≤ 2 ^ 62 }
+        requires clock { event_loop.clock ≤ 2 ^ 62 }
+        ensures { IfOk result (λ world. world ≡ restored (record { accepted = accepted; clock = event_loop.clock; tree = tree; windows = windows; variables = variables; bindings = events.bindings; virtuals = events.virtuals; history = events.history; queue = event_loop.queue; timers = event_loop.timers; focus = event_loop.focus; held = event_loop.held; pressed = event_loop.pressed; memories = memories; faults = events.faults; grid = grid })) }
+    {
         // What holds of all histories is asked for here.
-        let _ = history.events();
+        let _ = events.history.events();
         let variables = Shared::new(alloc, variables)?;
         let kept = kept_of_parts(alloc, &tree, windows)?;
-        let event_loop = EventLoop::restore(alloc, clock, queue, timers, focus, held, pressed)?;
+        let event_loop = event_loop.made(alloc)?;
         if variables.get().depth() > 0 || !event_loop.is_in(&tree) {
             return Ok(None);
         }
         let Some(windows) = Windows::restore(alloc, tree, kept) else {
             return Ok(None);
         };
-        let Some(events) = Events::restore(alloc, bindings, virtuals, history, faults.into_items())?
-        else {
+        let Some(events) = events.made(alloc)? else {
             return Ok(None);
         };
         let world = World::of(

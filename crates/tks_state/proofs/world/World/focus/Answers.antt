@@ -1,4 +1,4 @@
-use Rattle.std.proofs.Common.{◌≡◌, ◌≤◌, ◌^◌, subst, ap}
+use Rattle.std.proofs.Common.{◌≤◌, ◌^◌, subst, ap}
 use Rattle.tks_tree.specs.WellFormed.{WellFormed}
 use Rattle.tks_state.specs.World.{World}
 use Rattle.tks_state.proofs.Looping.{focus_below}
