@@ -1,4 +1,4 @@
-//! Reading, and writing again what was read, and the bytes behind it.
+//! Events, bindings and what waits, read and written again, with the bytes behind what was read.
 ghost use Rattle.std.specs.Prelude.{◌≤◌, ◌^◌};
 
 use std::alloc::Global;

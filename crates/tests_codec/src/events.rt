@@ -1,3 +1,5 @@
+//! Events, bindings, what waits and what is held.
+
 use crate::again::{
     bindings_again, event_again, held_again, history_again, memories_again, queue_again,
     sequence_again, virtuals_again, waiting_again,

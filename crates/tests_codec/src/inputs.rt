@@ -1,3 +1,5 @@
+//! Inputs and headers, each byte of them changed and each cut of them.
+
 use crate::spelling::{Read, header_of, header_spelled, input_of, input_spelled};
 use std::alloc::Global;
 use tks_codec::Header;

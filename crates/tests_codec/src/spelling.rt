@@ -1,4 +1,4 @@
-//! Reading and writing again.
+//! Inputs and headers, read and written again.
 use std::alloc::Global;
 use tks_codec::{CodecFault, Header, read_header, read_input, write_header, write_input};
 use tks_input::Input;

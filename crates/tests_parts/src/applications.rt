@@ -1,3 +1,4 @@
+//! Which commands of an application join others, and what they are called with.
 ghost use Rattle.std.specs.Prelude.{◌≡◌, ℕ, List, IfOk};
 ghost use Rattle.tests_parts.specs.Swap.{swapped};
 ghost use Rattle.tks_app.specs.declared.answer.AppAnswer.{AppAnswer};

@@ -1,3 +1,5 @@
+//! Which binding fires, and percent forms.
+
 use crate::scenes::{Keys, sequence};
 use std::alloc::Global;
 use tks_bind::percents;

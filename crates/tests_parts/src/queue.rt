@@ -1,3 +1,5 @@
+//! The queue of events beside a plain list.
+
 use crate::dice::Dice;
 use crate::plain_queue::{PlainQueue, has_letter, put_letter, queue_call_agrees};
 use std::alloc::Global;

@@ -1,3 +1,5 @@
+//! Timers and idle scripts beside a plain list.
+
 use crate::dice::Dice;
 use crate::plain::Plain;
 use crate::trial::call_agrees;

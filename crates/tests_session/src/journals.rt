@@ -1,3 +1,5 @@
+//! Journals that are stopped, crashed and cut.
+
 use crate::crashes::left;
 use crate::journal_trial::{bytes_of, opened_text, run, state};
 use crate::plain::plain_text;

@@ -1,3 +1,5 @@
+//! Sessions that are stopped, crashed and damaged, and what they refuse.
+
 use crate::crashes::left;
 use crate::log::Log;
 use std::alloc::Global;

@@ -9,7 +9,7 @@ ghost use Rattle.tks_state.specs.Links.{link_of, text_of, seen, with_text};
 ghost use Rattle.tks_cmd.specs.Links.{is_lacking, global_set, made_global, told, stored, settled, configured_pair, configured, told_words, first_value, assigned_does, action_does, configure_does, called};
 
 use crate::contents::holds_within;
-use std::alloc::Global;
+use std::alloc::{AllocError, Global};
 use std::mem;
 use tks_button::Assignment;
 use tks_opt::{Said, are_pairs};
@@ -61,6 +61,15 @@ fn is_same(text: &Txt, other: &Txt) -> bool
     text.as_bytes() == other.as_bytes()
 }
 
+// The text of a widget as it is seen.
+fn seen_text(alloc: Global, widget: &Widget, variables: &Vars) -> Result<Txt, AllocError>
+    ensures { IfOk result (λ t. t ≡ text_of (seen variables.now widget.now)) }
+{
+    let seen = widget.seen(alloc, variables)?;
+    let text = seen.copied_text(alloc)?;
+    Ok(text)
+}
+
 // Tells a global what became of the text of a widget that is linked to it.
 fn tell(
     alloc: Global,
@@ -81,7 +90,7 @@ fn tell(
         make_global(variables, name, text, limits)?;
         return Ok(());
     }
-    let before = widget.seen(alloc, variables)?.copied_text(alloc)?;
+    let before = seen_text(alloc, widget, variables)?;
     if !is_same(&before, &text) {
         set_global(variables, name, text, limits)?;
     }
@@ -106,6 +115,26 @@ fn store(
     let stored = next.with_text(&widget.copied_text(alloc)?)?;
     tell(alloc, widget, name, text, variables, limits)?;
     Ok(stored)
+}
+
+// Puts what is stored of a widget that became another in the other's place.
+fn put_stored(
+    alloc: Global,
+    widget: &Widget,
+    next: &mut Widget,
+    name: &Txt,
+    text: Txt,
+    variables: &mut Vars,
+    limits: &Limits,
+) -> Result<(), Interrupt>
+    requires text { text ≡ text_of next.old }
+    ensures value { GivesSo (λ _. (next.new, variables.new)) result (stored limits.now (Some name.now) widget.now next.old variables.old) }
+    ensures err { OnErr result (variables.new ≡ variables.old) }
+    ensures class { class_of next.new ≡ class_of next.old }
+{
+    let stored = store(alloc, widget, next, name, text, variables, limits)?;
+    *next = stored;
+    Ok(())
 }
 
 // The text of a widget, which passes no limit.
@@ -137,9 +166,27 @@ fn settle(
         return Err(Interrupt::TooLarge);
     }
     if let Some(name) = next.copied_link()? {
-        *next = store(alloc, widget, next, &name, text, variables, limits)?;
+        put_stored(alloc, widget, next, &name, text, variables, limits)?;
     }
     Ok(())
+}
+
+// Gives a widget, as it is seen, a pair of an option and its value.
+fn configure_seen(
+    alloc: Global,
+    pair: &[Txt],
+    widget: &Widget,
+    next: &mut Widget,
+    variables: &mut Vars,
+    limits: &Limits,
+) -> Result<(), Interrupt>
+    requires seen { next.old ≡ seen variables.old widget.now }
+    ensures value { GivesSo (λ _. (next.new, variables.new)) result (configured_pair limits.now pair.now (widget.now, variables.old)) }
+    ensures err { OnErr result (variables.new ≡ variables.old) }
+    ensures class { class_of next.new ≡ class_of next.old }
+{
+    next.configure(pair)?;
+    settle(alloc, widget, next, variables, limits)
 }
 
 // A widget with a pair of an option and its value.
@@ -155,8 +202,7 @@ fn configure_pair(
     ensures class { IfOk result (λ w. class_of w ≡ class_of widget.now) }
 {
     let mut next = widget.seen(alloc, variables)?;
-    next.configure(pair)?;
-    settle(alloc, widget, &mut next, variables, limits)?;
+    configure_seen(alloc, pair, widget, &mut next, variables, limits)?;
     Ok(next)
 }
 

@@ -57,12 +57,23 @@ pub struct WorldParts {
 }
 
 /// What the bindings, virtual events, the history and the faults of a world are made again of.
-#[derive(Drop)]
 pub(crate) struct EventParts {
     pub bindings: Bindings,
     pub virtuals: Virtuals,
     pub history: History,
     pub faults: Seq<Txt>,
+}
+
+// Written out, so that to let go of it is one call for whoever owns it.
+impl Drop for EventParts {
+    fn drop(self) {
+        let EventParts {
+            bindings: _,
+            virtuals: _,
+            history: _,
+            faults: _,
+        } = self;
+    }
 }
 
 impl EventParts {
@@ -82,7 +93,6 @@ impl EventParts {
 }
 
 /// What a world's event loop is made again of.
-#[derive(Drop)]
 pub(crate) struct LoopParts {
     pub clock: u64,
     pub queue: Queue,
@@ -90,6 +100,20 @@ pub(crate) struct LoopParts {
     pub focus: WindowId,
     pub held: Held,
     pub pressed: Option<WindowId>,
+}
+
+// The same.
+impl Drop for LoopParts {
+    fn drop(self) {
+        let LoopParts {
+            clock: _,
+            queue: _,
+            timers: _,
+            focus: _,
+            held: _,
+            pressed: _,
+        } = self;
+    }
 }
 
 impl LoopParts {
