@@ -40,7 +40,6 @@ use tks_vars::Vars;
 const MAX_NUMBER: u64 = 1 << 62;
 
 /// What is kept between inputs. Copies share what none of them has changed.
-#[derive(Drop)]
 pub struct World {
     alloc: Global,
     accepted: u64,
@@ -50,6 +49,22 @@ pub struct World {
     event_loop: EventLoop,
     memories: Shared<Memories>,
     grid: Size,
+}
+
+// Written out, so that to let go of a world is one step for whoever owns it.
+impl Drop for World {
+    fn drop(self) {
+        let World {
+            alloc: _,
+            accepted: _,
+            windows: _,
+            variables: _,
+            events: _,
+            event_loop: _,
+            memories: _,
+            grid: _,
+        } = self;
+    }
 }
 
 impl Model for World {
