@@ -7,8 +7,6 @@ mod applications;
 #[cfg(test)]
 mod bindings;
 #[cfg(test)]
-mod dice;
-#[cfg(test)]
 mod lines;
 #[cfg(test)]
 mod listboxes;

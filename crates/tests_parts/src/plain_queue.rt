@@ -1,6 +1,6 @@
 //! A queue as a plain list, and random calls made on both.
-use crate::dice::Dice;
 use std::alloc::Global;
+use tests_disk::Dice;
 use tks_event::{Event, Kind, Modifiers, is_event};
 use tks_queue::{Place, Queue};
 use tks_text::Txt;

@@ -1,8 +1,8 @@
 //! The queue of events beside a plain list.
 
-use crate::dice::Dice;
 use crate::plain_queue::{PlainQueue, has_letter, put_letter, queue_call_agrees};
 use std::alloc::Global;
+use tests_disk::Dice;
 use tks_queue::{Place, Queue};
 use tks_share::Copied;
 

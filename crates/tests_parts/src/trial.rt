@@ -1,7 +1,7 @@
 //! One random call, made on both.
-use crate::dice::Dice;
 use crate::plain::Plain;
 use std::alloc::Global;
+use tests_disk::Dice;
 use tks_text::Txt;
 use tks_timer::Timers;
 

@@ -1,9 +1,9 @@
 //! Timers and idle scripts beside a plain list.
 
-use crate::dice::Dice;
 use crate::plain::Plain;
 use crate::trial::call_agrees;
 use std::alloc::Global;
+use tests_disk::Dice;
 use tks_share::Copied;
 use tks_text::{ErrorNumber, Failure, Txt};
 use tks_timer::{Timers, Waiting};
