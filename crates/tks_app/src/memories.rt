@@ -30,9 +30,15 @@ impl Copied for Memory {
 }
 
 /// The memories of an application's commands, a name each, fewer than 2^32. Names rise by their bytes.
-#[derive(Drop)]
 pub struct Memories {
     items: Vec<Memory>,
+}
+
+// Written out, so that to let go of it is one step for whoever owns it.
+impl Drop for Memories {
+    fn drop(self) {
+        let Memories { items: _ } = self;
+    }
 }
 
 impl Model for Memories {

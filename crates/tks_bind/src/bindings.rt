@@ -25,12 +25,23 @@ use tks_text::{Seq, Txt};
 const MAX_NUMBER: u64 = 1 << 62;
 
 /// The bindings, in the order in which they were made. They know what they were at a mark.
-#[derive(Drop)]
 pub struct Bindings {
     alloc: Global,
     bindings: Marked<Binding>,
     next: u64,
     next_at_mark: u64,
+}
+
+// Written out, so that to let go of it is one step for whoever owns it.
+impl Drop for Bindings {
+    fn drop(self) {
+        let Bindings {
+            alloc: _,
+            bindings: _,
+            next: _,
+            next_at_mark: _,
+        } = self;
+    }
 }
 
 impl Model for Bindings {

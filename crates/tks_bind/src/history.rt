@@ -13,13 +13,23 @@ use tks_share::Copied;
 pub const MAX_HISTORY: usize = 32;
 
 /// The last physical events that were delivered, at most 32, each one that there is. It knows what it was at a mark.
-#[derive(Drop)]
 pub struct History {
     alloc: Global,
     // All since some moment: the history is the last of them.
     log: Vec<Event>,
     // How many there were at the mark.
     mark: Option<usize>,
+}
+
+// Written out, so that to let go of it is one step for whoever owns it.
+impl Drop for History {
+    fn drop(self) {
+        let History {
+            alloc: _,
+            log: _,
+            mark: _,
+        } = self;
+    }
 }
 
 impl Model for History {

@@ -15,10 +15,19 @@ use tks_share::Copied;
 use tks_text::{Seq, Txt};
 
 /// The virtual events that have sequences, in the order in which they were added. They know what they were at a mark.
-#[derive(Drop)]
 pub struct Virtuals {
     alloc: Global,
     events: Marked<VirtualEvent>,
+}
+
+// Written out, so that to let go of it is one step for whoever owns it.
+impl Drop for Virtuals {
+    fn drop(self) {
+        let Virtuals {
+            alloc: _,
+            events: _,
+        } = self;
+    }
 }
 
 impl Model for Virtuals {

@@ -16,10 +16,19 @@ use tks_text::{Class, Failure, Seq, Txt};
 /// A widget with a caption, a text of one or more lines: a label (label(n)), a button (button(n)), or a checkbutton
 /// (checkbutton(n)), which is on or off as its variable says. The variable is kept by the caller, who reads and sets
 /// it. Contracts see the options, which say the class too.
-#[derive(Drop)]
 pub struct Caption {
     alloc: Global,
     options: Options,
+}
+
+// Written out, so that to let go of it is one step for whoever owns it.
+impl Drop for Caption {
+    fn drop(self) {
+        let Caption {
+            alloc: _,
+            options: _,
+        } = self;
+    }
 }
 
 impl Model for Caption {

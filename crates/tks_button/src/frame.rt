@@ -11,10 +11,19 @@ use tks_opt::{OptionName, Options, Said, blank_rows};
 use tks_text::{Class, Failure, Seq, Txt};
 
 /// A frame (frame(n)), or `.`, which is one of a class of its own. Contracts see its options.
-#[derive(Drop)]
 pub struct Frame {
     alloc: Global,
     options: Options,
+}
+
+// Written out, so that to let go of it is one step for whoever owns it.
+impl Drop for Frame {
+    fn drop(self) {
+        let Frame {
+            alloc: _,
+            options: _,
+        } = self;
+    }
 }
 
 impl Model for Frame {

@@ -51,12 +51,22 @@ impl From<DeviceFault> for FileDiskFault {
 /// Each call that the system refuses is a `DeviceFault`. A sync is done when the system has told that the file's bytes and
 /// length have reached the device. What the files hold, no contract says: that they keep to the laws of a disk is supposed
 /// by whoever relies on them, so the disk isn't shown to be honest.
-#[derive(Drop)]
 pub struct FileDisk<F> {
     a: F,
     b: F,
     /// One for each call that failed. Only clauses read it.
     failed: Trail<()>,
+}
+
+// Written out, so that to let go of it is one step for whoever owns it.
+impl<F: Drop> Drop for FileDisk<F> {
+    fn drop(self) {
+        let FileDisk {
+            a: _,
+            b: _,
+            failed: _,
+        } = self;
+    }
 }
 
 impl<F> Model for FileDisk<F> {

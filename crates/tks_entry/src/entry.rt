@@ -10,12 +10,23 @@ use tks_opt::{Options, State};
 use tks_text::{Class, ErrorNumber, Failure, ScriptFault, Txt, integer_of};
 
 /// An entry (entry(n)): a line of text that is edited at a cursor.
-#[derive(Drop)]
 pub struct EntryWidget {
     pub(crate) alloc: Global,
     pub(crate) options: Options,
     pub(crate) text: Txt,
     cursor: u32,
+}
+
+// Written out, so that to let go of it is one step for whoever owns it.
+impl Drop for EntryWidget {
+    fn drop(self) {
+        let EntryWidget {
+            alloc: _,
+            options: _,
+            text: _,
+            cursor: _,
+        } = self;
+    }
 }
 
 impl Model for EntryWidget {

@@ -13,13 +13,25 @@ use tks_opt::Options;
 use tks_text::{Class, Failure, Seq, Txt};
 
 /// A text widget (text(n)): characters in lines, with tags on them and marks between them.
-#[derive(Drop)]
 pub struct TextWidget {
     pub(crate) alloc: Global,
     pub(crate) options: Options,
     pub(crate) text: Txt,
     pub(crate) tags: Seq<Tag>,
     pub(crate) marks: Seq<Mark>,
+}
+
+// Written out, so that to let go of it is one step for whoever owns it.
+impl Drop for TextWidget {
+    fn drop(self) {
+        let TextWidget {
+            alloc: _,
+            options: _,
+            text: _,
+            tags: _,
+            marks: _,
+        } = self;
+    }
 }
 
 impl Model for TextWidget {

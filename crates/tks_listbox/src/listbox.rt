@@ -14,12 +14,23 @@ use tks_opt::{Options, State};
 use tks_text::{Class, ErrorNumber, Failure, ScriptFault, Seq, Txt, integer_of};
 
 /// A listbox (listbox(n)): items, one of which is active, and each of which is selected or not.
-#[derive(Drop)]
 pub struct ListWidget {
     pub(crate) alloc: Global,
     pub(crate) options: Options,
     pub(crate) items: Seq<Item>,
     active: usize,
+}
+
+// Written out, so that to let go of it is one step for whoever owns it.
+impl Drop for ListWidget {
+    fn drop(self) {
+        let ListWidget {
+            alloc: _,
+            options: _,
+            items: _,
+            active: _,
+        } = self;
+    }
 }
 
 impl Model for ListWidget {

@@ -34,11 +34,21 @@ pub trait Requests {
 
 /// The windows that are packed in a container, in order, and whether the container asks to be as large as they
 /// need.
-#[derive(Drop)]
 pub struct Packing {
     alloc: Global,
     contents: Seq<Content>,
     propagates: bool,
+}
+
+// Written out, so that to let go of it is one step for whoever owns it.
+impl Drop for Packing {
+    fn drop(self) {
+        let Packing {
+            alloc: _,
+            contents: _,
+            propagates: _,
+        } = self;
+    }
 }
 
 impl Model for Packing {

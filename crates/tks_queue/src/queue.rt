@@ -14,10 +14,19 @@ use tks_mark::{Items, Marked};
 use tks_share::Copied;
 
 /// The events that wait to be delivered, the next one first: each is one that there is. They know what they were at a mark.
-#[derive(Drop)]
 pub struct Queue {
     alloc: Global,
     events: Marked<Queued>,
+}
+
+// Written out, so that to let go of it is one step for whoever owns it.
+impl Drop for Queue {
+    fn drop(self) {
+        let Queue {
+            alloc: _,
+            events: _,
+        } = self;
+    }
 }
 
 impl Model for Queue {

@@ -14,7 +14,6 @@ use tks_input::{Input, Refused, Reply};
 use tks_journal::Journal;
 
 /// A machine on a disk: each input that is accepted changes the machine's state, and a commit puts all of them on the disk.
-#[derive(Drop)]
 pub struct Session<D: Disk, M: Machine> {
     alloc: Global,
     journal: Journal<D>,
@@ -24,6 +23,21 @@ pub struct Session<D: Disk, M: Machine> {
     body: Vec<u8>,
     waiting: usize,
     acknowledged: u64,
+}
+
+// Written out, so that to let go of it is one step for whoever owns it.
+impl<D: Disk + Drop, M: Machine + Drop> Drop for Session<D, M> {
+    fn drop(self) {
+        let Session {
+            alloc: _,
+            journal: _,
+            machine: _,
+            world: _,
+            body: _,
+            waiting: _,
+            acknowledged: _,
+        } = self;
+    }
 }
 
 impl<D: Disk, M: Machine> Model for Session<D, M> {

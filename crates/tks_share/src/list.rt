@@ -15,10 +15,16 @@ use std::marker::Model;
 
 /// A list of fewer than 2^32 items by their places. Copies share what they have in common, so to make one costs next to nothing; a change costs
 /// as much as the items on one way down a balanced tree.
-#[derive(Drop)]
 pub struct SharedList<T> {
     alloc: Global,
     tree: Tree<Shared<T>>,
+}
+
+// Written out, so that to let go of it is one step for whoever owns it.
+impl<T: Drop> Drop for SharedList<T> {
+    fn drop(self) {
+        let SharedList { alloc: _, tree: _ } = self;
+    }
 }
 
 impl<T> Model for SharedList<T> {

@@ -15,11 +15,21 @@ pub(crate) const MAX_LEN: usize = 4_294_967_295;
 
 /// A finite map from fewer than 2^32 names to values, in the order of the names' bytes. Copies share what they have in common, so to make one
 /// costs next to nothing; a change costs as much as the names on one way down a balanced tree.
-#[derive(Drop)]
 pub struct SharedMap<V> {
     alloc: Global,
     len: usize,
     tree: Tree<Entry<V>>,
+}
+
+// Written out, so that to let go of it is one step for whoever owns it.
+impl<V: Drop> Drop for SharedMap<V> {
+    fn drop(self) {
+        let SharedMap {
+            alloc: _,
+            len: _,
+            tree: _,
+        } = self;
+    }
 }
 
 impl<V> Model for SharedMap<V> {

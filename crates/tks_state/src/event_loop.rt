@@ -21,7 +21,6 @@ use tks_timer::{AfterFault, Timers};
 use tks_tree::{Tree, WindowId};
 
 /// What turns work on. The clock is at most 2^62. Copies share the events and scripts that wait, as long as none of them changes them.
-#[derive(Drop)]
 pub struct EventLoop {
     alloc: Global,
     clock: u64,
@@ -30,6 +29,21 @@ pub struct EventLoop {
     focus: WindowId,
     held: Held,
     pressed: Option<WindowId>,
+}
+
+// Written out, so that to let go of it is one step for whoever owns it.
+impl Drop for EventLoop {
+    fn drop(self) {
+        let EventLoop {
+            alloc: _,
+            clock: _,
+            queue: _,
+            timers: _,
+            focus: _,
+            held: _,
+            pressed: _,
+        } = self;
+    }
 }
 
 impl Model for EventLoop {

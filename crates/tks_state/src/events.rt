@@ -22,13 +22,25 @@ use tks_text::Txt;
 use tks_tree::Tree;
 
 /// What scripts bound to events rest on. Copies share the parts that none of them has changed.
-#[derive(Drop)]
 pub struct Events {
     alloc: Global,
     bindings: Shared<Bindings>,
     virtuals: Shared<Virtuals>,
     history: Shared<History>,
     faults: Shared<Faults>,
+}
+
+// Written out, so that to let go of it is one step for whoever owns it.
+impl Drop for Events {
+    fn drop(self) {
+        let Events {
+            alloc: _,
+            bindings: _,
+            virtuals: _,
+            history: _,
+            faults: _,
+        } = self;
+    }
 }
 
 impl Model for Events {

@@ -13,7 +13,6 @@ use tks_pack::Extent;
 use tks_text::{Failure, Seq, Txt};
 
 /// What a window is, by its class.
-#[derive(Drop)]
 pub enum Widget {
     /// A frame, or `.`.
     Frame(Frame),
@@ -22,6 +21,19 @@ pub enum Widget {
     Entry(EntryWidget),
     Listbox(ListWidget),
     Text(TextWidget),
+}
+
+// Written out, so that to let go of it is one step for whoever owns it.
+impl Drop for Widget {
+    fn drop(self) {
+        match self {
+            Widget::Frame(_) => {}
+            Widget::Caption(_) => {}
+            Widget::Entry(_) => {}
+            Widget::Listbox(_) => {}
+            Widget::Text(_) => {}
+        }
+    }
 }
 
 // So many cells, as far as they are told of.

@@ -22,11 +22,21 @@ use tks_text::{ErrorNumber, Failure, ScriptFault, Seq, Txt};
 use tks_tree::{CreateFault, Tree, WindowId};
 
 /// The windows of a world. Copies share what none of them has changed.
-#[derive(Drop)]
 pub struct Windows {
     alloc: Global,
     tree: Tree,
     kept: SharedList<Kept>,
+}
+
+// Written out, so that to let go of it is one step for whoever owns it.
+impl Drop for Windows {
+    fn drop(self) {
+        let Windows {
+            alloc: _,
+            tree: _,
+            kept: _,
+        } = self;
+    }
 }
 
 impl Model for Windows {

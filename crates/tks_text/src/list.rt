@@ -9,9 +9,15 @@ use std::marker::Model;
 pub(crate) const MAX_LEN: usize = 4_294_967_295;
 
 /// A list of fewer than 2^32 items inside a value that contracts compare: they see its items alone, and no capacity.
-#[derive(Drop)]
 pub struct Seq<T> {
     items: Vec<T>,
+}
+
+// Written out, so that to let go of it is one step for whoever owns it.
+impl<T: Drop> Drop for Seq<T> {
+    fn drop(self) {
+        let Seq { items: _ } = self;
+    }
 }
 
 impl<T> Model for Seq<T> {
@@ -54,7 +60,8 @@ impl<T> Seq<T> {
     pub fn into_items(self) -> Vec<T>
         ensures { result.items ≡ self }
     {
-        self.items
+        let Seq { items } = self;
+        items
     }
 
     /// The items, in order.

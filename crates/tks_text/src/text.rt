@@ -10,9 +10,16 @@ use thiserror::Error;
 
 /// A text: fewer than 2^32 bytes, each of which is a tab, a newline or a printing character of ASCII (32 to 126). What would
 /// be longer is refused as memory is. Contracts see it as the list of its bytes.
-#[derive(Debug, Drop)]
+#[derive(Debug)]
 pub struct Txt {
     bytes: Vec<u8>,
+}
+
+// Written out, so that to let go of it is one step for whoever owns it.
+impl Drop for Txt {
+    fn drop(self) {
+        let Txt { bytes: _ } = self;
+    }
 }
 
 impl Model for Txt {

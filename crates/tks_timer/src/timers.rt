@@ -30,13 +30,25 @@ pub enum Waiting<'a> {
 }
 
 /// The scripts that wait to be run. They know what they were at a mark.
-#[derive(Drop)]
 pub struct Timers {
     alloc: Global,
     timers: Marked<Timer>,
     idles: Marked<Idle>,
     next: u64,
     next_at_mark: u64,
+}
+
+// Written out, so that to let go of it is one step for whoever owns it.
+impl Drop for Timers {
+    fn drop(self) {
+        let Timers {
+            alloc: _,
+            timers: _,
+            idles: _,
+            next: _,
+            next_at_mark: _,
+        } = self;
+    }
 }
 
 impl Model for Timers {

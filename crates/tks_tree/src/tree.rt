@@ -21,13 +21,24 @@ const MAX_NUMBER: u64 = 1 << 62;
 
 /// The windows that there are, in the order in which they were made. There is always `.`, and each other
 /// window stands in one made before it. Copies share what they have in common, so to make one costs next to nothing.
-#[derive(Drop)]
 pub struct Tree {
     alloc: Global,
     windows: SharedList<Entry>,
     // The number of each window, under its path.
     index: SharedMap<WindowId>,
     next: u64,
+}
+
+// Written out, so that to let go of it is one step for whoever owns it.
+impl Drop for Tree {
+    fn drop(self) {
+        let Tree {
+            alloc: _,
+            windows: _,
+            index: _,
+            next: _,
+        } = self;
+    }
 }
 
 impl Model for Tree {

@@ -19,12 +19,23 @@ use tks_text::{ErrorNumber, Failure, Txt};
 
 /// The variables of scripts, and the procedures. Calls speak of the present frame: that of the innermost
 /// procedure, or the globals where there is none and where `push_global` made them the present frame.
-#[derive(Drop)]
 pub struct Vars {
     alloc: Global,
     globals: Table<Content>,
     locals: Vec<Option<Table<Local>>>,
     procedures: Table<Procedure>,
+}
+
+// Written out, so that to let go of it is one step for whoever owns it.
+impl Drop for Vars {
+    fn drop(self) {
+        let Vars {
+            alloc: _,
+            globals: _,
+            locals: _,
+            procedures: _,
+        } = self;
+    }
 }
 
 impl Model for Vars {
