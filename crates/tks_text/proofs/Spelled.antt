@@ -1,9 +1,10 @@
 -- The relation "this text spells this integer" and the function that reads it are one.
-use Rattle.std.proofs.Common.{◌≡◌, ◌↔◌, ◌||◌, ◌&&◌, ℕ, zero, suc, ◌^◌, ◌<◌, ◌≤◌, ◌⊎◌, inl, inr, ◌==◌, Bool, true, false, ltb, List, [], ◌∷◌, ◌++◌, append_assoc, length, take, drop, Option, Some, None, refl, sym, ap, ◌∙◌, subst, arith, ℤ, pos, negsuc, Ok, get_or, append-nil}
+use Rattle.std.proofs.Common.{◌≡◌, ◌↔◌, ◌||◌, ◌&&◌, ℕ, zero, suc, ◌^◌, ◌<◌, ◌≤◌, ◌⊎◌, inl, inr, ◌==◌, Bool, true, false, ltb, List, [], ◌∷◌, ◌++◌, append_assoc, length, take, drop, Option, Some, None, refl, sym, ap, ◌∙◌, subst, arith, ℤ, pos, negsuc, Ok, get_or, append-nil, to_z, w64}
 use Rattle.std.proofs.Math.Seq.{take-append_seam, drop-append_seam}
 use Rattle.std.proofs.lemmas.Bool.{cond_both, eqb-true, lt-ltb, ltb-true, false_from_ne_true}
 use Rattle.std.proofs.lemmas.Fmt.{decimal_digit, decimal_is_IsNumeral, first_decimal}
 use Rattle.std.proofs.lemmas.Grind.{common_steps}
+use Rattle.std.proofs.lemmas.Int.{to_z_pos}
 use Rattle.std.proofs.lemmas.List.{take-append-drop}
 use Rattle.std.proofs.lemmas.List.Folds.{length-prefix_len}
 use Rattle.std.specs.Char.{digit_value, is_digit}
@@ -244,9 +245,12 @@ digits_pass : (ds : List ℕ) → AllDigits 10 ds → AreDigits 10 ds
 digits_pass [] h = tt
 digits_pass (d ∷ ds) h = (lt-ltb (digit_value d) 10 h.0, digits_pass ds h.1)
 
+begins_other : (t : List ℕ) → 0 < length t → (get_or t 0 0 ≡ 48 → ⊥) → BeginsOtherThan 48 t
+begins_other [] some other = absurd (omega arith)
+begins_other (c ∷ t) some other = false_from_ne_true (c == 48) (λ e. other (eqb-true c 48 e))
+
 begins_above : (t : List ℕ) → 0 < length t → 48 < get_or t 0 0 → BeginsOtherThan 48 t
-begins_above [] some h = absurd (omega arith)
-begins_above (c ∷ t) some h = false_from_ne_true (c == 48) (λ e. let k = eqb-true c 48 e in absurd (omega arith))
+begins_above t some h = begins_other t some (λ e. omega arith)
 
 decimal_numeral : (n : ℕ) → n < 2 ^ 64 → Numeral (digits_of_number n) n
 decimal_numeral zero h = subst (λ t. Numeral t 0) (sym (decimal_digit 0 (omega arith))) (octal [] tt)
@@ -268,3 +272,11 @@ decimal_spelled (negsuc n) e =
 
 pub decimal_is_read : (z : ℤ) → fits_i64 z ≡ true → integer_of (signed_decimal z) ≡ Ok (Some z)
 decimal_is_read z e = rw (spelled_read (signed_decimal z) z (decimal_spelled z e), e) refl
+
+-- ---- plain decimals
+
+-- digits alone, of which the first isn't `0`, are read as the number that they write
+pub digits_are_read : (t : List ℕ) (n : ℕ) → AreDigits 10 t → n ≡ digits_value 10 t → n < 10 ^ 18 → 1 ≤ length t → (get_or t 0 0 ≡ 48 → ⊥) → integer_of t ≡ Ok (Some (to_z w64 n))
+digits_are_read t n digits value small some other =
+    let numeral : Numeral t n = subst (λ k. Numeral t k) (sym value) (decimal t (begins_other t (omega arith) other) digits) in
+    rw (to_z_pos w64 n (omega arith), spelled_read t (pos n) (alone t (pos n) (bare t n numeral)), lt-ltb n (2 ^ 63) (omega arith)) refl

@@ -1,10 +1,10 @@
-ghost use Rattle.std.specs.Prelude.{◌≡◌, ◌<◌, ◌≤◌, ◌+◌, ◌*◌, ◌^◌, length, Some, IfOk};
+ghost use Rattle.std.specs.Prelude.{◌≡◌, ◌<◌, ◌≤◌, ◌+◌, ◌*◌, ◌^◌, length, Some, Ok, IfOk, IfSome, OnSome};
 ghost use Rattle.std.specs.Char.{digit_value, is_digit};
 ghost use Rattle.std.specs.Fmt.{signed_decimal};
 ghost use Rattle.std.specs.List.{prefix_len, list_all};
 ghost use Rattle.std.specs.Option.{SomeIff, option_map};
 ghost use Rattle.std.specs.Str.Parse.{digits_value};
-ghost use Rattle.tks_text.specs.Integer.{is_space, number_in, unsigned_value, with_sign, signed_value, within_u64, within_i64, integer_of};
+ghost use Rattle.tks_text.specs.Integer.{is_space, AreDigits, number_in, unsigned_value, with_sign, signed_value, within_u64, within_i64, integer_of};
 
 use crate::text::Txt;
 use itoa::Buffer;
@@ -137,6 +137,35 @@ fn signed_value(text: &[u8]) -> Result<Option<i64>, Range>
     }
 }
 
+// The number that decimal digits write, where it is below 10^18; nothing where another byte is among them.
+fn decimal_value(digits: &[u8]) -> Option<u64>
+    ensures digits { OnSome result (AreDigits 10 digits.now) }
+    ensures value { IfSome result (λ n. n ≡ digits_value 10 digits.now) }
+    ensures small { IfSome result (λ n. n < 10 ^ 18) }
+{
+    let mut value: u64 = 0;
+    for digit in digits {
+        if value >= 100_000_000_000_000_000 || !digit.is_ascii_digit() {
+            return None;
+        }
+        value = value * 10 + u64::from(*digit - b'0');
+    }
+    Some(value)
+}
+
+// The number of a text of decimal digits alone, at most 18 of them and the first not `0`, or of the text `0`;
+// nothing for any other text.
+#[tactic(auto, using(crate::proofs::Spelled::digits_are_read))]
+fn plain_decimal(text: &[u8]) -> Option<i64>
+    ensures { IfSome result (λ z. integer_of text.now ≡ Ok (Some z)) }
+{
+    match text {
+        [first, ..] if *first != b'0' => Some(decimal_value(text)? as i64),
+        [b'0'] => Some(0),
+        _ => None,
+    }
+}
+
 /// The integer that a text spells: an optional sign and decimal digits, `0x` and hex digits, or `0` and
 /// octal digits, with white space around them or none. `None` where the text is no integer, and `Range`
 /// where it is one beyond 64 bits.
@@ -144,6 +173,9 @@ pub fn integer_of(text: &Txt) -> Result<Option<i64>, Range>
     ensures { result ≡ integer_of text.now }
 {
     let bytes = text.as_bytes();
+    if let Some(integer) = plain_decimal(bytes) {
+        return Ok(Some(integer));
+    }
     signed_value(bytes.split_at(space_len(bytes)).1)
 }
 
