@@ -8,3 +8,4 @@ pub mod Wide
 pub mod Bits
 pub mod Shifts
 pub mod Divisions
+pub mod Conditions

@@ -1,6 +1,6 @@
 ghost use Rattle.std.specs.Prelude.{◌≡◌};
 ghost use Rattle.tks_text.specs.Fault.{Gives};
-ghost use Rattle.tks_expr.specs.Operation.{integer_in, integers_in, truth_in_word, truth_of, order, truth, binary_value, unary_value, applied, applied_unary, result_of};
+ghost use Rattle.tks_expr.specs.Operation.{integer_in, integers_in, truth_in_word, truth_of, order, truth, binary_value, unary_value, after, applied, applied_unary, result_of};
 
 use crate::arithmetic::{Integers, fault_of, in_range};
 use crate::operator::{Binary, Unary};
@@ -117,6 +117,15 @@ pub fn apply(alloc: Global, operator: Binary, left: &Txt, right: &Txt) -> Result
 {
     let value = binary_value(operator, left, right)?;
     Ok(decimal_of(alloc, value)?)
+}
+
+/// Whether what an operator gives for two texts holds as a condition: the truth of what [`apply`] makes,
+/// without the text of it. The errors are those of [`apply`].
+pub fn holds(operator: Binary, left: &Txt, right: &Txt) -> Result<bool, Failure>
+    ensures { Gives (λ b. b) result (after (applied operator left.now right.now) truth_of) }
+{
+    let value = binary_value(operator, left, right)?;
+    Ok(value != 0)
 }
 
 /// What an operator gives for a text (expr(n), "OPERATORS"), an integer in decimal. The errors are those of
