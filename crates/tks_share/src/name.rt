@@ -41,6 +41,12 @@ impl Name {
         ensures { result ≡ order bytes.now self.now }
     {
         let name = self.bytes.as_slice();
+        // Most names that differ do so in their first byte.
+        if let ([first, ..], [own, ..]) = (bytes, name) {
+            if first != own {
+                return first.cmp(own);
+            }
+        }
         // Most names that are looked up are there, and to be equal costs less to find than an order.
         if bytes == name {
             return Ordering::Equal;

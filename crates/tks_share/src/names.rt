@@ -143,6 +143,7 @@ pub(crate) fn change<V: Copied, C: Change<V>>(
 ) -> Result<Option<C::Answer>, AllocError>
     ensures some { IfOk result (λ o. IfSome o (λ answer. T (is_sorted order tree.old) → IsChanged (C.gives change.old) name.now tree.old tree.new answer)) }
     ensures none { IfOk result (λ o. IfNone o ((tree.new ≡ tree.old) × (T (is_sorted order tree.old) → find order name.now tree.old ≡ None))) }
+    ensures unused { IfOk result (λ o. IfNone o (change.new ≡ change.old)) }
     ensures err { OnErr result (tree.new ≡ tree.old) }
     ensures count { length tree.new ≡ length tree.old }
 {
