@@ -1,4 +1,4 @@
-ghost use Rattle.std.specs.Prelude.{◌≡◌, ◌<◌, ◌^◌, IfOk, IfSome, IfNone, None, OnOk, OnErr, option_copied};
+ghost use Rattle.std.specs.Prelude.{◌≡◌, ◌<◌, ◌^◌, true, IfOk, IfSome, IfNone, None, OnOk, OnErr, option_copied};
 ghost use Rattle.std.specs.FinMap as map;
 
 use crate::change::Change;
@@ -99,25 +99,20 @@ impl<V: Drop> SharedMap<V> {
         ensures ok { OnOk result (self.new ≡ map.insert self.old name.now value) }
         ensures err { OnErr result (self.new ≡ self.old) }
     {
-        let len = self.len_with(name)?;
+        if !self.has_room(name) {
+            return Err(AllocError);
+        }
         let value = Shared::new(self.alloc, value)?;
         names::insert(&mut self.tree, self.alloc, name, value)?;
-        self.len = len;
+        self.len = self.tree.count();
         Ok(())
     }
 
-    // How many names there are with this one.
-    fn len_with(&self, name: &[u8]) -> Result<usize, AllocError>
-        ensures value { IfOk result (λ n. (value : V) → n ≡ map.len (map.insert self.now name.now value)) }
-        ensures short { IfOk result (λ n. n < 2 ^ 32) }
+    // Whether this name can be put in.
+    fn has_room(&self, name: &[u8]) -> bool
+        ensures { result ≡ true → (value : V) → map.len (map.insert self.now name.now value) < 2 ^ 32 }
     {
-        if self.contains(name) {
-            return Ok(self.len);
-        }
-        if self.len >= MAX_LEN {
-            return Err(AllocError);
-        }
-        Ok(self.len + 1)
+        self.len < MAX_LEN || self.contains(name)
     }
 
     /// Takes a name out.
