@@ -7,9 +7,9 @@ use Rattle.tks_text.specs.declared.fault.ScriptFault.{ScriptFault}
 use Rattle.tks_text.specs.declared.fault.Failure.{Failure}
 use Rattle.tks_text.specs.declared.fault.Failure.TheVariants as failure
 use Rattle.tks_vars.specs.Table.{Map}
-use Rattle.tks_vars.specs.Names.{Name, element}
-use Rattle.tks_vars.specs.Variables.{about, after, updated, taken, Frame}
-use Rattle.tks_vars.specs.Parts.{own, global_left, local_left, put_global, put_local, take_global, take_local}
+use Rattle.tks_vars.specs.Names.{element}
+use Rattle.tks_vars.specs.Variables.{about, after, taken, Frame}
+use Rattle.tks_vars.specs.Parts.{own, global_left, local_left, take_global, take_local}
 use Rattle.tks_vars.specs.declared.content.Content.{Content}
 use Rattle.tks_vars.specs.declared.content.Local.{Local}
 use Rattle.tks_vars.specs.declared.content.Local.TheVariants.{Own}
@@ -28,18 +28,6 @@ module _ (text : List ℕ) where
   pub about_failed : {X Y : Type 0} (r : Result X ErrorNumber) (f : X → Y) (fault : ScriptFault) → about text r ≡ Err fault → about text (after r f) ≡ Err fault
   about_failed (Ok y) f fault e = absurd cc
   about_failed (Err number) f fault e = cc
-
-  pub put_there : (m new : Map Content) (name : Name) (value : List ℕ) (old now : Content) → Some old ≡ map.get m name.variable → about text (updated (Some old) name.index value) ≡ Ok now
-      → new ≡ map.insert m name.variable now → about text (put_global m name value) ≡ Ok new
-  put_there m new name value old now at is e =
-      ap (λ (o : Option Content). about text (after (updated o name.index value) (map.insert m name.variable))) (sym at)
-      ∙ about_after (updated (Some old) name.index value) (map.insert m name.variable) now is ∙ ap Ok (sym e)
-
-  pub put_own : (m new : Frame) (name : Name) (value : List ℕ) (old now : Content) → Some (Own old) ≡ map.get m name.variable → about text (updated (Some old) name.index value) ≡ Ok now
-      → new ≡ map.insert m name.variable (Own now) → about text (put_local m name value) ≡ Ok new
-  put_own m new name value old now at is e =
-      ap (λ (o : Option Local). about text (after (updated (own o) name.index value) (λ c. map.insert m name.variable (Own c)))) (sym at)
-      ∙ about_after (updated (Some old) name.index value) (λ c. map.insert m name.variable (Own c)) now is ∙ ap Ok (sym e)
 
   pub take_there : (m new : Map Content) (variable index : List ℕ) (old now : Content) → Some old ≡ map.get m variable → about text (taken (Some old) (Some index)) ≡ Ok (Some now)
       → new ≡ map.insert m variable now → about text (take_global m (element variable index)) ≡ Ok new

@@ -6,3 +6,4 @@ pub mod Parts
 pub mod View
 pub mod Meets
 pub mod Growth
+pub mod Setting

@@ -1,7 +1,8 @@
 -- The names of variables (Tcl(n), rule 8; set(n)).
 use Rattle.std.specs.Prelude.{ℕ, Bool, false, is_none, ◌+◌, ◌-◌, ◌==◌, if◌then◌else◌, List, [], ◌∷◌, length, take, drop, Option, Some, None, option_map, position, codes}
+use Rattle.std.specs.Coded.{Unit-prop}
 use Rattle.tks_text.specs.Text.{same_text}
-use Rattle.tks_vars.specs.Table.{IsName}
+use Rattle.tks_vars.specs.Table.{IsName, IsName-prop}
 
 -- a variable, and, where an element of it is named, the index
 pub record Name : Type 0 where
@@ -49,6 +50,11 @@ named text = named_in text (halves text)
 abbrev pub IsIndex : Option (List ℕ) → Type 0
 IsIndex None = Unit {0}
 IsIndex (Some index) = IsName index
+
+-- there is one proof at most that it is one
+pub IsIndex-prop : (index : Option (List ℕ)) → IsProp (IsIndex index)
+IsIndex-prop None = Unit-prop
+IsIndex-prop (Some index) = IsName-prop index
 
 -- its parts are texts
 pub record IsSpelled (name : Name) : Type 0 where

@@ -69,22 +69,20 @@ impl Content {
         }
     }
 
-    /// What the whole variable, or its array, becomes by a value. The error tells the name.
-    pub fn updated(
-        &self,
-        name: &Txt,
-        index: Option<&[u8]>,
-        value: ListText,
-    ) -> Result<Content, Failure>
+    /// Gives the whole variable, or an element, a value. The error tells the name.
+    pub fn set(&mut self, name: &Txt, index: Option<&[u8]>, value: ListText) -> Result<(), Failure>
         requires { IsIndex (index_seen index) }
-        ensures { Gives (λ c. c) result (about name.now (updated (Some self.now) (index_seen index.entry) value)) }
+        ensures value { Gives (λ _. self.new) result (about name.now (updated (Some self.old) (index_seen index.entry) value)) }
+        ensures err { OnErr result (self.new ≡ self.old) }
     {
         match (self, index) {
-            (Content::Scalar(_), None) => Ok(Content::Scalar(value)),
+            (Content::Scalar(held), None) => {
+                *held = value;
+                Ok(())
+            }
             (Content::Array(elements), Some(index)) => {
-                let mut elements = elements.share()?;
                 elements.insert(index, value)?;
-                Ok(Content::Array(elements))
+                Ok(())
             }
             _ => Err(Failure::about(ErrorNumber::WrongKindOfVariable, name)),
         }

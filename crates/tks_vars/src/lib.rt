@@ -6,6 +6,7 @@ mod growth;
 mod laws;
 mod name;
 mod procedure;
+mod setting;
 mod table;
 mod vars;
 mod writing;

@@ -122,6 +122,7 @@ impl<V: Copied> Table<V> {
     ) -> Result<Option<C::Answer>, AllocError>
         ensures some { IfOk result (λ o. IfSome o (λ answer. IsChangedIn (C.gives change.old) name.now self.old self.new answer)) }
         ensures none { IfOk result (λ o. IfNone o ((self.new ≡ self.old) × (map.get self.old name.now ≡ None))) }
+        ensures unused { IfOk result (λ o. IfNone o (change.new ≡ change.old)) }
         ensures err { OnErr result (self.new ≡ self.old) }
     {
         self.entries.change(name, change)

@@ -9,6 +9,7 @@ ghost use Rattle.tks_vars.specs.Table.{IsName};
 
 use crate::content::{Content, Local};
 use crate::name::{Name, named};
+use crate::setting::Setting;
 use crate::table::Table;
 use std::alloc::Global;
 use tks_list::ListText;
@@ -26,14 +27,16 @@ pub fn write_global(
     ensures value { Gives (λ _. globals.new) result (about name.now (put_global globals.old (name_seen part.entry) value)) }
     ensures err { OnErr result (globals.new ≡ globals.old) }
 {
-    match globals.get(part.variable) {
-        Some(content) => {
-            let content = content.updated(name, part.index, value)?;
-            globals.insert(part.variable, content)?;
-            Ok(())
-        }
+    let mut setting = Setting {
+        name,
+        index: part.index,
+        value: Some(value),
+    };
+    match globals.change(part.variable, &mut setting)? {
+        Some(answer) => answer,
         None => {
-            globals.insert(part.variable, Content::of(alloc, part.index, value)?)?;
+            let content = Content::of(alloc, part.index, setting.into_value())?;
+            globals.insert(part.variable, content)?;
             Ok(())
         }
     }
@@ -52,15 +55,15 @@ pub fn write_local(
     ensures value { Gives (λ _. frame.new) result (about name.now (put_local frame.old (name_seen part.entry) value)) }
     ensures err { OnErr result (frame.new ≡ frame.old) }
 {
-    match frame.get(part.variable) {
-        Some(Local::Own(content)) => {
-            let content = content.updated(name, part.index, value)?;
-            frame.insert(part.variable, Local::Own(content))?;
-            Ok(())
-        }
-        Some(Local::Link) => Err(Failure::about(ErrorNumber::NoSuchVariable, name)),
+    let mut setting = Setting {
+        name,
+        index: part.index,
+        value: Some(value),
+    };
+    match frame.change(part.variable, &mut setting)? {
+        Some(answer) => answer,
         None => {
-            let content = Content::of(alloc, part.index, value)?;
+            let content = Content::of(alloc, part.index, setting.into_value())?;
             frame.insert(part.variable, Local::Own(content))?;
             Ok(())
         }
