@@ -4,6 +4,7 @@ use crate::again::{
     bindings_again, event_again, held_again, history_again, memories_again, queue_again,
     sequence_again, virtuals_again, waiting_again,
 };
+use crate::spelling::is as are;
 use std::alloc::Global;
 use tks_codec_events::put_sequence;
 use tks_event::parse_sequence;
@@ -40,14 +41,6 @@ const QUEUE: &[u8] =
 
 const WAITING: &[u8] =
     b"\x00\x00\x00\x02\x00\x00\x00\x00\x00\x00\x00\x00@\x00\x00\x00\x00\x00\x00\x00\x00\x00\x00\x01a\x00\x00\x00\x00\x00\x00\x00\x03\x00\x00\x00\x00\x00\x00\x00\x05\x00\x00\x00\x01b\x00\x00\x00\x02\x00\x00\x00\x00\x00\x00\x00\x01\x00\x00\x00\x01c\x00\x00\x00\x00\x00\x00\x00\x04\x00\x00\x00\x00";
-
-// Whether bytes are what was written again.
-fn are(again: Option<Vec<u8>>, bytes: &[u8]) -> bool {
-    match again {
-        Some(out) => out.as_slice() == bytes,
-        None => false,
-    }
-}
 
 // These bytes, and one more.
 fn and_more(alloc: Global, bytes: &[u8]) -> Option<Vec<u8>> {

@@ -1,5 +1,5 @@
 //! Variables that are set, as bytes, and read again.
-use crate::spelling::is;
+use crate::spelling::{is, text};
 use std::alloc::Global;
 use tks_codec_variables::{put_variables, variables_of};
 use tks_text::{Seq, Txt};
@@ -12,11 +12,6 @@ const BYTES: &[u8] =
 
 // Nothing at all.
 const NOTHING: &[u8] = b"\x00\x00\x00\x00\x00\x00\x00\x00";
-
-// A text.
-fn text(alloc: Global, bytes: &[u8]) -> Option<Txt> {
-    Txt::from_bytes(alloc, bytes).ok()
-}
 
 // The procedure.
 fn procedure(alloc: Global) -> Option<Procedure> {

@@ -1,7 +1,7 @@
 ghost use Rattle.std.specs.Prelude.{◌≡◌, IfOk, IfErr, OnErr};
 ghost use Rattle.tks_session.specs.Machine.{accepts};
 ghost use Rattle.tks_session.specs.Refusing.{RefusedAs};
-ghost use Rattle.tests_session.specs.Logging.{logging, longer};
+ghost use Rattle.tests_store.specs.Logging.{logging, longer};
 
 use std::alloc::{AllocError, Global};
 use tks_codec::Header;

@@ -2,12 +2,18 @@
 use std::alloc::Global;
 use tks_codec::{CodecFault, Header, read_header, read_input, write_header, write_input};
 use tks_input::Input;
+use tks_text::Txt;
 
 /// What reading comes to: the value's spelling, as it is written again, or where the fault is.
 #[derive(Drop)]
 pub enum Read {
     Spelled(Vec<u8>),
     Bad(usize),
+}
+
+/// A text of these bytes.
+pub fn text(alloc: Global, bytes: &[u8]) -> Option<Txt> {
+    Txt::from_bytes(alloc, bytes).ok()
 }
 
 /// Whether bytes came of it, just these.

@@ -1,10 +1,10 @@
 //! Inputs and headers, each byte of them changed and each cut of them.
 
-use crate::spelling::{Read, header_of, header_spelled, input_of, input_spelled};
+use crate::spelling::{Read, header_of, header_spelled, input_of, input_spelled, text};
 use std::alloc::Global;
 use tks_codec::Header;
 use tks_input::Input;
-use tks_text::{Seq, Size, Txt};
+use tks_text::{Seq, Size};
 
 const SCRIPT: &[u8] = b"\x01\x00\x00\x00\x07set x 5";
 
@@ -22,10 +22,6 @@ const TURN: &[u8] = b"\x07";
 
 const HEADER: &[u8] =
     b"\x00\x00\x00\x00\x00\x00\x00\x02\x00\x50\x00\x18\x00\x00\x00\x02\x00\x00\x00\x01a\x00\x00\x00\x02ab\x00\x00\x00\x00\x00\x01\x00\x07";
-
-fn text(alloc: Global, bytes: &[u8]) -> Option<Txt> {
-    Txt::from_bytes(alloc, bytes).ok()
-}
 
 fn input(alloc: Global, tag: u8) -> Option<Input> {
     match tag {
