@@ -1,5 +1,5 @@
 # Scripts at global level, a row each: the script, ` => `, and the code and the result that tclsh gives it. The rows stand in
-# crates/tests_language/src/evaluation.rt. `top` runs its word at global level.
+# crates/tests_parts/src/evaluation.rt. `top` runs its word at global level.
 #
 #     tclsh global_level.tcl
 set scripts {

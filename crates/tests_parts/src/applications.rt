@@ -4,13 +4,10 @@ ghost use Rattle.tests_parts.specs.Swap.{swapped};
 ghost use Rattle.tks_app.specs.declared.answer.AppAnswer.{AppAnswer};
 
 use crate::swap::{Swap, swapped};
+use crate::texts::text_of_bytes as text;
 use std::alloc::{AllocError, Global};
 use tks_app::{AddFault, AddRefusal, AppAnswer, AppBody, AppClosure, AppCode, AppCommand, Apps};
 use tks_text::Txt;
-
-fn text(alloc: Global, bytes: &[u8]) -> Option<Txt> {
-    Txt::from_bytes(alloc, bytes).ok()
-}
 
 // Whether a command answers this text to the word, and keeps the word.
 fn answers<B: AppBody>(alloc: Global, command: &AppCommand<Swap, B>, word: &[u8]) -> Option<bool> {

@@ -1,6 +1,7 @@
 //! Timers and idle scripts beside a plain list.
 
 use crate::plain::Plain;
+use crate::texts::text_of_bytes as text;
 use crate::trial::call_agrees;
 use std::alloc::Global;
 use tests_disk::Dice;
@@ -22,10 +23,6 @@ fn timers_do_what_a_plain_list_does(rt: HostRuntime) {
             assert!(rt; agrees, "seed {seed}, call {call}");
         }
     }
-}
-
-fn text(alloc: Global, bytes: &[u8]) -> Option<Txt> {
-    Txt::from_bytes(alloc, bytes).ok()
 }
 
 fn ids_are(timers: &Timers, ids: &[u64]) -> bool {

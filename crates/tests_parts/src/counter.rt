@@ -1,6 +1,6 @@
 //! A second host of scripts.
 ghost use Rattle.std.specs.Prelude.{◌≡◌, IfOk};
-ghost use Rattle.tests_language.specs.Counter.{script_in, counting};
+ghost use Rattle.tests_parts.specs.Counter.{script_in, counting};
 
 use std::alloc::{AllocError, Global};
 use tks_eval::{Host, Plan};
