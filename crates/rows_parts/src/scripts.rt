@@ -46,12 +46,22 @@ fn show_parts(
 #[cycle(show)]
 fn show_command(alloc: Global, shown: &mut String, command: &Command, depth: u32) -> Option<()> {
     let mut words = String::new(alloc);
-    for word in command.words.as_ref() {
-        words.push('|').ok()?;
-        if word.expand {
-            words.push('*').ok()?;
+    match command {
+        Command::Ready(texts) => {
+            for text in texts.as_ref() {
+                words.push('|').ok()?;
+                push_encoded(&mut words, text)?;
+            }
         }
-        show_parts(alloc, shown, &mut words, word.parts.as_slice(), depth)?;
+        Command::Made(made) => {
+            for word in made.as_ref() {
+                words.push('|').ok()?;
+                if word.expand {
+                    words.push('*').ok()?;
+                }
+                show_parts(alloc, shown, &mut words, word.parts.as_slice(), depth)?;
+            }
+        }
     }
     shown.push_str(&words).ok()?;
     shown.push('|').ok()

@@ -1,8 +1,10 @@
 -- Words that are made at once, up to a script or an index, come to what evaluation says of them.
-use Rattle.std.proofs.Common.{◌≡◌, ℕ, Bool, ◌+◌, ◌*◌, ◌≤◌, true, false, cond, List, [], ◌∷◌, ◌++◌, Some, Result, Ok, Err, refl, sym, ap, ◌∙◌, arith, append-nil}
+use Rattle.std.proofs.Common.{◌≡◌, ℕ, Bool, ◌+◌, ◌*◌, ◌≤◌, true, false, ◌&&◌, cond, List, [], ◌∷◌, ◌++◌, Some, Result, Ok, Err, refl, sym, ap, ◌∙◌, arith, append-nil, append_assoc}
+use Rattle.std.specs.List.{list_all}
+use Rattle.std.proofs.lemmas.Bool.{le-leb}
 use Rattle.tks_text.specs.declared.limits.Limits.{Limits}
 use Rattle.tks_parse.specs.Tree.{Words, no_word, word, Parts, no_part, char, variable, element, nested, chars, parts_size, words_size}
-use Rattle.tks_parse.specs.View.{parts_of}
+use Rattle.tks_parse.specs.View.{parts_of, ready_words}
 use Rattle.tks_parse.specs.declared.tree.Part.{Part}
 use Rattle.tks_vars.specs.Variables.{Variables}
 use Rattle.tks_tcl.specs.Cause.{Cause, Fault, OverLimit, fits}
@@ -10,7 +12,7 @@ use Rattle.tks_tcl.specs.Cause as tcl
 use Rattle.tks_tcl.specs.Meets.{FailsSo}
 use Rattle.tks_tcl.specs.declared.interrupt.Interrupt.{Interrupt}
 use Rattle.tks_tcl.specs.declared.interrupt.Interrupt.TheVariants as interrupt
-use Rattle.tks_eval.specs.Outcome.{Outcome, Level, Meaning, appended, given, after}
+use Rattle.tks_eval.specs.Outcome.{Outcome, Stopped, TooLarge, Level, Meaning, appended, given, after}
 use Rattle.tks_eval.specs.Evaluation.{parts_do, with_value, words_in, words_do, call, evaluate}
 use Rattle.tks_eval.specs.Filling.{filled, left_of, waits_for, runs, Stand, All, Upto, made_or, words_made}
 use Rattle.tks_eval.specs.Machine.{resume, outcome_now, now_weight, frame_weight}
@@ -38,6 +40,31 @@ module _ (limits : Limits) (variables : Variables) where
         | true ↦ λ e. filled_chars t (made ++ c ∷ []) rest ∙ ap (λ v. tcl.after v (λ made. filled limits variables rest made)) (appended_on limits made c t e)
         | false ↦ λ e. ap (λ v. tcl.after v (λ made. filled limits variables rest made)) (sym (appended_over limits made c t e))
       ] refl
+
+  -- a text as the first of a word
+  appended_first : (t : List ℕ) → appended limits [] t ≡ cond (fits limits t) (Ok t) (Err OverLimit)
+  appended_first [] = ap (λ b. cond b (Ok []) (Err OverLimit)) (sym (le-leb 0 limits.text (omega arith)))
+  appended_first (c ∷ t) = appended_some limits [] c t
+
+  filled_text : (t : List ℕ) → filled limits variables (chars t no_part) [] ≡ tcl.after (cond (fits limits t) (Ok t) (Err OverLimit)) (λ made. Ok (no_part, made))
+  filled_text t = filled_chars t [] no_part ∙ ap (λ v. tcl.after v (λ made. filled limits variables no_part made)) (appended_first t)
+
+  -- what follows on the text of a word, with words behind it that stand for themselves
+  abbrev word_made : List (List ℕ) → List (List ℕ) → Parts × List ℕ → Result Stand Cause
+  word_made words ts x = made_or x.0 (Upto words false x.0 x.1 (ready_words ts)) (words_made limits variables (ready_words ts) (words ++ x.1 ∷ []))
+
+  -- words that stand for themselves are made where none passes the limit
+  pub ready_made : (ts words : List (List ℕ)) → words_made limits variables (ready_words ts) words
+      ≡ cond (list_all (λ t. fits limits t) ts) (Ok (All (words ++ ts))) (Err OverLimit)
+  ready_made [] words = ap (λ ws. Ok (All ws)) (sym (append-nil words))
+  ready_made (t ∷ ts) words =
+      ap (λ r. tcl.after r (word_made words ts)) (filled_text t)
+      ∙ elim (fits limits t) as (λ b.
+      tcl.after (tcl.after (cond b (Ok t) (Err OverLimit)) (λ made. Ok (no_part, made))) (word_made words ts)
+      ≡ cond (b && list_all (λ t. fits limits t) ts) (Ok (All (words ++ t ∷ ts))) (Err OverLimit)) [
+        | true ↦ ready_made ts (words ++ t ∷ []) ∙ ap (λ ws. cond (list_all (λ t. fits limits t) ts) (Ok (All ws)) (Err OverLimit)) (append_assoc words (t ∷ []) ts)
+        | false ↦ refl
+      ]
 
   -- what is left is no more than what there was
   after_falls : {X Y : Type 0} (size : Y → ℕ) (n : ℕ) (r : Result X Cause) (next : X → Result Y Cause) (y : Y)
@@ -153,3 +180,14 @@ module _ {S : Type 0} (host : Meaning S) (limits : Limits) where
         ap (λ o. after o (λ text state variables fuel. given limits (words_in expand text) state variables fuel (λ more. words_do host limits level rest (words ++ more) state variables fuel)))
         (parts_filled limits variables level state fuel parts [])
         ∙ word_goes words expand rest (filled limits variables parts []) (λ words. words_do_made rest words)
+
+    -- words that stand for themselves are passed as they are
+    pub ready_do : (ts : List (List ℕ)) → words_do host limits level (ready_words ts) [] state variables fuel
+        ≡ cond (list_all (λ t. fits limits t) ts) (call host limits level ts state variables fuel) (Stopped TooLarge)
+    ready_do ts =
+        words_do_made (ready_words ts) [] ∙ ap (λ r. given limits r state variables fuel words_go) (ready_made limits variables ts [])
+        ∙ elim (list_all (λ t. fits limits t) ts) as (λ b. given limits (cond b (Ok (All ts)) (Err OverLimit)) state variables fuel words_go
+        ≡ cond b (call host limits level ts state variables fuel) (Stopped TooLarge)) [
+          | true ↦ refl
+          | false ↦ refl
+        ]

@@ -1,5 +1,5 @@
 -- Operands that are made at once come to their values.
-use Rattle.std.proofs.Common.{◌≡◌, ◌==◌, ℕ, false, length, codes, List, [], ◌∷◌, Option, Some, None, Result, Ok, Err, refl, ap, ◌∙◌}
+use Rattle.std.proofs.Common.{◌≡◌, ◌==◌, ℕ, true, false, cond, length, codes, List, [], ◌∷◌, Option, Some, None, Result, Ok, Err, refl, ap, ◌∙◌, append-nil}
 use Rattle.tks_text.specs.declared.fault.ScriptFault.{ScriptFault}
 use Rattle.tks_text.specs.declared.limits.Limits.{Limits}
 use Rattle.tks_parse.specs.Tree.{Parts, no_part, char, variable, element, nested}
@@ -13,7 +13,7 @@ use Rattle.tks_expr.specs.declared.operator.Unary.{Unary}
 use Rattle.tks_expr.specs.declared.sign.Join.{Join}
 use Rattle.tks_expr.specs.declared.sign.Join.TheVariants.{Of, And, Or}
 use Rattle.tks_expr.specs.declared.tree.Link.{Link}
-use Rattle.tks_tcl.specs.Cause.{Cause, Fault, OverLimit, value_or_fault, within}
+use Rattle.tks_tcl.specs.Cause.{Cause, Fault, OverLimit, value_or_fault, fits, within}
 use Rattle.tks_tcl.specs.Lists.{joined_by}
 use Rattle.tks_tcl.specs.Cause as tcl
 use Rattle.tks_tcl.specs.Meets.{FailsSo}
@@ -147,21 +147,36 @@ module _ (limits : Limits) (variables : Variables) where
     pub value_is : (e : Expr) (text : List ℕ) → value_made limits variables e ≡ Ok (Some text) → value_does limits inner e state variables fuel ≡ End 0 text state variables fuel
     value_is e text h = value_is_made e ∙ ap (λ r. given limits r state variables fuel (operand_or e)) h
 
--- `expr`, once its words are joined and the expression is read
-pub expr_reads : {S : Type 0} (limits : Limits) (inner : Level S) (state : S) (variables : Variables) (fuel : ℕ) (first : List ℕ) (words : List (List ℕ)) (text : List ℕ) (e : Expr)
-    → (length words == 0) ≡ false → within limits (joined_by (codes " ") words) ≡ Ok text → expr_of text ≡ Ok e
-    → expr_does limits inner first words state variables fuel ≡ result_told limits (value_does limits inner e state variables fuel)
-expr_reads limits inner state variables fuel first [] text e some joins read = absurd cc
-expr_reads limits inner state variables fuel first (w ∷ words) text e some joins read =
+-- `expr`, once its words are joined
+pub expr_joins : {S : Type 0} (limits : Limits) (inner : Level S) (state : S) (variables : Variables) (fuel : ℕ) (first : List ℕ) (words : List (List ℕ)) (text : List ℕ)
+    → (length words == 0) ≡ false → within limits (joined_by (codes " ") words) ≡ Ok text
+    → expr_does limits inner first words state variables fuel ≡ result_told limits (expression_does limits inner text state variables fuel)
+expr_joins limits inner state variables fuel first [] text some joins = absurd cc
+expr_joins limits inner state variables fuel first (w ∷ words) text some joins =
     ap (λ r. given limits r state variables fuel (λ text. result_told limits (expression_does limits inner text state variables fuel))) joins
-    ∙ ap (λ r. result_told limits (given limits (value_or_fault r) state variables fuel (λ e. value_does limits inner e state variables fuel))) read
+
+-- and is one word, which fits
+pub expr_of_one : {S : Type 0} (limits : Limits) (inner : Level S) (state : S) (variables : Variables) (fuel : ℕ) (first : List ℕ) (words : List (List ℕ)) (text : List ℕ)
+    → words ≡ text ∷ [] → fits limits text ≡ true
+    → expr_does limits inner first words state variables fuel ≡ result_told limits (expression_does limits inner text state variables fuel)
+expr_of_one limits inner state variables fuel first words text one fit =
+    ap (λ ws. expr_does limits inner first ws state variables fuel) one
+    ∙ ap (λ t. given limits (within limits t) state variables fuel (λ text. result_told limits (expression_does limits inner text state variables fuel))) (append-nil text)
+    ∙ ap (λ b. given limits (cond b (Ok text) (Err OverLimit)) state variables fuel (λ text. result_told limits (expression_does limits inner text state variables fuel))) fit
+
+-- the result of an expression, once it is read
+pub expression_reads : {S : Type 0} (limits : Limits) (inner : Level S) (state : S) (variables : Variables) (fuel : ℕ) (text : List ℕ) (e : Expr)
+    → expr_of text ≡ Ok e
+    → result_told limits (expression_does limits inner text state variables fuel) ≡ result_told limits (value_does limits inner e state variables fuel)
+expression_reads limits inner state variables fuel text e read =
+    ap (λ r. result_told limits (given limits (value_or_fault r) state variables fuel (λ e. value_does limits inner e state variables fuel))) read
 
 -- and its value is made at once
-pub expr_is : {S : Type 0} (limits : Limits) (inner : Level S) (state : S) (variables : Variables) (fuel : ℕ) (first : List ℕ) (words : List (List ℕ)) (text : List ℕ) (e : Expr) (value : List ℕ)
-    → (length words == 0) ≡ false → within limits (joined_by (codes " ") words) ≡ Ok text → expr_of text ≡ Ok e → value_made limits variables e ≡ Ok (Some value)
-    → expr_does limits inner first words state variables fuel ≡ result_told limits (End 0 value state variables fuel)
-expr_is limits inner state variables fuel first words text e value some joins read made =
-    expr_reads limits inner state variables fuel first words text e some joins read ∙ ap (result_told limits) (value_is limits variables inner state fuel e value made)
+pub expression_is : {S : Type 0} (limits : Limits) (inner : Level S) (state : S) (variables : Variables) (fuel : ℕ) (text : List ℕ) (e : Expr) (value : List ℕ)
+    → expr_of text ≡ Ok e → value_made limits variables e ≡ Ok (Some value)
+    → result_told limits (expression_does limits inner text state variables fuel) ≡ result_told limits (End 0 value state variables fuel)
+expression_is limits inner state variables fuel text e value read made =
+    expression_reads limits inner state variables fuel text e read ∙ ap (result_told limits) (value_is limits variables inner state fuel e value made)
 
 module _ {S : Type 0} (host : Meaning S) (limits : Limits) (m : Machine) (state : S) (variables : Variables) where
   -- a text that isn't there, with more behind it

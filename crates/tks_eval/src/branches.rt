@@ -1,7 +1,8 @@
-ghost use Rattle.std.specs.Prelude.{◌≡◌, ◌≤◌, ◌<◌, ◌+◌, ◌||◌, ◌∷◌, List, [], length, IfOk, IfSome, MatchOption};
+ghost use Rattle.std.specs.Prelude.{◌≡◌, ◌≤◌, ◌<◌, ◌+◌, ◌||◌, ◌∷◌, List, [], length, Some, IfOk, IfSome, MatchOption, option_copied};
+ghost use Rattle.tks_parse.specs.Reading.{script_of};
 ghost use Rattle.tks_eval.specs.Outcome.{End};
 ghost use Rattle.tks_eval.specs.Branches.{Test, Condition, BehindBody, is_keyword, with_last, with_test, branches, no_branches};
-ghost use Rattle.tks_eval.specs.Evaluation.{evaluate, script_does, branches_do, if_does};
+ghost use Rattle.tks_eval.specs.Evaluation.{evaluate, script_does, after_truth, tested, branches_do, if_does};
 ghost use Rattle.tks_eval.specs.Machine.{resume, frame_weight, optional_weight, GoesSo, Falls};
 ghost use Rattle.tks_eval.specs.declared.frame.Frame.TheVariants as frame;
 
@@ -122,6 +123,30 @@ fn read_branches(alloc: Global, words: &[Txt]) -> Result<Option<Branches>, Alloc
     }
 }
 
+// The condition, the body, and the body for where it doesn't hold, of an `if` with one condition.
+fn one_test(words: &[Txt]) -> Option<(&Txt, &Txt, Option<&Txt>)>
+    ensures { IfSome result (λ x. branches Condition [] words.now ≡ Some (record { tests = record { condition = x.0.now; body = x.1.now } ∷ []; otherwise = option_copied x.2 })) }
+{
+    let (condition, body, behind) = test_at(words)?;
+    match behind {
+        [] => Some((condition, body, None)),
+        [word, last] if word.as_bytes() == b"else".as_slice() && !is_keyword(last) => {
+            Some((condition, body, Some(last)))
+        }
+        _ => None,
+    }
+}
+
+// A body that may be left out.
+fn body_again(body: Option<&Txt>) -> Result<Option<Txt>, AllocError>
+    ensures { IfOk result (λ b. b ≡ option_copied body.entry) }
+{
+    match body {
+        None => Ok(None),
+        Some(body) => Ok(Some(body.try_clone()?)),
+    }
+}
+
 impl Machine {
     // if c ?then? b ?elseif c ?then? b ..? ?else? ?b?
     #[tactic(auto, using(crate::proofs::Halts::error_halts))]
@@ -137,10 +162,62 @@ impl Machine {
         ensures spends { self.new.fuel ≤ self.old.fuel }
         ensures goes { GoesSo H.meaning limits.now (resume H.meaning limits.now self.old.left self.old.stack (if_does limits.now (evaluate H.meaning limits.now self.old.left) command.now words.now (H.state host.now) variables.now self.old.fuel)) result self.new (H.state host.now) variables.now }
     {
+        if let Some((condition, body, otherwise)) = one_test(words) {
+            return self.run_test(alloc, host, variables, condition, body, otherwise, limits);
+        }
         let Some(branches) = read_branches(alloc, words)? else {
             return Err(error_about(ErrorNumber::WrongWords, command));
         };
         self.next_branch(alloc, host, variables, branches, limits)
+    }
+
+    // Opens the body that is chosen by a condition of this text.
+    #[tactic(auto, using(crate::proofs::Halts::fault_halts))]
+    fn open_chosen<H: Host>(
+        &mut self,
+        alloc: Global,
+        host: &H,
+        variables: &Vars,
+        body: &Txt,
+        otherwise: Option<&Txt>,
+        text: &Txt,
+        limits: &Limits,
+    ) -> Result<Now, Halt>
+        ensures spends { self.new.fuel ≤ self.old.fuel }
+        ensures goes { GoesSo H.meaning limits.now (resume H.meaning limits.now self.old.left self.old.stack (after_truth limits.now (End 0 text.now (H.state host.now) variables.now self.old.fuel) (evaluate H.meaning limits.now self.old.left (script_of body.now)) (script_does (evaluate H.meaning limits.now self.old.left) (option_copied otherwise.entry)))) result self.new (H.state host.now) variables.now }
+    {
+        if truth_of(text)? {
+            return Ok(Now::Open(self.table.script(alloc, body)?));
+        }
+        self.open_otherwise(alloc, host, variables, otherwise, limits)
+    }
+
+    // An `if` with one condition. Where that is decided at once, nothing is copied.
+    #[tactic(auto, using(crate::proofs::Halts::test_halts))]
+    fn run_test<H: Host>(
+        &mut self,
+        alloc: Global,
+        host: &H,
+        variables: &Vars,
+        condition: &Txt,
+        body: &Txt,
+        otherwise: Option<&Txt>,
+        limits: &Limits,
+    ) -> Result<Now, Halt>
+        ensures spends { self.new.fuel ≤ self.old.fuel }
+        ensures goes { GoesSo H.meaning limits.now (resume H.meaning limits.now self.old.left self.old.stack (tested limits.now (evaluate H.meaning limits.now self.old.left) condition.now (evaluate H.meaning limits.now self.old.left (script_of body.now)) (script_does (evaluate H.meaning limits.now self.old.left) (option_copied otherwise.entry)) (H.state host.now) variables.now self.old.fuel)) result self.new (H.state host.now) variables.now }
+    {
+        let expr = self.read_condition(alloc, condition)?;
+        if let Some(text) = value_at_once(alloc, &expr, variables, limits)? {
+            return self.open_chosen(alloc, host, variables, body, otherwise, &text, limits);
+        }
+        let body = body.try_clone()?;
+        let rest = Branches {
+            tests: Rest::new(alloc),
+            otherwise: body_again(otherwise)?,
+        };
+        self.stack.push(Frame::Branch { body, rest })?;
+        Ok(Now::Value(expr))
     }
 
     // Goes on with the branches that are left of an `if`.
@@ -159,7 +236,7 @@ impl Machine {
         let Branches { tests, otherwise } = branches;
         let mut tests = tests;
         match tests.next() {
-            None => self.open_otherwise(alloc, host, variables, otherwise, limits),
+            None => self.open_otherwise(alloc, host, variables, otherwise.as_ref(), limits),
             Some(test) => {
                 let Test { condition, body } = test;
                 let expr = self.read_condition(alloc, &condition)?;
@@ -179,18 +256,18 @@ impl Machine {
         alloc: Global,
         host: &H,
         variables: &Vars,
-        otherwise: Option<Txt>,
+        otherwise: Option<&Txt>,
         limits: &Limits,
     ) -> Result<Now, Halt>
-        ensures falls { Falls result (optional_weight otherwise + 1) self.old self.new }
-        ensures goes { GoesSo H.meaning limits.now (resume H.meaning limits.now self.old.left self.old.stack (script_does (evaluate H.meaning limits.now self.old.left) otherwise (H.state host.now) variables.now self.old.fuel)) result self.new (H.state host.now) variables.now }
+        ensures falls { Falls result (optional_weight (option_copied otherwise.entry) + 1) self.old self.new }
+        ensures goes { GoesSo H.meaning limits.now (resume H.meaning limits.now self.old.left self.old.stack (script_does (evaluate H.meaning limits.now self.old.left) (option_copied otherwise.entry) (H.state host.now) variables.now self.old.fuel)) result self.new (H.state host.now) variables.now }
     {
         match otherwise {
             None => Ok(Now::At(Ending {
                 code: 0,
                 text: Txt::new(alloc),
             })),
-            Some(body) => Ok(Now::Open(self.table.script(alloc, &body)?)),
+            Some(body) => Ok(Now::Open(self.table.script(alloc, body)?)),
         }
     }
 
@@ -213,7 +290,7 @@ impl Machine {
             return Ok(Now::Open(self.table.script(alloc, &body)?));
         }
         if rest.tests.is_empty() {
-            return self.open_otherwise(alloc, host, variables, rest.otherwise, limits);
+            return self.open_otherwise(alloc, host, variables, rest.otherwise.as_ref(), limits);
         }
         self.stack.push(Frame::Branch { body, rest })?;
         Ok(Now::At(Ending { code: 0, text }))

@@ -1,8 +1,11 @@
-ghost use Rattle.std.specs.Prelude.{◌≡◌, ◌≤◌, ◌∷◌};
+ghost use Rattle.std.specs.Prelude.{◌≡◌, ◌≤◌, [], ◌∷◌};
 ghost use Rattle.std.specs.FinMap as map;
+ghost use Rattle.std.specs.List.{list_all};
+ghost use Rattle.tks_parse.specs.View.{ready_words};
+ghost use Rattle.tks_tcl.specs.Cause.{fits};
 ghost use Rattle.tks_tcl.specs.Meets.{GivesSo};
 ghost use Rattle.tks_eval.specs.Outcome.{End};
-ghost use Rattle.tks_eval.specs.Evaluation.{evaluate, call, procedure_does, control_does, catch_does, eval_does, foreach_does, proc_does, each, foreach_form};
+ghost use Rattle.tks_eval.specs.Evaluation.{evaluate, call, words_do, procedure_does, control_does, catch_does, eval_does, foreach_does, proc_does, each, foreach_form};
 ghost use Rattle.tks_eval.specs.Machine.{control_of, resume, frame_weight, GoesSo, Falls};
 ghost use Rattle.tks_eval.specs.declared.frame.Frame.TheVariants as frame;
 
@@ -15,7 +18,7 @@ use crate::procedures::{enter, run_proc};
 use crate::rest::Rest;
 use std::alloc::Global;
 use tks_parse::{Command, Left};
-use tks_tcl::{Interrupt, ListTable, concatenated_within, plain, store, wrong_words};
+use tks_tcl::{Interrupt, ListTable, Stop, concatenated_within, fits, plain, store, wrong_words};
 use tks_text::{ErrorNumber, Limits, ScriptFault, Seq, Txt, decimal_of};
 use tks_vars::Vars;
 
@@ -38,6 +41,13 @@ fn foreach_form(
         }
         _ => Err(wrong_words(command)),
     }
+}
+
+// Whether no text passes the limit.
+fn all_fit(texts: &[Txt], limits: &Limits) -> bool
+    ensures { result ≡ list_all (λ t. fits limits.now t) texts.now }
+{
+    texts.iter().all(|text| fits(text, limits))
 }
 
 impl Machine {
@@ -71,16 +81,43 @@ impl Machine {
                 }
             }
             Some(command) => {
-                let words = command.left()?;
+                let command = command.share()?;
                 rest.skip();
                 self.stack.push(Frame::Commands {
                     rest,
                     fault,
                     levels,
                 })?;
-                self.next_word(alloc, host, variables, Seq::new(alloc), words, limits)
+                match command {
+                    Command::Ready(words) => {
+                        self.call_ready(alloc, host, variables, words.as_ref().as_slice(), limits)
+                    }
+                    Command::Made(words) => {
+                        let words = Left::all(words);
+                        self.next_word(alloc, host, variables, Seq::new(alloc), words, limits)
+                    }
+                }
             }
         }
+    }
+
+    // Calls a command, whose words stand for themselves.
+    fn call_ready<H: Host>(
+        &mut self,
+        alloc: Global,
+        host: &mut H,
+        variables: &mut Vars,
+        words: &[Txt],
+        limits: &Limits,
+    ) -> Result<Now, Halt>
+        ensures same_place { H.place host.new ≡ H.place host.old }
+        ensures falls { Falls result 1 self.old self.new }
+        ensures goes { GoesSo H.meaning limits.now (resume H.meaning limits.now self.old.left self.old.stack (words_do H.meaning limits.now (evaluate H.meaning limits.now self.old.left) (ready_words words.now) [] (H.state host.old) variables.old self.old.fuel)) result self.new (H.state host.new) variables.new }
+    {
+        if !all_fit(words, limits) {
+            return Err(Halt::Stop(Stop::TooLarge));
+        }
+        self.call(alloc, host, variables, words, limits)
     }
 
     /// Calls a command, whose words are there.

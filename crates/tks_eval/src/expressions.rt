@@ -3,7 +3,7 @@ ghost use Rattle.tks_text.specs.Fault.{Gives};
 ghost use Rattle.tks_expr.specs.Reading.{expr_of};
 ghost use Rattle.tks_eval.specs.Outcome.{End};
 ghost use Rattle.tks_eval.specs.Meets.{ReadsSo, StandsSo};
-ghost use Rattle.tks_eval.specs.Evaluation.{evaluate, value_does, expr_does, with_value};
+ghost use Rattle.tks_eval.specs.Evaluation.{evaluate, value_does, expr_does, expression_does, result_told, with_value};
 ghost use Rattle.tks_eval.specs.Values.{signs_applied, truth_shown, join_on, links_do};
 ghost use Rattle.tks_eval.specs.Filling.{operand_made, behind_left, between_made, value_made};
 ghost use Rattle.tks_tcl.specs.Meets.{GivesSo};
@@ -23,7 +23,7 @@ use tks_expr::{
     Binary, Expr, Join, Link, Node, Unary, apply, apply_unary, result_of, share_links, truth_of,
 };
 use tks_parse::Part;
-use tks_tcl::{Interrupt, joined_within};
+use tks_tcl::{Interrupt, fits, joined_within};
 use tks_text::{ErrorNumber, Failure, Limits, Txt};
 use tks_vars::Vars;
 
@@ -216,18 +216,39 @@ impl Machine {
         ensures spends { self.new.fuel ≤ self.old.fuel }
         ensures goes { GoesSo H.meaning limits.now (resume H.meaning limits.now self.old.left self.old.stack (expr_does limits.now (evaluate H.meaning limits.now self.old.left) command.now words.now (H.state host.now) variables.now self.old.fuel)) result self.new (H.state host.now) variables.now }
     {
-        if words.is_empty() {
-            return Err(error_about(ErrorNumber::WrongWords, command));
+        match words {
+            [] => Err(error_about(ErrorNumber::WrongWords, command)),
+            [word] if fits(word, limits) => {
+                self.run_expression(alloc, host, variables, word, limits)
+            }
+            _ => {
+                let space = Txt::from_text(alloc, b" ")?;
+                let text = joined_within(alloc, words, &space, limits)?;
+                self.run_expression(alloc, host, variables, &text, limits)
+            }
         }
-        let space = Txt::from_text(alloc, b" ")?;
-        let text = joined_within(alloc, words, &space, limits)?;
-        let expr = self.table.expr(alloc, &text)?;
+    }
+
+    // Evaluates the expression that a text spells, and tells its result.
+    #[tactic(auto, using(crate::proofs::Halts::fault_halts))]
+    fn run_expression<H: Host>(
+        &mut self,
+        alloc: Global,
+        host: &H,
+        variables: &Vars,
+        text: &Txt,
+        limits: &Limits,
+    ) -> Result<Now, Halt>
+        ensures spends { self.new.fuel ≤ self.old.fuel }
+        ensures goes { GoesSo H.meaning limits.now (resume H.meaning limits.now self.old.left self.old.stack (result_told limits.now (expression_does limits.now (evaluate H.meaning limits.now self.old.left) text.now (H.state host.now) variables.now self.old.fuel))) result self.new (H.state host.now) variables.now }
+    {
+        let expr = self.table.expr(alloc, text)?;
         if let Some(value) = value_at_once(alloc, &expr, variables, limits)? {
             let text = result_of(alloc, &value)?;
             return Ok(Now::At(Ending { code: 0, text }));
         }
         self.stack.push(Frame::Value(ValueFrame::Whole))?;
-        Ok(Now::Value(expr))
+        self.open_value(alloc, host, variables, expr, limits)
     }
 
     /// Takes a step, and reads a condition.
@@ -258,10 +279,10 @@ impl Machine {
                 code: 0,
                 text: text.try_clone()?,
             })),
-            Node::Made(parts) => Ok(Now::Fill {
-                made: Txt::new(alloc),
-                parts: parts.left()?,
-            }),
+            Node::Made(parts) => {
+                let parts = parts.left()?;
+                self.fill(alloc, host, variables, Txt::new(alloc), parts, limits)
+            }
             Node::Signs(outer, last, operand) => {
                 let operand = operand.share()?;
                 let mut signs = Rest::reversed(Vec::from_slice(alloc, outer.as_slice())?);
@@ -276,9 +297,8 @@ impl Machine {
                     return self.join(alloc, host, variables, link, behind, text, limits);
                 }
                 behind.push(link)?;
-                let first = first.share()?;
                 self.stack.push(Frame::Value(ValueFrame::Links(behind)))?;
-                Ok(Now::Value(first))
+                self.open_operand(alloc, host, variables, first, limits)
             }
             Node::Conditional(condition, if_true, if_false) => {
                 let condition = condition.share()?;
@@ -288,6 +308,27 @@ impl Machine {
                     .push(Frame::Value(ValueFrame::Conditional(if_true, if_false)))?;
                 Ok(Now::Value(condition))
             }
+        }
+    }
+
+    // Goes on with the value of an operand. What scripts and variables make is begun at once.
+    fn open_operand<H: Host>(
+        &mut self,
+        alloc: Global,
+        host: &H,
+        variables: &Vars,
+        expr: &Expr,
+        limits: &Limits,
+    ) -> Result<Now, Halt>
+        ensures falls { Falls result (value_weight expr.now + 1) self.old self.new }
+        ensures goes { GoesSo H.meaning limits.now (resume H.meaning limits.now self.old.left self.old.stack (value_does limits.now (evaluate H.meaning limits.now self.old.left) expr.now (H.state host.now) variables.now self.old.fuel)) result self.new (H.state host.now) variables.now }
+    {
+        match expr.node() {
+            Node::Made(parts) => {
+                let parts = parts.left()?;
+                self.fill(alloc, host, variables, Txt::new(alloc), parts, limits)
+            }
+            _ => Ok(Now::Value(expr.share()?)),
         }
     }
 
@@ -402,7 +443,7 @@ impl Machine {
         let Some(value) = operand(alloc, &right, variables, limits)? else {
             self.stack
                 .push(Frame::Value(ValueFrame::Right(operator, text, links)))?;
-            return Ok(Now::Value(right));
+            return self.open_operand(alloc, host, variables, &right, limits);
         };
         let text = apply(alloc, operator, &text, &value)?;
         if links.is_empty() {

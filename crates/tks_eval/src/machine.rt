@@ -227,10 +227,10 @@ impl Machine {
                 rest,
             } => self.after_word(alloc, host, variables, words, expand, rest, end, limits),
             Frame::Nested { made, parts } => {
-                self.after_nested(host, variables, made, parts, end, limits)
+                self.after_nested(alloc, host, variables, made, parts, end, limits)
             }
             Frame::Element { name, made, parts } => {
-                self.after_index(host, variables, name, made, parts, end, limits)
+                self.after_index(alloc, host, variables, name, made, parts, end, limits)
             }
             Frame::Catch { name } => self.after_caught(alloc, host, variables, name, end, limits),
             Frame::Each {

@@ -31,6 +31,21 @@ fn grow(made: &mut Txt, more: &Txt, limits: &Limits) -> Result<(), Interrupt>
     Ok(())
 }
 
+// A text that is being made, with more behind it. Where nothing is made yet, it is what comes.
+fn joined(made: Txt, more: Txt, limits: &Limits) -> Result<Txt, Interrupt>
+    ensures { GivesSo (λ t. t) result (appended limits.now made more) }
+{
+    if !made.is_empty() {
+        let mut made = made;
+        grow(&mut made, &more, limits)?;
+        return Ok(made);
+    }
+    if more.len() > limits.text as usize {
+        return Err(Interrupt::TooLarge);
+    }
+    Ok(more)
+}
+
 // Adds the value of a variable to a text that is being made.
 fn grow_by_value(
     made: &mut Txt,
@@ -222,6 +237,7 @@ impl Machine {
     #[tactic(auto, using(crate::proofs::Halts::given_halts))]
     pub fn after_nested<H: Host>(
         &mut self,
+        alloc: Global,
         host: &H,
         variables: &Vars,
         made: Txt,
@@ -235,15 +251,15 @@ impl Machine {
         if end.code != 0 {
             return Ok(Now::At(end));
         }
-        let mut made = made;
-        grow(&mut made, &end.text, limits)?;
-        Ok(Now::Fill { made, parts })
+        let made = joined(made, end.text, limits)?;
+        self.fill(alloc, host, variables, made, parts, limits)
     }
 
     /// Goes on with a word behind the index of an element.
     #[tactic(auto, using(crate::proofs::Halts::given_halts))]
     pub fn after_index<H: Host>(
         &mut self,
+        alloc: Global,
         host: &H,
         variables: &Vars,
         name: Txt,
@@ -261,7 +277,7 @@ impl Machine {
         let name = element_name(&name, &end.text)?;
         let mut made = made;
         grow_by_value(&mut made, &name, variables, limits)?;
-        Ok(Now::Fill { made, parts })
+        self.fill(alloc, host, variables, made, parts, limits)
     }
 
     /// Goes on with the words of a command.

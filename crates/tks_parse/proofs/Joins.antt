@@ -1,8 +1,8 @@
 -- Trees one after the other.
-use Rattle.std.proofs.Common.{◌≡◌, ℕ, List, [], ◌∷◌, ◌++◌, Some, None, refl, ap, ◌∙◌}
+use Rattle.std.proofs.Common.{◌≡◌, ℕ, false, List, [], ◌∷◌, ◌++◌, length, Some, None, refl, ap, ◌∙◌, arith}
 use Rattle.tks_text.specs.declared.fault.ScriptFault.{ScriptFault}
 use Rattle.tks_parse.specs.Tree.{Script, no_command, faulty, command, Words, no_word, word, Parts, no_part, char, variable, element, nested, join_scripts, join_words, join_parts, chars}
-use Rattle.tks_parse.specs.View.{script_of_commands, words_of, parts_of}
+use Rattle.tks_parse.specs.View.{script_of_commands, words_of, ready_words, words_of_command, parts_of}
 use Rattle.tks_parse.specs.declared.tree.Command.{Command}
 use Rattle.tks_parse.specs.declared.tree.Word.{Word}
 use Rattle.tks_parse.specs.declared.tree.Part.{Part}
@@ -10,13 +10,18 @@ use Rattle.tks_parse.specs.declared.tree.Part.TheVariants.{Text, Variable, Neste
 
 -- one more at the end
 
-pub commands_push : (cs : List Command) (c : Command) → script_of_commands (cs ++ c ∷ []) None ≡ join_scripts (script_of_commands cs None) (command (words_of c.words.value.items) no_command)
+pub commands_push : (cs : List Command) (c : Command) → script_of_commands (cs ++ c ∷ []) None ≡ join_scripts (script_of_commands cs None) (command (words_of_command c) no_command)
 commands_push [] c = refl
-commands_push (b ∷ cs) c = ap (command (words_of b.words.value.items)) (commands_push cs c)
+commands_push (b ∷ cs) c = ap (command (words_of_command b)) (commands_push cs c)
 
 pub words_push : (ws : List Word) (w : Word) → words_of (ws ++ w ∷ []) ≡ join_words (words_of ws) (word w.expand w.parts no_word)
 words_push [] w = refl
 words_push (v ∷ ws) w = ap (word v.expand v.parts) (words_push ws w)
+
+-- a word that stands for itself, moved in front of what is behind
+pub ready_push : (ts : List (List ℕ)) (t : List ℕ) (ws : Words) → join_words (ready_words (ts ++ t ∷ [])) ws ≡ join_words (ready_words ts) (word false (chars t no_part) ws)
+ready_push [] t ws = refl
+ready_push (s ∷ ts) t ws = ap (word false (chars s no_part)) (ready_push ts t ws)
 
 chars-join : (t : List ℕ) (ps qs : Parts) → chars t (join_parts ps qs) ≡ join_parts (chars t ps) qs
 chars-join [] ps qs = refl
@@ -32,7 +37,7 @@ parts_push (Nested s ∷ ps) p = ap (nested s) (parts_push ps p)
 -- a fault at the end
 pub commands_fault : (cs : List Command) (f : ScriptFault) → script_of_commands cs (Some f) ≡ join_scripts (script_of_commands cs None) (faulty f)
 commands_fault [] f = refl
-commands_fault (c ∷ cs) f = ap (command (words_of c.words.value.items)) (commands_fault cs f)
+commands_fault (c ∷ cs) f = ap (command (words_of_command c)) (commands_fault cs f)
 
 -- joining is associative
 
@@ -69,3 +74,7 @@ join_parts_none (char x a) = ap (char x) (join_parts_none a)
 join_parts_none (variable n a) = ap (variable n) (join_parts_none a)
 join_parts_none (element n i a) = ap (element n i) (join_parts_none a)
 join_parts_none (nested s a) = ap (nested s) (join_parts_none a)
+
+pub words_end : (a : Words) (ws : List Word) → length ws ≡ 0 → join_words a (words_of ws) ≡ a
+words_end a [] h = join_words_none a
+words_end a (w ∷ ws) h = absurd (omega (arith, h))

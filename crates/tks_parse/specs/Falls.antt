@@ -6,6 +6,7 @@ use Rattle.tks_text.specs.declared.fault.ScriptFault.{ScriptFault}
 use Rattle.tks_parse.specs.Tree.{Parts, chars, script_size, words_size, parts_size}
 use Rattle.tks_parse.specs.View.{parts_of, words_of, script_of_commands}
 use Rattle.tks_parse.specs.declared.tree.Command.{Command}
+use Rattle.tks_parse.specs.declared.tree.Command.TheVariants.{Ready, Made}
 use Rattle.tks_parse.specs.declared.tree.Word.{Word}
 use Rattle.tks_parse.specs.declared.tree.Part.{Part}
 use Rattle.tks_parse.specs.declared.tree.Part.TheVariants.{Text, Variable, Nested}
@@ -28,4 +29,5 @@ words_fall (w ∷ rest) = omega (arith, words_fall rest)
 
 pub commands_fall : (commands : List Command) (fault : Option ScriptFault) → most deep-Command commands ≤ script_size (script_of_commands commands fault)
 commands_fall [] fault = omega arith
-commands_fall (c ∷ rest) fault = omega (arith, commands_fall rest fault, words_fall c.words.value.items)
+commands_fall (Ready texts ∷ rest) fault = omega (arith, commands_fall rest fault)
+commands_fall (Made words ∷ rest) fault = omega (arith, commands_fall rest fault, words_fall words.value.items)

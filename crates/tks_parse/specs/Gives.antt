@@ -4,7 +4,7 @@ use Rattle.tks_text.specs.Run.{Step, stop, fails, takes, Run}
 use Rattle.tks_text.specs.Text.{is_text_byte}
 use Rattle.tks_text.specs.declared.fault.ScriptFault.{ScriptFault}
 use Rattle.tks_parse.specs.Tree.{Script, no_command, command, join_scripts, Words, no_word, word, join_words, Parts, no_part, char, join_parts}
-use Rattle.tks_parse.specs.View.{parts_of, words_of, script_of_commands}
+use Rattle.tks_parse.specs.View.{parts_of, words_of_command, script_of_commands}
 use Rattle.tks_text.specs.declared.fault.Failure.{Failure}
 use Rattle.tks_text.specs.declared.fault.Failure.TheVariants as failure
 use Rattle.tks_parse.specs.declared.braces.Verbatim.{Verbatim}
@@ -54,12 +54,12 @@ abbrev pub taken_word : Option Word × ℕ → Step ScriptFault Words
 taken_word x = takes (join_words (words_of_option x.0)) x.1
 
 abbrev pub run_of_command : Command × ℕ → Run ScriptFault Words
-run_of_command x = record { items = words_of x.0.words.value.items; fault = None; taken = x.1 }
+run_of_command x = record { items = words_of_command x.0; fault = None; taken = x.1 }
 
 -- the commands that are there
 abbrev pub script_of_option : Option Command → Script
 script_of_option None = no_command
-script_of_option (Some c) = command (words_of c.words.value.items) no_command
+script_of_option (Some c) = command (words_of_command c) no_command
 
 abbrev pub taken_command : Option Command × ℕ → Step ScriptFault Script
 taken_command x = takes (join_scripts (script_of_option x.0)) x.1

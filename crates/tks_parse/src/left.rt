@@ -23,7 +23,7 @@ impl<T> Model for Left<T> {
 
 impl<T: Drop> Left<T> {
     /// All of a list.
-    pub(crate) fn all(items: Rc<Vec<T>>) -> Left<T>
+    pub fn all(items: Rc<Vec<T>>) -> Left<T>
         ensures { result ≡ items.value.items }
     {
         Left { items, at: 0 }

@@ -1,5 +1,7 @@
-ghost use Rattle.std.specs.Prelude.{◌≡◌, IfOk, option_copied};
-ghost use Rattle.tks_parse.specs.View.{script_of_commands, parts_of};
+ghost use Rattle.std.specs.Prelude.{◌≡◌, IfOk, IfSome, false, option_copied};
+ghost use Rattle.tks_text.specs.Text.{IsText};
+ghost use Rattle.tks_parse.specs.Tree.{chars, no_part};
+ghost use Rattle.tks_parse.specs.View.{script_of_commands, words_of, ready_words, words_of_command, parts_of};
 
 use crate::left::Left;
 use std::alloc::{AllocError, Global};
@@ -19,8 +21,11 @@ pub struct Script {
 /// A command: its words, the name first.
 #[cycle(tree)]
 #[derive(Drop)]
-pub struct Command {
-    pub words: Rc<Vec<Word>>,
+pub enum Command {
+    /// Words that stand for themselves, as they are passed.
+    Ready(Rc<Vec<Txt>>),
+    /// Words that are made each time.
+    Made(Rc<Vec<Word>>),
 }
 
 /// A word: the joined values of its parts.
@@ -152,22 +157,66 @@ impl Script {
     }
 }
 
+// The characters of a word that stands for itself.
+fn literal(word: &Word) -> Option<&[u8]>
+    ensures literal { IfSome result (λ text. (word.now.expand ≡ false) × (word.now.parts ≡ chars text.now no_part)) }
+    ensures text { IfSome result (λ text. IsText text.now) }
+{
+    if word.expand {
+        return None;
+    }
+    match word.parts.as_slice() {
+        [] => Some(b"".as_slice()),
+        [Part::Text(text)] => Some(text.as_bytes()),
+        _ => None,
+    }
+}
+
+// The words as texts, where all stand for themselves.
+fn ready(alloc: Global, words: &[Word]) -> Result<Option<Vec<Txt>>, AllocError>
+    ensures { IfOk result (λ o. IfSome o (λ texts. ready_words texts.items ≡ words_of words.now)) }
+{
+    // Asked first, so that nothing is copied in vain.
+    if !words.iter().all(|word| literal(word).is_some()) {
+        return Ok(None);
+    }
+    let mut texts = Vec::new(alloc);
+    let mut rest = words;
+    'word: while let Some((word, behind)) = rest.split_first() {
+        let Some(text) = literal(word) else {
+            return Ok(None);
+        };
+        texts.push(Txt::from_text(alloc, text)?)?;
+        rest = behind;
+    }
+    Ok(Some(texts))
+}
+
 impl Command {
     /// The command of these words.
     pub(crate) fn new(alloc: Global, words: Vec<Word>) -> Result<Command, AllocError>
-        ensures { IfOk result (λ c. c.words.value.items ≡ words.items) }
+        ensures { IfOk result (λ c. words_of_command c ≡ words_of words.items) }
     {
-        match Rc::new(alloc, words) {
-            Ok(words) => Ok(Command { words }),
-            Err(_) => Err(AllocError),
+        match ready(alloc, words.as_slice())? {
+            Some(texts) => match Rc::new(alloc, texts) {
+                Ok(texts) => Ok(Command::Ready(texts)),
+                Err(_) => Err(AllocError),
+            },
+            None => match Rc::new(alloc, words) {
+                Ok(words) => Ok(Command::Made(words)),
+                Err(_) => Err(AllocError),
+            },
         }
     }
 
-    /// Its words, to go on in.
-    pub fn left(&self) -> Result<Left<Word>, AllocError>
-        ensures { IfOk result (λ words. words ≡ self.now.words.value.items) }
+    /// The same command, held once more.
+    pub fn share(&self) -> Result<Command, AllocError>
+        ensures { IfOk result (λ c. words_of_command c ≡ words_of_command self.now) }
     {
-        Ok(Left::all(self.words.clone()?))
+        match self {
+            Command::Ready(texts) => Ok(Command::Ready(texts.clone()?)),
+            Command::Made(words) => Ok(Command::Made(words.clone()?)),
+        }
     }
 }
 

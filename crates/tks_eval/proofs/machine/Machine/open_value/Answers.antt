@@ -85,19 +85,23 @@ returns-in-Chain-clause-falls g c =
     let whole : c.args.expr ≡ chained (combined chain.link.join chain.first chain.link.right) chain.links.items = sym c.node.ensures ∙ ap expr_of chain.is in
     let link : c.in_ok-link-in-Chain.link ≡ chain.link = c.in_ok-link-in-Chain.ensures in
     let behind : c.of-behind.result ≡ chain.links.items = c.of-behind.ensures ∙ c.in_ok-share_links-in-Chain.ensures ∙ c.as_slice-in-Chain.ensures.value in
-    let first : c.in_ok-first-in-Chain.first ≡ chain.first = c.in_ok-first-in-Chain.ensures in
-    rw (whole, c.in_ok-push-in-Chain-2.ensures.ok, c.in_ok-push-in-Chain.ensures.ok, behind, link, first)
-    (omega arith, λ h. omega (arith, chain_weighs chain.first chain.link chain.links.items))
+    let falls = rw (c.in_ok-push-in-Chain-2.ensures.ok, c.in_ok-push-in-Chain.ensures.ok, behind, link) at c.open_operand.ensures.falls in
+    let weighs = chain_weighs chain.first chain.link chain.links.items in
+    rw whole (falls.0, λ h. let less = falls.1 h in omega (arith, less, weighs))
 
 pub returns-in-Chain-clause-goes : goal.returns-in-Chain-clause-goes
 returns-in-Chain-clause-goes g c =
     let chain = c.in-Chain in
+    let host = g.H.Host.meaning in
     let limits = c.args.limits.now in
-    let level = evaluate g.H.Host.meaning limits c.args.self.now.left in
+    let m = c.args.self.now in
+    let level = evaluate host limits m.left in
     let state = g.H.Host.state c.args.host.now in
+    let variables = c.args.variables.now in
     let whole : c.args.expr ≡ chained (combined chain.link.join chain.first chain.link.right) chain.links.items = sym c.node.ensures ∙ ap expr_of chain.is in
-    let does = chained_does limits level chain.first (chain.link ∷ chain.links.items) state c.args.variables.now c.args.self.now.fuel in
+    let does = chained_does limits level chain.first (chain.link ∷ chain.links.items) state variables m.fuel in
     let link : c.in_ok-link-in-Chain.link ≡ chain.link = c.in_ok-link-in-Chain.ensures in
     let behind : c.of-behind.result ≡ chain.links.items = c.of-behind.ensures ∙ c.in_ok-share_links-in-Chain.ensures ∙ c.as_slice-in-Chain.ensures.value in
-    let first : c.in_ok-first-in-Chain.first ≡ chain.first = c.in_ok-first-in-Chain.ensures in
-    rw (whole, does, c.in_ok-push-in-Chain-2.ensures.ok, c.in_ok-push-in-Chain.ensures.ok, behind, link, first) refl
+    let goes = rw (c.in_ok-push-in-Chain-2.ensures.ok, c.in_ok-push-in-Chain.ensures.ok, behind, link) at c.open_operand.ensures.goes in
+    subst (λ o. GoesSo host limits (resume host limits m.left m.stack o) c.open_operand.result c.open_operand.new.self state variables)
+    (sym (ap (λ e. value_does limits level e state variables m.fuel) whole ∙ does)) goes
