@@ -1,5 +1,5 @@
 -- Operands that are made at once come to their values.
-use Rattle.std.proofs.Common.{◌≡◌, ◌==◌, ℕ, true, false, cond, length, codes, List, [], ◌∷◌, Option, Some, None, Result, Ok, Err, refl, ap, ◌∙◌, append-nil}
+use Rattle.std.proofs.Common.{◌≡◌, ◌==◌, ℕ, true, false, cond, length, codes, List, [], ◌∷◌, Option, Some, None, Result, Ok, Err, refl, ap, ◌∙◌, arith, append-nil}
 use Rattle.tks_text.specs.declared.fault.ScriptFault.{ScriptFault}
 use Rattle.tks_text.specs.declared.limits.Limits.{Limits}
 use Rattle.tks_parse.specs.Tree.{Parts, no_part, char, variable, element, nested}
@@ -8,8 +8,8 @@ use Rattle.tks_expr.specs.Tree.{Expr, Literal, Made, One, Two, Both, Either, Con
 use Rattle.tks_expr.specs.Sign.{combined}
 use Rattle.tks_expr.specs.Operation.{applied}
 use Rattle.tks_expr.specs.View.{chained}
-use Rattle.tks_expr.specs.Reading.{under, expr_of}
-use Rattle.tks_expr.specs.declared.operator.Unary.{Unary}
+use Rattle.tks_expr.specs.Reading.{expr_of}
+use Rattle.tks_expr.specs.declared.operator.Binary.{Binary}
 use Rattle.tks_expr.specs.declared.sign.Join.{Join}
 use Rattle.tks_expr.specs.declared.sign.Join.TheVariants.{Of, And, Or}
 use Rattle.tks_expr.specs.declared.tree.Link.{Link}
@@ -21,131 +21,134 @@ use Rattle.tks_tcl.specs.declared.interrupt.Interrupt.{Interrupt}
 use Rattle.tks_tcl.specs.declared.interrupt.Interrupt.TheVariants as interrupt
 use Rattle.tks_eval.specs.Outcome.{Outcome, End, TooLarge, Next, Level, Meaning, after, given}
 use Rattle.tks_eval.specs.Evaluation.{and_then, parts_do, value_does, expression_does, expr_does, result_told, evaluate}
-use Rattle.tks_eval.specs.Filling.{filled, whole, if_made, operand_made, value_made}
+use Rattle.tks_eval.specs.Filling.{filled, whole, if_made, right_made, link_made, links_made, value_made}
 use Rattle.tks_eval.specs.Machine.{resume, GoesSo}
 use Rattle.tks_eval.specs.Meets.{halt_of_interrupt}
-use Rattle.tks_eval.specs.Values.{told_text, links_do}
+use Rattle.tks_eval.specs.Values.{told_text, join_on, links_do}
 use Rattle.tks_eval.specs.declared.machine.Machine.{Machine}
-use Rattle.tks_eval.proofs.Filling.{parts_filled}
+use Rattle.tks_eval.proofs.Filling.{fails_after, parts_filled}
 use Rattle.tks_eval.proofs.Halts.{resume_stopped}
 use Rattle.tks_eval.proofs.Values.{after_fails, links_fail, links_stop}
 
 module _ (limits : Limits) (variables : Variables) where
-  -- signs and operators are made of nothing at once
-  pub operand_under : (ops : List Unary) (sign : Unary) (e : Expr) → operand_made limits variables (under ops (One sign e)) ≡ Ok None
-  operand_under [] sign e = refl
-  operand_under (op ∷ ops) sign e = refl
+  combined_made : (op : Join) (a b : Expr) → value_made limits variables (combined op a b) ≡ link_made op (value_made limits variables b) (value_made limits variables a)
+  combined_made (Of op) a b = refl
+  combined_made And a b = refl
+  combined_made Or a b = refl
 
-  operand_combined : (op : Join) (a b : Expr) → operand_made limits variables (combined op a b) ≡ Ok None
-  operand_combined (Of op) a b = refl
-  operand_combined And a b = refl
-  operand_combined Or a b = refl
+  -- a chain is made link by link
+  chained_made : (links : List Link) (e : Expr) → value_made limits variables (chained e links) ≡ links_made limits variables links (value_made limits variables e)
+  chained_made [] e = refl
+  chained_made (link ∷ links) e = chained_made links (combined link.join e link.right) ∙ ap (links_made limits variables links) (combined_made link.join e link.right)
 
-  pub operand_chained : (op : Join) (a b : Expr) (links : List Link) → operand_made limits variables (chained (combined op a b) links) ≡ Ok None
-  operand_chained op a b [] = operand_combined op a b
-  operand_chained op a b (link ∷ links) = operand_chained link.join (combined op a b) link.right links
+  pub chain_made : (op : Join) (a b : Expr) (links : List Link)
+      → value_made limits variables (chained (combined op a b) links) ≡ links_made limits variables links (link_made op (value_made limits variables b) (value_made limits variables a))
+  chain_made op a b links = chained_made links (combined op a b) ∙ ap (links_made limits variables links) (combined_made op a b)
 
-  -- signs, and more than one operator, are not made at once
-  pub value_under : (ops : List Unary) (sign : Unary) (e : Expr) → value_made limits variables (under ops (One sign e)) ≡ Ok None
-  value_under [] sign e = refl
-  value_under (op ∷ ops) sign e = refl
+  -- an interrupt passes through a chain
+  fails_link : (op : Join) (right left : Result (Option (List ℕ)) Cause) (why : Interrupt) → FailsSo why left → FailsSo why (link_made op right left)
+  fails_link (Of op) right left why h = fails_after why left (λ l. if_made l (λ x. right_made op x right)) h
+  fails_link And right left why h = fails_after why left (λ l. Ok None) h
+  fails_link Or right left why h = fails_after why left (λ l. Ok None) h
 
-  two_operators : (outer op : Join) (a b c : Expr) → value_made limits variables (combined outer (combined op a b) c) ≡ Ok None
-  two_operators (Of outer) op a b c = ap (λ r. tcl.after r (λ left. if_made left (λ x. tcl.after (operand_made limits variables c) (λ right. if_made right (λ y.
-      tcl.after (value_or_fault (applied outer x y)) (λ text. Ok (Some text))))))) (operand_combined op a b)
-  two_operators And op a b c = refl
-  two_operators Or op a b c = refl
+  pub fails_links : (links : List Link) (left : Result (Option (List ℕ)) Cause) (why : Interrupt) → FailsSo why left → FailsSo why (links_made limits variables links left)
+  fails_links [] left why h = h
+  fails_links (link ∷ links) left why h =
+      fails_links links (link_made link.join (value_made limits variables link.right) left) why (fails_link link.join (value_made limits variables link.right) left why h)
 
-  value_chained : (op : Join) (a b : Expr) (link : Link) (links : List Link) → value_made limits variables (chained (combined op a b) (link ∷ links)) ≡ Ok None
-  value_chained op a b link [] = two_operators link.join op a b link.right
-  value_chained op a b link (next ∷ links) = value_chained link.join (combined op a b) link.right next links
-
-  pub value_longer : (op : Join) (a b : Expr) (links : List Link) → (length links == 0) ≡ false → value_made limits variables (chained (combined op a b) links) ≡ Ok None
-  value_longer op a b [] h = absurd cc
-  value_longer op a b (link ∷ links) h = value_chained op a b link links
+  -- no link is left
+  pub links_end : (links : List Link) (left : Result (Option (List ℕ)) Cause) → length links ≡ 0 → links_made limits variables links left ≡ left
+  links_end [] left h = refl
+  links_end (link ∷ links) left h = absurd (omega (arith, h))
 
   module _ {S : Type 0} (inner : Level S) (state : S) (fuel : ℕ) where
-    -- an operand that was made at once, or else whatever it does
-    abbrev pub operand_or : Expr → Option (List ℕ) → Outcome S
-    operand_or e None = value_does limits inner e state variables fuel
-    operand_or e (Some text) = End 0 text state variables fuel
+    -- a text that was made at once, or else whatever the expression does
+    abbrev pub value_or : Expr → Option (List ℕ) → Outcome S
+    value_or e None = value_does limits inner e state variables fuel
+    value_or e (Some text) = End 0 text state variables fuel
 
-    pub value_operand : (e : Expr) → value_does limits inner e state variables fuel ≡ given limits (operand_made limits variables e) state variables fuel (operand_or e)
-    value_operand (Literal text) = refl
-    value_operand (Made parts) = elim (filled limits variables parts []) as (λ r. filled limits variables parts [] ≡ r →
-        parts_do limits inner parts [] state variables fuel ≡ given limits (tcl.after r (λ x. Ok (whole x.0 x.1))) state variables fuel (operand_or (Made parts))) [
-          | Ok x ↦ λ e. made_operand parts x.0 x.1 e
-          | Err why ↦ λ e. parts_filled limits variables inner state fuel parts [] ∙ ap (λ r. given limits r state variables fuel (λ x. parts_do limits inner x.0 x.1 state variables fuel)) e ∙ given_err why _ _
-        ] refl where
-          made_operand : (parts rest : Parts) (made : List ℕ) → filled limits variables parts [] ≡ Ok (rest, made)
-              → parts_do limits inner parts [] state variables fuel ≡ given limits (Ok (whole rest made)) state variables fuel (operand_or (Made parts))
-          made_operand parts no_part made e = parts_filled limits variables inner state fuel parts [] ∙ ap (λ r. given limits r state variables fuel (λ x. parts_do limits inner x.0 x.1 state variables fuel)) e
-          made_operand parts (char c rest) made e = refl
-          made_operand parts (variable name rest) made e = refl
-          made_operand parts (element name index rest) made e = refl
-          made_operand parts (nested script rest) made e = refl
+    -- what an expression does is what is made of it
+    abbrev IsMade : Expr → Type 0
+    IsMade e = value_does limits inner e state variables fuel ≡ given limits (value_made limits variables e) state variables fuel (value_or e)
 
-          given_err : {X Y : Type 0} (why : Cause) (f : X → Outcome S) (g : Y → Outcome S) → given limits (Err why) state variables fuel f ≡ given limits (Err why) state variables fuel g
-          given_err (Fault fault) f g = refl
-          given_err OverLimit f g = refl
-    value_operand (One op a) = refl
-    value_operand (Two op a b) = refl
-    value_operand (Both a b) = refl
-    value_operand (Either a b) = refl
-    value_operand (Conditional c a b) = refl
+    given_err : {X Y : Type 0} (why : Cause) (f : X → Outcome S) (g : Y → Outcome S) → given limits (Err why) state variables fuel f ≡ given limits (Err why) state variables fuel g
+    given_err (Fault fault) f g = refl
+    given_err OverLimit f g = refl
 
-    -- the value of an operand that was made at once
-    pub operand_is : (e : Expr) (text : List ℕ) → operand_made limits variables e ≡ Ok (Some text) → value_does limits inner e state variables fuel ≡ End 0 text state variables fuel
-    operand_is e text h = value_operand e ∙ ap (λ r. given limits r state variables fuel (operand_or e)) h
-
-    -- what an operator gives for it
-    pub operand_told : (links : List Link) (e : Expr) (value text : List ℕ) (operation : List ℕ → Result (List ℕ) ScriptFault) → operand_made limits variables e ≡ Ok (Some value) → operation value ≡ Ok text
-        → links_do limits inner links (after (value_does limits inner e state variables fuel) (λ y. told_text limits inner (operation y))) ≡ links_do limits inner links (End 0 text state variables fuel)
-    operand_told links e value text operation made is =
-        ap (λ o. links_do limits inner links (after o (λ y. told_text limits inner (operation y)))) (operand_is e value made)
-        ∙ ap (λ r. links_do limits inner links (told_text limits inner r state variables fuel)) is
-
-    -- ---- expressions of an operand, or of an operator between two
+    parts_are_made : (parts rest : Parts) (made : List ℕ) → filled limits variables parts [] ≡ Ok (rest, made)
+        → parts_do limits inner parts [] state variables fuel ≡ given limits (Ok (whole rest made)) state variables fuel (value_or (Made parts))
+    parts_are_made parts no_part made e = parts_filled limits variables inner state fuel parts [] ∙ ap (λ r. given limits r state variables fuel (λ x. parts_do limits inner x.0 x.1 state variables fuel)) e
+    parts_are_made parts (char c rest) made e = refl
+    parts_are_made parts (variable name rest) made e = refl
+    parts_are_made parts (element name index rest) made e = refl
+    parts_are_made parts (nested script rest) made e = refl
 
     told_given : (e : Expr) (r : Result (List ℕ) ScriptFault)
-        → told_text limits inner r state variables fuel ≡ given limits (tcl.after (value_or_fault r) (λ text. Ok (Some text))) state variables fuel (operand_or e)
+        → told_text limits inner r state variables fuel ≡ given limits (tcl.after (value_or_fault r) (λ text. Ok (Some text))) state variables fuel (value_or e)
     told_given e (Ok text) = refl
     told_given e (Err fault) = refl
 
     -- what goes on behind an operand, where that is made at once, and what there is to do where it isn't
     operand_then : (e operand : Expr) (next : List ℕ → Next S) (made : List ℕ → Result (Option (List ℕ)) Cause)
         → value_does limits inner e state variables fuel ≡ after (value_does limits inner operand state variables fuel) next
-        → ((x : List ℕ) → operand_made limits variables operand ≡ Ok (Some x) → value_does limits inner e state variables fuel ≡ given limits (made x) state variables fuel (operand_or e))
-        → (r : Result (Option (List ℕ)) Cause) → operand_made limits variables operand ≡ r
-        → value_does limits inner e state variables fuel ≡ given limits (tcl.after r (λ o. if_made o made)) state variables fuel (operand_or e)
-    operand_then e operand next made does goes (Ok None) h = refl
-    operand_then e operand next made does goes (Ok (Some x)) h = goes x h
-    operand_then e operand next made does goes (Err (Fault fault)) h =
-        does ∙ ap (λ o. after o next) (value_operand operand ∙ ap (λ r. given limits r state variables fuel (operand_or operand)) h) ∙ after_fails limits fault state variables fuel next
-    operand_then e operand next made does goes (Err OverLimit) h =
-        does ∙ ap (λ o. after o next) (value_operand operand ∙ ap (λ r. given limits r state variables fuel (operand_or operand)) h)
+        → ((x : List ℕ) → value_made limits variables operand ≡ Ok (Some x) → value_does limits inner e state variables fuel ≡ given limits (made x) state variables fuel (value_or e))
+        → IsMade operand → (r : Result (Option (List ℕ)) Cause) → value_made limits variables operand ≡ r
+        → value_does limits inner e state variables fuel ≡ given limits (tcl.after r (λ o. if_made o made)) state variables fuel (value_or e)
+    operand_then e operand next made does goes is (Ok None) h = refl
+    operand_then e operand next made does goes is (Ok (Some x)) h = goes x h
+    operand_then e operand next made does goes is (Err (Fault fault)) h =
+        does ∙ ap (λ o. after o next) (is ∙ ap (λ r. given limits r state variables fuel (value_or operand)) h) ∙ after_fails limits fault state variables fuel next
+    operand_then e operand next made does goes is (Err OverLimit) h =
+        does ∙ ap (λ o. after o next) (is ∙ ap (λ r. given limits r state variables fuel (value_or operand)) h)
 
-    pub value_is_made : (e : Expr) → value_does limits inner e state variables fuel ≡ given limits (value_made limits variables e) state variables fuel (operand_or e)
+    -- the same, where nothing more is made at once
+    operand_alone : (e operand : Expr) (next : List ℕ → Next S)
+        → value_does limits inner e state variables fuel ≡ after (value_does limits inner operand state variables fuel) next
+        → IsMade operand → (r : Result (Option (List ℕ)) Cause) → value_made limits variables operand ≡ r
+        → value_does limits inner e state variables fuel ≡ given limits (tcl.after r (λ o. Ok None)) state variables fuel (value_or e)
+    operand_alone e operand next does is (Ok made) h = refl
+    operand_alone e operand next does is (Err (Fault fault)) h =
+        does ∙ ap (λ o. after o next) (is ∙ ap (λ r. given limits r state variables fuel (value_or operand)) h) ∙ after_fails limits fault state variables fuel next
+    operand_alone e operand next does is (Err OverLimit) h =
+        does ∙ ap (λ o. after o next) (is ∙ ap (λ r. given limits r state variables fuel (value_or operand)) h)
+
+    text_is : (e : Expr) (text : List ℕ) → IsMade e → value_made limits variables e ≡ Ok (Some text) → value_does limits inner e state variables fuel ≡ End 0 text state variables fuel
+    text_is e text is h = is ∙ ap (λ r. given limits r state variables fuel (value_or e)) h
+
+    operator_is_made : (op : Binary) (a b : Expr) → IsMade a → IsMade b → IsMade (Two op a b)
+    operator_is_made op a b first second = operand_then (Two op a b) a (λ x. and_then (value_does limits inner b) (λ y. told_text limits inner (applied op x y)))
+        (λ x. right_made op x (value_made limits variables b)) refl
+        (λ x left. right_is_made x (ap (λ o. after o (λ x. and_then (value_does limits inner b) (λ y. told_text limits inner (applied op x y)))) (text_is a x first left)))
+        first (value_made limits variables a) refl where
+          right_is_made : (x : List ℕ) → value_does limits inner (Two op a b) state variables fuel ≡ after (value_does limits inner b state variables fuel) (λ y. told_text limits inner (applied op x y))
+              → value_does limits inner (Two op a b) state variables fuel ≡ given limits (right_made op x (value_made limits variables b)) state variables fuel (value_or (Two op a b))
+          right_is_made x does = operand_then (Two op a b) b (λ y. told_text limits inner (applied op x y)) (λ y. tcl.after (value_or_fault (applied op x y)) (λ text. Ok (Some text))) does
+              (λ y right. does ∙ ap (λ o. after o (λ y. told_text limits inner (applied op x y))) (text_is b y second right) ∙ told_given (Two op a b) (applied op x y))
+              second (value_made limits variables b) refl
+
+    pub value_is_made : (e : Expr) → value_does limits inner e state variables fuel ≡ given limits (value_made limits variables e) state variables fuel (value_or e)
     value_is_made (Literal text) = refl
-    value_is_made (Made parts) = value_operand (Made parts)
+    value_is_made (Made parts) = elim (filled limits variables parts []) as (λ r. filled limits variables parts [] ≡ r →
+        parts_do limits inner parts [] state variables fuel ≡ given limits (tcl.after r (λ x. Ok (whole x.0 x.1))) state variables fuel (value_or (Made parts))) [
+          | Ok x ↦ λ e. parts_are_made parts x.0 x.1 e
+          | Err why ↦ λ e. parts_filled limits variables inner state fuel parts [] ∙ ap (λ r. given limits r state variables fuel (λ x. parts_do limits inner x.0 x.1 state variables fuel)) e ∙ given_err why _ _
+        ] refl
     value_is_made (One op a) = refl
-    value_is_made (Two op a b) = operand_then (Two op a b) a (λ x. and_then (value_does limits inner b) (λ y. told_text limits inner (applied op x y)))
-        (λ x. tcl.after (operand_made limits variables b) (λ right. if_made right (λ y. tcl.after (value_or_fault (applied op x y)) (λ text. Ok (Some text))))) refl
-        (λ x left. right_made x (ap (λ o. after o (λ x. and_then (value_does limits inner b) (λ y. told_text limits inner (applied op x y)))) (operand_is a x left)))
-        (operand_made limits variables a) refl where
-          right_made : (x : List ℕ) → value_does limits inner (Two op a b) state variables fuel ≡ after (value_does limits inner b state variables fuel) (λ y. told_text limits inner (applied op x y))
-              → value_does limits inner (Two op a b) state variables fuel
-              ≡ given limits (tcl.after (operand_made limits variables b) (λ right. if_made right (λ y. tcl.after (value_or_fault (applied op x y)) (λ text. Ok (Some text))))) state variables fuel (operand_or (Two op a b))
-          right_made x does = operand_then (Two op a b) b (λ y. told_text limits inner (applied op x y)) (λ y. tcl.after (value_or_fault (applied op x y)) (λ text. Ok (Some text))) does
-              (λ y right. does ∙ ap (λ o. after o (λ y. told_text limits inner (applied op x y))) (operand_is b y right) ∙ told_given (Two op a b) (applied op x y))
-              (operand_made limits variables b) refl
-    value_is_made (Both a b) = refl
-    value_is_made (Either a b) = refl
+    value_is_made (Two op a b) = operator_is_made op a b (value_is_made a) (value_is_made b)
+    value_is_made (Both a b) = operand_alone (Both a b) a (join_on limits inner And b) refl (value_is_made a) (value_made limits variables a) refl
+    value_is_made (Either a b) = operand_alone (Either a b) a (join_on limits inner Or b) refl (value_is_made a) (value_made limits variables a) refl
     value_is_made (Conditional c a b) = refl
 
     -- the value of an expression that was made at once
     pub value_is : (e : Expr) (text : List ℕ) → value_made limits variables e ≡ Ok (Some text) → value_does limits inner e state variables fuel ≡ End 0 text state variables fuel
-    value_is e text h = value_is_made e ∙ ap (λ r. given limits r state variables fuel (operand_or e)) h
+    value_is e text h = text_is e text (value_is_made e) h
+
+    -- what an operator gives for it
+    pub value_told : (links : List Link) (e : Expr) (value text : List ℕ) (operation : List ℕ → Result (List ℕ) ScriptFault) → value_made limits variables e ≡ Ok (Some value) → operation value ≡ Ok text
+        → links_do limits inner links (after (value_does limits inner e state variables fuel) (λ y. told_text limits inner (operation y))) ≡ links_do limits inner links (End 0 text state variables fuel)
+    value_told links e value text operation made is =
+        ap (λ o. links_do limits inner links (after o (λ y. told_text limits inner (operation y)))) (value_is e value made)
+        ∙ ap (λ r. links_do limits inner links (told_text limits inner r state variables fuel)) is
 
 -- `expr`, once its words are joined
 pub expr_joins : {S : Type 0} (limits : Limits) (inner : Level S) (state : S) (variables : Variables) (fuel : ℕ) (first : List ℕ) (words : List (List ℕ)) (text : List ℕ)
@@ -195,15 +198,15 @@ module _ {S : Type 0} (host : Meaning S) (limits : Limits) (m : Machine) (state 
   made_halts links outcome made or next interrupt.NoMemory does h = tt
 
   -- an operand that isn't there
-  pub operand_halts : (links : List Link) (e : Expr) (next : List ℕ → Next S) (why : Interrupt) → FailsSo why (operand_made limits variables e)
+  pub operand_halts : (links : List Link) (e : Expr) (next : List ℕ → Next S) (why : Interrupt) → FailsSo why (value_made limits variables e)
       → GoesSo host limits (resume host limits m.left m.stack (links_do limits (evaluate host limits m.left) links (after (value_does limits (evaluate host limits m.left) e state variables m.fuel) next))) (Err (halt_of_interrupt why)) m state variables
   operand_halts links e next why h =
       let level = evaluate host limits m.left in
-      made_halts links (value_does limits level e state variables m.fuel) (operand_made limits variables e) (operand_or limits variables level state m.fuel e) next why (value_operand limits variables level state m.fuel e) h
+      made_halts links (value_does limits level e state variables m.fuel) (value_made limits variables e) (value_or limits variables level state m.fuel e) next why (value_is_made limits variables level state m.fuel e) h
 
   -- the value of an expression that isn't there
   pub value_halts : (e : Expr) (next : List ℕ → Next S) (why : Interrupt) → FailsSo why (value_made limits variables e)
       → GoesSo host limits (resume host limits m.left m.stack (after (value_does limits (evaluate host limits m.left) e state variables m.fuel) next)) (Err (halt_of_interrupt why)) m state variables
   value_halts e next why h =
       let level = evaluate host limits m.left in
-      made_halts [] (value_does limits level e state variables m.fuel) (value_made limits variables e) (operand_or limits variables level state m.fuel e) next why (value_is_made limits variables level state m.fuel e) h
+      made_halts [] (value_does limits level e state variables m.fuel) (value_made limits variables e) (value_or limits variables level state m.fuel e) next why (value_is_made limits variables level state m.fuel e) h

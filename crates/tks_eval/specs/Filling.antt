@@ -18,6 +18,9 @@ use Rattle.tks_parse.specs.declared.tree.Part.{Part}
 use Rattle.tks_expr.specs.Tree.{Expr, Literal, Made, One, Two, Both, Either, Conditional}
 use Rattle.tks_expr.specs.Operation.{applied}
 use Rattle.tks_expr.specs.declared.operator.Binary.{Binary}
+use Rattle.tks_expr.specs.declared.sign.Join.{Join}
+use Rattle.tks_expr.specs.declared.sign.Join.TheVariants.{Of, And, Or}
+use Rattle.tks_expr.specs.declared.tree.Link.{Link}
 
 -- the parts behind the characters and the scalars that come first, and the text with these
 abbrev pub filled : Limits → Variables → Parts → List ℕ → Result (Parts × List ℕ) Cause
@@ -68,7 +71,7 @@ abbrev pub made_so_far : Option Begun → List (List ℕ) → Words → Stand
 made_so_far None words rest = All words
 made_so_far (Some b) words rest = Upto words b.expand (left_of (Some b.inner) (parts_of b.parts)) b.made rest
 
--- ---- operands
+-- ---- expressions
 
 -- a text that nothing is left of, if it is one
 abbrev pub whole : Parts → List ℕ → Option (List ℕ)
@@ -78,37 +81,32 @@ whole (variable name rest) made = None
 whole (element name index rest) made = None
 whole (nested script rest) made = None
 
--- the text of an operand that is a literal, or is made at once
-abbrev pub operand_made : Limits → Variables → Expr → Result (Option (List ℕ)) Cause
-operand_made limits variables (Literal text) = Ok (Some text)
-operand_made limits variables (Made parts) = after (filled limits variables parts []) (λ x. Ok (whole x.0 x.1))
-operand_made limits variables (One op a) = Ok None
-operand_made limits variables (Two op a b) = Ok None
-operand_made limits variables (Both a b) = Ok None
-operand_made limits variables (Either a b) = Ok None
-operand_made limits variables (Conditional c a b) = Ok None
-
 -- what comes of a text, if there is one
 abbrev pub if_made : Option (List ℕ) → (List ℕ → Result (Option (List ℕ)) Cause) → Result (Option (List ℕ)) Cause
 if_made None next = Ok None
 if_made (Some text) next = next text
 
--- the text of an operator behind a left operand of this text, where the right one is made at once
-abbrev pub behind_left : Limits → Variables → Binary → List ℕ → Expr → Result (Option (List ℕ)) Cause
-behind_left limits variables op x b =
-    after (operand_made limits variables b) (λ right. if_made right (λ y.
-    after (value_or_fault (applied op x y)) (λ text. Ok (Some text))))
+-- the text of an operator behind a left operand of this text, where the right one has a text
+abbrev pub right_made : Binary → List ℕ → Result (Option (List ℕ)) Cause → Result (Option (List ℕ)) Cause
+right_made op x right = after right (λ r. if_made r (λ y. after (value_or_fault (applied op x y)) (λ text. Ok (Some text))))
 
--- the text of an operator between two operands that are made at once
-abbrev pub between_made : Limits → Variables → Binary → Expr → Expr → Result (Option (List ℕ)) Cause
-between_made limits variables op a b = after (operand_made limits variables a) (λ left. if_made left (λ x. behind_left limits variables op x b))
+-- the text of a link, whose operands come to these; of `&&` and `||` there is none
+abbrev pub link_made : Join → Result (Option (List ℕ)) Cause → Result (Option (List ℕ)) Cause → Result (Option (List ℕ)) Cause
+link_made (Of op) right left = after left (λ l. if_made l (λ x. right_made op x right))
+link_made And right left = after left (λ l. Ok None)
+link_made Or right left = after left (λ l. Ok None)
 
--- the text of an expression that is an operand, or an operator between two, and is made at once
+-- the text of an expression that is made at once: of literals, variables, and operators between them
 abbrev pub value_made : Limits → Variables → Expr → Result (Option (List ℕ)) Cause
 value_made limits variables (Literal text) = Ok (Some text)
-value_made limits variables (Made parts) = operand_made limits variables (Made parts)
+value_made limits variables (Made parts) = after (filled limits variables parts []) (λ x. Ok (whole x.0 x.1))
 value_made limits variables (One op a) = Ok None
-value_made limits variables (Two op a b) = between_made limits variables op a b
-value_made limits variables (Both a b) = Ok None
-value_made limits variables (Either a b) = Ok None
+value_made limits variables (Two op a b) = link_made (Of op) (value_made limits variables b) (value_made limits variables a)
+value_made limits variables (Both a b) = link_made And (value_made limits variables b) (value_made limits variables a)
+value_made limits variables (Either a b) = link_made Or (value_made limits variables b) (value_made limits variables a)
 value_made limits variables (Conditional c a b) = Ok None
+
+-- the text of a chain behind its front
+abbrev pub links_made : Limits → Variables → List Link → Result (Option (List ℕ)) Cause → Result (Option (List ℕ)) Cause
+links_made limits variables [] left = left
+links_made limits variables (link ∷ links) left = links_made limits variables links (link_made link.join (value_made limits variables link.right) left)

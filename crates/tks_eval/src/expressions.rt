@@ -1,11 +1,11 @@
-ghost use Rattle.std.specs.Prelude.{◌≡◌, ◌≤◌, [], ◌∷◌, ◌+◌, option_copied};
+ghost use Rattle.std.specs.Prelude.{◌≡◌, ◌≤◌, [], ◌∷◌, ◌+◌, Ok, Some, option_copied};
 ghost use Rattle.tks_text.specs.Fault.{Gives};
 ghost use Rattle.tks_expr.specs.Reading.{expr_of};
 ghost use Rattle.tks_eval.specs.Outcome.{End};
 ghost use Rattle.tks_eval.specs.Meets.{ReadsSo, StandsSo};
 ghost use Rattle.tks_eval.specs.Evaluation.{evaluate, value_does, expr_does, expression_does, result_told, with_value};
 ghost use Rattle.tks_eval.specs.Values.{signs_applied, truth_shown, join_on, links_do};
-ghost use Rattle.tks_eval.specs.Filling.{operand_made, behind_left, between_made, value_made};
+ghost use Rattle.tks_eval.specs.Filling.{right_made, link_made, links_made, value_made};
 ghost use Rattle.tks_tcl.specs.Meets.{GivesSo};
 ghost use Rattle.tks_eval.specs.Machine.{resume, value_weight, links_weight, value_frame_weight, GoesSo, Falls};
 ghost use Rattle.tks_expr.specs.declared.sign.Join.TheVariants as joins;
@@ -68,14 +68,13 @@ fn truth_text(alloc: Global, text: &Txt) -> Result<Txt, Failure>
 }
 
 // The text of an operand that is a literal, or is made at once.
-#[tactic(auto, using(crate::proofs::Operands::operand_under, crate::proofs::Operands::operand_chained))]
 fn operand(
     alloc: Global,
     expr: &Expr,
     variables: &Vars,
     limits: &Limits,
 ) -> Result<Option<Txt>, Interrupt>
-    ensures { GivesSo (λ t. t) result (operand_made limits.now variables.now expr.now) }
+    ensures { StandsSo (λ t. t) result (value_made limits.now variables.now expr.now) }
 {
     match expr.node() {
         Node::Literal(text) => Ok(Some(text.try_clone()?)),
@@ -87,9 +86,7 @@ fn operand(
                 Some(_) => Ok(None),
             }
         }
-        Node::Signs(_, _, _) => Ok(None),
-        Node::Chain(_, _, _) => Ok(None),
-        Node::Conditional(_, _, _) => Ok(None),
+        _ => Ok(None),
     }
 }
 
@@ -110,7 +107,7 @@ fn standing<'a>(
     variables: &'a Vars,
     limits: &Limits,
 ) -> Result<Option<&'a Txt>, Interrupt>
-    ensures { StandsSo (λ t. option_copied t) result (operand_made limits.now variables.now expr.now) }
+    ensures { StandsSo (λ t. option_copied t) result (value_made limits.now variables.now expr.now) }
 {
     match expr.node() {
         Node::Literal(text) => Ok(Some(text)),
@@ -121,39 +118,7 @@ fn standing<'a>(
             }
             _ => Ok(None),
         },
-        Node::Signs(_, _, _) => Ok(None),
-        Node::Chain(_, _, _) => Ok(None),
-        Node::Conditional(_, _, _) => Ok(None),
-    }
-}
-
-// The text of an expression that is an operand, or an operator between two, and is made at once.
-#[tactic(auto, using(crate::proofs::Operands::value_under))]
-pub fn value_at_once(
-    alloc: Global,
-    expr: &Expr,
-    variables: &Vars,
-    limits: &Limits,
-) -> Result<Option<Txt>, Interrupt>
-    ensures { GivesSo (λ t. t) result (value_made limits.now variables.now expr.now) }
-{
-    match expr.node() {
-        Node::Chain(first, link, links) => {
-            if !links.as_slice().is_empty() {
-                return Ok(None);
-            }
-            match link.join {
-                Join::Of(operator) => {
-                    between(alloc, operator, first, &link.right, variables, limits)
-                }
-                Join::And => Ok(None),
-                Join::Or => Ok(None),
-            }
-        }
-        Node::Literal(_) => operand(alloc, expr, variables, limits),
-        Node::Made(_) => operand(alloc, expr, variables, limits),
-        Node::Signs(_, _, _) => Ok(None),
-        Node::Conditional(_, _, _) => Ok(None),
+        _ => Ok(None),
     }
 }
 
@@ -166,7 +131,7 @@ fn between(
     variables: &Vars,
     limits: &Limits,
 ) -> Result<Option<Txt>, Interrupt>
-    ensures { GivesSo (λ t. t) result (between_made limits.now variables.now operator left.now right.now) }
+    ensures { StandsSo (λ t. t) result (link_made (joins.Of operator) (value_made limits.now variables.now right.now) (value_made limits.now variables.now left.now)) }
 {
     if let Some(text) = standing(left, variables, limits)? {
         let text = behind_left(alloc, operator, text, right, variables, limits)?;
@@ -188,7 +153,7 @@ fn behind_left(
     variables: &Vars,
     limits: &Limits,
 ) -> Result<Option<Txt>, Interrupt>
-    ensures { GivesSo (λ t. t) result (behind_left limits.now variables.now operator left.now right.now) }
+    ensures { StandsSo (λ t. t) result (right_made operator left.now (value_made limits.now variables.now right.now)) }
 {
     if let Some(text) = standing(right, variables, limits)? {
         let text = apply(alloc, operator, left, text)?;
@@ -199,6 +164,114 @@ fn behind_left(
     };
     let text = apply(alloc, operator, left, &text)?;
     Ok(Some(text))
+}
+
+// The text of an expression that is an operand, or an operator between two, and is made at once.
+fn operation(
+    alloc: Global,
+    expr: &Expr,
+    variables: &Vars,
+    limits: &Limits,
+) -> Result<Option<Txt>, Interrupt>
+    ensures { StandsSo (λ t. t) result (value_made limits.now variables.now expr.now) }
+{
+    match expr.node() {
+        Node::Chain(first, link, links) => match link.join {
+            Join::Of(operator) if links.as_slice().is_empty() => {
+                between(alloc, operator, first, &link.right, variables, limits)
+            }
+            _ => Ok(None),
+        },
+        _ => operand(alloc, expr, variables, limits),
+    }
+}
+
+// The text of a link of a chain, behind a left operand of this text.
+fn link_at_once(
+    alloc: Global,
+    left: &Txt,
+    link: &Link,
+    variables: &Vars,
+    limits: &Limits,
+) -> Result<Option<Txt>, Interrupt>
+    ensures { StandsSo (λ t. t) result (link_made link.now.join (value_made limits.now variables.now link.now.right) (Ok (Some left.now))) }
+{
+    let Join::Of(operator) = link.join else {
+        return Ok(None);
+    };
+    if let Some(text) = standing(&link.right, variables, limits)? {
+        let text = apply(alloc, operator, left, text)?;
+        return Ok(Some(text));
+    }
+    let Some(text) = operation(alloc, &link.right, variables, limits)? else {
+        return Ok(None);
+    };
+    let text = apply(alloc, operator, left, &text)?;
+    Ok(Some(text))
+}
+
+// The text of a chain's first link.
+fn front_at_once(
+    alloc: Global,
+    first: &Expr,
+    link: &Link,
+    variables: &Vars,
+    limits: &Limits,
+) -> Result<Option<Txt>, Interrupt>
+    ensures { StandsSo (λ t. t) result (link_made link.now.join (value_made limits.now variables.now link.now.right) (value_made limits.now variables.now first.now)) }
+{
+    if let Some(text) = standing(first, variables, limits)? {
+        let text = link_at_once(alloc, text, link, variables, limits)?;
+        return Ok(text);
+    }
+    let Some(text) = operation(alloc, first, variables, limits)? else {
+        return Ok(None);
+    };
+    let text = link_at_once(alloc, &text, link, variables, limits)?;
+    Ok(text)
+}
+
+// The text of a chain, whose front has this text.
+fn links_at_once(
+    alloc: Global,
+    front: Txt,
+    links: &[Link],
+    variables: &Vars,
+    limits: &Limits,
+) -> Result<Option<Txt>, Interrupt>
+    ensures { StandsSo (λ t. t) result (links_made limits.now variables.now links.now (Ok (Some front))) }
+{
+    let mut text = front;
+    let mut rest = links;
+    'link: while let Some((link, behind)) = rest.split_first() {
+        let Some(more) = link_at_once(alloc, &text, link, variables, limits)? else {
+            return Ok(None);
+        };
+        text = more;
+        rest = behind;
+    }
+    Ok(Some(text))
+}
+
+/// The text of an expression that is made at once: of operators between operands that are literals, are made of variables, or
+/// have such an operator of their own.
+pub fn value_at_once(
+    alloc: Global,
+    expr: &Expr,
+    variables: &Vars,
+    limits: &Limits,
+) -> Result<Option<Txt>, Interrupt>
+    ensures { StandsSo (λ t. t) result (value_made limits.now variables.now expr.now) }
+{
+    match expr.node() {
+        Node::Chain(first, link, links) => {
+            let Some(front) = front_at_once(alloc, first, link, variables, limits)? else {
+                return Ok(None);
+            };
+            links_at_once(alloc, front, links.as_slice(), variables, limits)
+        }
+        _ => operand(alloc, expr, variables, limits),
+    }
 }
 
 impl Machine {

@@ -6,7 +6,7 @@ use Rattle.tks_eval.specs.Machine.{resume, GoesSo}
 use Rattle.tks_eval.specs.Meets.{halt_of_failure}
 use Rattle.tks_eval.specs.Values.{told_text, links_do}
 use Rattle.tks_eval.proofs.Halts.{text_halts}
-use Rattle.tks_eval.proofs.Operands.{operand_halts, operand_is, operand_told}
+use Rattle.tks_eval.proofs.Operands.{operand_halts, value_is, value_told}
 use Rattle.tks_eval.proofs.machine.Machine.after_left.Goals as goal
 
 pub returns-in_err-value-clause-goes : goal.returns-in_err-value-clause-goes
@@ -27,7 +27,7 @@ returns-in_err-text-clause-goes g c =
     let state = g.H.Host.state c.args.host.now in
     let variables = c.args.variables.now in
     let made = rw c.in-Some.is at c.in_ok-value.ensures in
-    let does = operand_is limits variables level state m.fuel c.args.right c.in-Some.value made in
+    let does = value_is limits variables level state m.fuel c.args.right c.in-Some.value made in
     let why = c.in_err-text.field-0.0 in
     let halts = text_halts host limits m state variables (λ t. t) c.args.links (applied c.args.operator c.args.text c.in-Some.value) why c.in_err-text.ensures in
     let whole = subst (λ o. GoesSo host limits (resume host limits m.left m.stack (links_do limits level c.args.links (after o (λ y. told_text limits level (applied c.args.operator c.args.text y))))) (Err (halt_of_failure why)) m state variables)
@@ -44,7 +44,7 @@ returns-then-is_empty-clause-goes g c =
     let variables = c.args.variables.now in
     let none : c.args.links ≡ [] = search rules in
     let made = rw c.in-Some.is at c.in_ok-value.ensures in
-    let told = operand_told limits variables level state m.fuel c.args.links c.args.right c.in-Some.value c.in_ok-text.text (applied c.args.operator c.args.text) made c.in_ok-text.ensures in
+    let told = value_told limits variables level state m.fuel c.args.links c.args.right c.in-Some.value c.in_ok-text.text (applied c.args.operator c.args.text) made c.in_ok-text.ensures in
     ap (resume host limits m.left m.stack) (told ∙ ap (λ links. links_do limits level links (End 0 c.in_ok-text.text state variables m.fuel)) none)
 
 pub returns-clause-goes : goal.returns-clause-goes
@@ -54,5 +54,5 @@ returns-clause-goes g c =
     let m = c.args.self.now in
     let level = evaluate host limits m.left in
     let made = rw c.in-Some.is at c.in_ok-value.ensures in
-    let told = operand_told limits c.args.variables.now level (g.H.Host.state c.args.host.now) m.fuel c.args.links c.args.right c.in-Some.value c.in_ok-text.text (applied c.args.operator c.args.text) made c.in_ok-text.ensures in
+    let told = value_told limits c.args.variables.now level (g.H.Host.state c.args.host.now) m.fuel c.args.links c.args.right c.in-Some.value c.in_ok-text.text (applied c.args.operator c.args.text) made c.in_ok-text.ensures in
     rw c.in_ok-push-2.ensures.ok (ap (resume host limits m.left m.stack) told)

@@ -8,7 +8,7 @@ use Rattle.tks_eval.specs.Evaluation.{evaluate, value_does}
 use Rattle.tks_eval.specs.Machine.{resume, value_weight, links_weight, GoesSo, Falls}
 use Rattle.tks_eval.specs.Meets.{halt_of_interrupt}
 use Rattle.tks_eval.specs.Values.{join_on, links_do}
-use Rattle.tks_eval.proofs.Operands.{operand_halts, operand_is}
+use Rattle.tks_eval.proofs.Operands.{operand_halts, value_is}
 use Rattle.tks_eval.proofs.Values.{signs_do, chained_does, chain_weighs, under_weighs}
 use Rattle.tks_eval.proofs.machine.Machine.open_value.Goals as goal
 
@@ -70,7 +70,7 @@ returns-in-Some-clause-goes g c =
     let whole : c.args.expr ≡ chained (combined chain.link.join chain.first chain.link.right) chain.links.items = sym c.node.ensures ∙ ap expr_of chain.is in
     let does = chained_does limits level chain.first (chain.link ∷ chain.links.items) state variables m.fuel in
     let made = rw c.in-Some.is at c.in_ok-text-in-Chain.ensures in
-    let first = operand_is limits variables level state m.fuel chain.first c.in-Some.text made in
+    let first = value_is limits variables level state m.fuel chain.first c.in-Some.text made in
     let link : c.in_ok-link-in-Chain.link ≡ chain.link = c.in_ok-link-in-Chain.ensures in
     let behind : c.of-behind.result ≡ chain.links.items = c.of-behind.ensures ∙ c.in_ok-share_links-in-Chain.ensures ∙ c.as_slice-in-Chain.ensures.value in
     let given : GoesSo host limits (resume host limits m.left m.stack (links_do limits level c.of-behind.result
