@@ -1,12 +1,13 @@
 -- Operands that are made at once come to their values.
-use Rattle.std.proofs.Common.{◌≡◌, ◌==◌, ℕ, true, false, cond, length, codes, List, [], ◌∷◌, Option, Some, None, Result, Ok, Err, refl, ap, ◌∙◌, arith, append-nil}
+use Rattle.std.proofs.Common.{◌≡◌, ◌==◌, ℕ, Bool, true, false, cond, length, codes, List, [], ◌∷◌, Option, Some, None, Result, Ok, Err, refl, ap, ◌∙◌, arith, append-nil}
 use Rattle.tks_text.specs.declared.fault.ScriptFault.{ScriptFault}
 use Rattle.tks_text.specs.declared.limits.Limits.{Limits}
 use Rattle.tks_parse.specs.Tree.{Parts, no_part, char, variable, element, nested}
 use Rattle.tks_vars.specs.Variables.{Variables}
 use Rattle.tks_expr.specs.Tree.{Expr, Literal, Made, One, Two, Both, Either, Conditional}
 use Rattle.tks_expr.specs.Sign.{combined}
-use Rattle.tks_expr.specs.Operation.{applied}
+use Rattle.tks_expr.specs.Operation.{applied, truth_of}
+use Rattle.tks_expr.specs.Operation as texts
 use Rattle.tks_expr.specs.View.{chained}
 use Rattle.tks_expr.specs.Reading.{expr_of}
 use Rattle.tks_expr.specs.declared.operator.Binary.{Binary}
@@ -20,8 +21,8 @@ use Rattle.tks_tcl.specs.Meets.{FailsSo}
 use Rattle.tks_tcl.specs.declared.interrupt.Interrupt.{Interrupt}
 use Rattle.tks_tcl.specs.declared.interrupt.Interrupt.TheVariants as interrupt
 use Rattle.tks_eval.specs.Outcome.{Outcome, End, TooLarge, Next, Level, Meaning, after, given}
-use Rattle.tks_eval.specs.Evaluation.{and_then, parts_do, value_does, expression_does, expr_does, result_told, evaluate}
-use Rattle.tks_eval.specs.Filling.{filled, whole, if_made, right_made, link_made, links_made, value_made}
+use Rattle.tks_eval.specs.Evaluation.{and_then, parts_do, if_holds, after_truth, value_does, expression_does, expr_does, result_told, evaluate}
+use Rattle.tks_eval.specs.Filling.{filled, whole, if_made, right_made, link_made, links_made, value_made, truth_made}
 use Rattle.tks_eval.specs.Machine.{resume, GoesSo}
 use Rattle.tks_eval.specs.Meets.{halt_of_interrupt}
 use Rattle.tks_eval.specs.Values.{told_text, join_on, links_do}
@@ -55,6 +56,13 @@ module _ (limits : Limits) (variables : Variables) where
   fails_links [] left why h = h
   fails_links (link ∷ links) left why h =
       fails_links links (link_made link.join (value_made limits variables link.right) left) why (fails_link link.join (value_made limits variables link.right) left why h)
+
+  -- the truth of an operator between two texts
+  pub two_hold : (op : Binary) (x y : List ℕ) → truth_made (right_made op x (Ok (Some y))) ≡ tcl.after (value_or_fault (texts.after (applied op x y) truth_of)) (λ holds. Ok (Some holds))
+  two_hold op x y = elim (applied op x y) as (λ r. truth_made (tcl.after (value_or_fault r) (λ text. Ok (Some text))) ≡ tcl.after (value_or_fault (texts.after r truth_of)) (λ holds. Ok (Some holds))) [
+    | Ok text ↦ refl
+    | Err fault ↦ refl
+  ]
 
   -- no link is left
   pub links_end : (links : List Link) (left : Result (Option (List ℕ)) Cause) → length links ≡ 0 → links_made limits variables links left ≡ left
@@ -143,6 +151,33 @@ module _ (limits : Limits) (variables : Variables) where
     pub value_is : (e : Expr) (text : List ℕ) → value_made limits variables e ≡ Ok (Some text) → value_does limits inner e state variables fuel ≡ End 0 text state variables fuel
     value_is e text h = text_is e text (value_is_made e) h
 
+    -- how a condition goes on whose truth was made at once, or else whatever it does
+    abbrev pub truth_or : Expr → Next S → Next S → Option Bool → Outcome S
+    truth_or e first second None = after_truth limits (value_does limits inner e state variables fuel) first second
+    truth_or e first second (Some holds) = if_holds holds first second state variables fuel
+
+    truth_given : (e : Expr) (first second : Next S) (r : Result Bool ScriptFault)
+        → given limits (value_or_fault r) state variables fuel (λ holds. if_holds holds first second state variables fuel)
+        ≡ given limits (tcl.after (value_or_fault r) (λ holds. Ok (Some holds))) state variables fuel (truth_or e first second)
+    truth_given e first second (Ok holds) = refl
+    truth_given e first second (Err fault) = refl
+
+    pub truth_is_made : (e : Expr) (first second : Next S)
+        → after_truth limits (value_does limits inner e state variables fuel) first second ≡ given limits (truth_made (value_made limits variables e)) state variables fuel (truth_or e first second)
+    truth_is_made e first second = elim (value_made limits variables e) as (λ r. value_made limits variables e ≡ r →
+        after_truth limits (value_does limits inner e state variables fuel) first second ≡ given limits (truth_made r) state variables fuel (truth_or e first second)) [
+          | Ok None ↦ λ h. refl
+          | Ok (Some text) ↦ λ h. ap (λ o. after_truth limits o first second) (value_is e text h) ∙ truth_given e first second (truth_of text)
+          | Err (Fault fault) ↦ λ h. ap (λ o. after_truth limits o first second) (value_is_made e ∙ ap (λ r. given limits r state variables fuel (value_or e)) h)
+              ∙ after_fails limits fault state variables fuel (λ text state variables fuel. given limits (value_or_fault (truth_of text)) state variables fuel (λ holds. if_holds holds first second state variables fuel))
+          | Err OverLimit ↦ λ h. ap (λ o. after_truth limits o first second) (value_is_made e ∙ ap (λ r. given limits r state variables fuel (value_or e)) h)
+        ] refl
+
+    -- a condition whose truth was made at once
+    pub truth_is : (e : Expr) (holds : Bool) (first second : Next S) → truth_made (value_made limits variables e) ≡ Ok (Some holds)
+        → after_truth limits (value_does limits inner e state variables fuel) first second ≡ if_holds holds first second state variables fuel
+    truth_is e holds first second h = truth_is_made e first second ∙ ap (λ r. given limits r state variables fuel (truth_or e first second)) h
+
     -- what an operator gives for it
     pub value_told : (links : List Link) (e : Expr) (value text : List ℕ) (operation : List ℕ → Result (List ℕ) ScriptFault) → value_made limits variables e ≡ Ok (Some value) → operation value ≡ Ok text
         → links_do limits inner links (after (value_does limits inner e state variables fuel) (λ y. told_text limits inner (operation y))) ≡ links_do limits inner links (End 0 text state variables fuel)
@@ -210,3 +245,17 @@ module _ {S : Type 0} (host : Meaning S) (limits : Limits) (m : Machine) (state 
   value_halts e next why h =
       let level = evaluate host limits m.left in
       made_halts [] (value_does limits level e state variables m.fuel) (value_made limits variables e) (value_or limits variables level state m.fuel e) next why (value_is_made limits variables level state m.fuel e) h
+
+  -- a condition whose truth isn't there
+  pub holds_halts : (e : Expr) (first second : Next S) (why : Interrupt) → FailsSo why (truth_made (value_made limits variables e))
+      → GoesSo host limits (resume host limits m.left m.stack (after_truth limits (value_does limits (evaluate host limits m.left) e state variables m.fuel) first second)) (Err (halt_of_interrupt why)) m state variables
+  holds_halts e first second (interrupt.Script fault) h =
+      let level = evaluate host limits m.left in
+      ap (resume host limits m.left m.stack) (truth_is_made limits variables level state m.fuel e first second
+      ∙ ap (λ r. given limits r state variables m.fuel (truth_or limits variables level state m.fuel e first second)) h)
+  holds_halts e first second interrupt.TooLarge h =
+      let level = evaluate host limits m.left in
+      ap (resume host limits m.left m.stack) (truth_is_made limits variables level state m.fuel e first second
+      ∙ ap (λ r. given limits r state variables m.fuel (truth_or limits variables level state m.fuel e first second)) h)
+      ∙ resume_stopped host limits m.left m.stack TooLarge
+  holds_halts e first second interrupt.NoMemory h = tt

@@ -16,7 +16,7 @@ use Rattle.tks_eval.specs.declared.frame.Now.{Now}
 use Rattle.tks_eval.specs.declared.frame.Now.TheVariants as now
 use Rattle.tks_parse.specs.declared.tree.Part.{Part}
 use Rattle.tks_expr.specs.Tree.{Expr, Literal, Made, One, Two, Both, Either, Conditional}
-use Rattle.tks_expr.specs.Operation.{applied}
+use Rattle.tks_expr.specs.Operation.{applied, truth_of}
 use Rattle.tks_expr.specs.declared.operator.Binary.{Binary}
 use Rattle.tks_expr.specs.declared.sign.Join.{Join}
 use Rattle.tks_expr.specs.declared.sign.Join.TheVariants.{Of, And, Or}
@@ -82,7 +82,7 @@ whole (element name index rest) made = None
 whole (nested script rest) made = None
 
 -- what comes of a text, if there is one
-abbrev pub if_made : Option (List ℕ) → (List ℕ → Result (Option (List ℕ)) Cause) → Result (Option (List ℕ)) Cause
+abbrev pub if_made : {X : Type 0} → Option (List ℕ) → (List ℕ → Result (Option X) Cause) → Result (Option X) Cause
 if_made None next = Ok None
 if_made (Some text) next = next text
 
@@ -110,3 +110,7 @@ value_made limits variables (Conditional c a b) = Ok None
 abbrev pub links_made : Limits → Variables → List Link → Result (Option (List ℕ)) Cause → Result (Option (List ℕ)) Cause
 links_made limits variables [] left = left
 links_made limits variables (link ∷ links) left = links_made limits variables links (link_made link.join (value_made limits variables link.right) left)
+
+-- whether a text that is made holds as a condition
+abbrev pub truth_made : Result (Option (List ℕ)) Cause → Result (Option Bool) Cause
+truth_made made = after made (λ o. if_made o (λ text. after (value_or_fault (truth_of text)) (λ holds. Ok (Some holds))))

@@ -1,5 +1,5 @@
 -- What the code's answers say of the definitions.
-use Rattle.std.specs.Prelude.{◌≡◌, ◌≤◌, ℕ, suc, true, false, List, Option, Some, None, Result, Ok, Err}
+use Rattle.std.specs.Prelude.{◌≡◌, ◌≤◌, ℕ, suc, true, false, Option, Some, None, Result, Ok, Err}
 use Rattle.tks_text.specs.Fault.{fault_text}
 use Rattle.tks_text.specs.declared.fault.ScriptFault.{ScriptFault}
 use Rattle.tks_text.specs.declared.limits.Limits.{Limits}
@@ -54,15 +54,15 @@ TellsSo fault (halt.Fault told) = told ≡ fault
 TellsSo fault (halt.Stop stop.NoMemory) = Unit {0}
 TellsSo fault (halt.Stop why) = ⊥
 
--- ---- operands
+-- ---- what is made at once
 
--- a text is the operand's; where there is none, nothing is told
-abbrev pub StandsAs : Option (List ℕ) → Result (Option (List ℕ)) Cause → Type 0
+-- what there is is what was made; where there is nothing, nothing is told
+abbrev pub StandsAs : {Y : Type 0} → Option Y → Result (Option Y) Cause → Type 0
 StandsAs None made = Unit {0}
-StandsAs (Some text) made = made ≡ Ok (Some text)
+StandsAs (Some y) made = made ≡ Ok (Some y)
 
--- what a call returned, seen by view, is where an operand's text stands, if it is told; or why it can't be made
-abbrev pub StandsSo : {X : Type 0} → (X → Option (List ℕ)) → Result X Interrupt → Result (Option (List ℕ)) Cause → Type 0
+-- what a call returned, seen by view, is what was made, if it is told; or why it can't be made
+abbrev pub StandsSo : {X Y : Type 0} → (X → Option Y) → Result X Interrupt → Result (Option Y) Cause → Type 0
 StandsSo view (Ok x) made = StandsAs (view x) made
 StandsSo view (Err why) made = tcl.FailsSo why made
 

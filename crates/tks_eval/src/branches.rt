@@ -2,11 +2,11 @@ ghost use Rattle.std.specs.Prelude.{◌≡◌, ◌≤◌, ◌<◌, ◌+◌, ◌|
 ghost use Rattle.tks_parse.specs.Reading.{script_of};
 ghost use Rattle.tks_eval.specs.Outcome.{End};
 ghost use Rattle.tks_eval.specs.Branches.{Test, Condition, BehindBody, is_keyword, with_last, with_test, branches, no_branches};
-ghost use Rattle.tks_eval.specs.Evaluation.{evaluate, script_does, after_truth, tested, branches_do, if_does};
+ghost use Rattle.tks_eval.specs.Evaluation.{evaluate, script_does, if_holds, tested, branches_do, if_does};
 ghost use Rattle.tks_eval.specs.Machine.{resume, frame_weight, optional_weight, GoesSo, Falls};
 ghost use Rattle.tks_eval.specs.declared.frame.Frame.TheVariants as frame;
 
-use crate::expressions::value_at_once;
+use crate::expressions::{holds_at_once, value_at_once};
 use crate::frame::{Ending, Frame, Now};
 use crate::halt::{Halt, error_about};
 use crate::host::Host;
@@ -15,6 +15,7 @@ use crate::rest::Rest;
 use std::alloc::{AllocError, Global};
 use std::marker::Model;
 use tks_expr::truth_of;
+use tks_tcl::is_word;
 use tks_text::{ErrorNumber, Limits, Txt};
 use tks_vars::Vars;
 
@@ -53,7 +54,7 @@ fn is_keyword(word: &Txt) -> bool
     ensures { result ≡ is_keyword word.now }
 {
     let word = word.as_bytes();
-    word == b"then".as_slice() || word == b"elseif".as_slice() || word == b"else".as_slice()
+    is_word(word, b"then") || is_word(word, b"elseif") || is_word(word, b"else")
 }
 
 // The condition and the body at the front of these words, and the words behind them.
@@ -66,7 +67,7 @@ fn test_at(words: &[Txt]) -> Option<(&Txt, &Txt, &[Txt])>
     if is_keyword(condition) {
         return None;
     }
-    if word.as_bytes() == b"then".as_slice() {
+    if is_word(word.as_bytes(), b"then") {
         let (body, behind) = behind.split_first()?;
         if is_keyword(body) {
             return None;
@@ -112,11 +113,11 @@ fn read_branches(alloc: Global, words: &[Txt]) -> Result<Option<Branches>, Alloc
                 otherwise: None,
             }));
         };
-        if word.as_bytes() == b"elseif".as_slice() {
+        if is_word(word.as_bytes(), b"elseif") {
             rest = more;
             continue 'test;
         }
-        if word.as_bytes() == b"else".as_slice() {
+        if is_word(word.as_bytes(), b"else") {
             return with_last(tests, more);
         }
         return with_last(tests, behind);
@@ -130,7 +131,7 @@ fn one_test(words: &[Txt]) -> Option<(&Txt, &Txt, Option<&Txt>)>
     let (condition, body, behind) = test_at(words)?;
     match behind {
         [] => Some((condition, body, None)),
-        [word, last] if word.as_bytes() == b"else".as_slice() && !is_keyword(last) => {
+        [word, last] if is_word(word.as_bytes(), b"else") && !is_keyword(last) => {
             Some((condition, body, Some(last)))
         }
         _ => None,
@@ -171,8 +172,7 @@ impl Machine {
         self.next_branch(alloc, host, variables, branches, limits)
     }
 
-    // Opens the body that is chosen by a condition of this text.
-    #[tactic(auto, using(crate::proofs::Halts::fault_halts))]
+    // Opens the body that is chosen by a condition, which holds or not.
     fn open_chosen<H: Host>(
         &mut self,
         alloc: Global,
@@ -180,13 +180,13 @@ impl Machine {
         variables: &Vars,
         body: &Txt,
         otherwise: Option<&Txt>,
-        text: &Txt,
+        holds: bool,
         limits: &Limits,
     ) -> Result<Now, Halt>
         ensures spends { self.new.fuel ≤ self.old.fuel }
-        ensures goes { GoesSo H.meaning limits.now (resume H.meaning limits.now self.old.left self.old.stack (after_truth limits.now (End 0 text.now (H.state host.now) variables.now self.old.fuel) (evaluate H.meaning limits.now self.old.left (script_of body.now)) (script_does (evaluate H.meaning limits.now self.old.left) (option_copied otherwise.entry)))) result self.new (H.state host.now) variables.now }
+        ensures goes { GoesSo H.meaning limits.now (resume H.meaning limits.now self.old.left self.old.stack (if_holds holds (evaluate H.meaning limits.now self.old.left (script_of body.now)) (script_does (evaluate H.meaning limits.now self.old.left) (option_copied otherwise.entry)) (H.state host.now) variables.now self.old.fuel)) result self.new (H.state host.now) variables.now }
     {
-        if truth_of(text)? {
+        if holds {
             return Ok(Now::Open(self.table.script(alloc, body)?));
         }
         self.open_otherwise(alloc, host, variables, otherwise, limits)
@@ -208,8 +208,8 @@ impl Machine {
         ensures goes { GoesSo H.meaning limits.now (resume H.meaning limits.now self.old.left self.old.stack (tested limits.now (evaluate H.meaning limits.now self.old.left) condition.now (evaluate H.meaning limits.now self.old.left (script_of body.now)) (script_does (evaluate H.meaning limits.now self.old.left) (option_copied otherwise.entry)) (H.state host.now) variables.now self.old.fuel)) result self.new (H.state host.now) variables.now }
     {
         let expr = self.read_condition(alloc, condition)?;
-        if let Some(text) = value_at_once(alloc, &expr, variables, limits)? {
-            return self.open_chosen(alloc, host, variables, body, otherwise, &text, limits);
+        if let Some(holds) = holds_at_once(alloc, &expr, variables, limits)? {
+            return self.open_chosen(alloc, host, variables, body, otherwise, holds, limits);
         }
         let body = body.try_clone()?;
         let rest = Branches {

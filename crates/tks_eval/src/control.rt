@@ -2,6 +2,7 @@ ghost use Rattle.std.specs.Prelude.{◌≡◌, option_map};
 ghost use Rattle.tks_eval.specs.Names.{control_named};
 ghost use Rattle.tks_eval.specs.Machine.{control_of};
 
+use tks_tcl::is_word;
 use tks_text::Txt;
 
 /// The commands that run scripts, and `proc`.
@@ -23,21 +24,21 @@ impl Control {
         ensures { option_map control_of result ≡ control_named name.now }
     {
         let name = name.as_bytes();
-        if name == b"catch".as_slice() {
+        if is_word(name, b"catch") {
             Some(Control::Catch)
-        } else if name == b"eval".as_slice() {
+        } else if is_word(name, b"eval") {
             Some(Control::Eval)
-        } else if name == b"expr".as_slice() {
+        } else if is_word(name, b"expr") {
             Some(Control::Expr)
-        } else if name == b"for".as_slice() {
+        } else if is_word(name, b"for") {
             Some(Control::For)
-        } else if name == b"foreach".as_slice() {
+        } else if is_word(name, b"foreach") {
             Some(Control::Foreach)
-        } else if name == b"if".as_slice() {
+        } else if is_word(name, b"if") {
             Some(Control::If)
-        } else if name == b"proc".as_slice() {
+        } else if is_word(name, b"proc") {
             Some(Control::Proc)
-        } else if name == b"while".as_slice() {
+        } else if is_word(name, b"while") {
             Some(Control::While)
         } else {
             None

@@ -1,11 +1,12 @@
-ghost use Rattle.std.specs.Prelude.{◌≡◌, ◌≤◌, [], ◌∷◌, ◌+◌, Ok, Some, option_copied};
+ghost use Rattle.std.specs.Prelude.{◌≡◌, ◌≤◌, [], ◌∷◌, ◌+◌, Ok, Some, IfSome, option_copied};
 ghost use Rattle.tks_text.specs.Fault.{Gives};
 ghost use Rattle.tks_expr.specs.Reading.{expr_of};
+ghost use Rattle.tks_expr.specs.Tree.{Two};
 ghost use Rattle.tks_eval.specs.Outcome.{End};
 ghost use Rattle.tks_eval.specs.Meets.{ReadsSo, StandsSo};
 ghost use Rattle.tks_eval.specs.Evaluation.{evaluate, value_does, expr_does, expression_does, result_told, with_value};
 ghost use Rattle.tks_eval.specs.Values.{signs_applied, truth_shown, join_on, links_do};
-ghost use Rattle.tks_eval.specs.Filling.{right_made, link_made, links_made, value_made};
+ghost use Rattle.tks_eval.specs.Filling.{right_made, link_made, links_made, value_made, truth_made};
 ghost use Rattle.tks_tcl.specs.Meets.{GivesSo};
 ghost use Rattle.tks_eval.specs.Machine.{resume, value_weight, links_weight, value_frame_weight, GoesSo, Falls};
 ghost use Rattle.tks_expr.specs.declared.sign.Join.TheVariants as joins;
@@ -20,7 +21,8 @@ use crate::rest::Rest;
 use crate::words::fill_up;
 use std::alloc::Global;
 use tks_expr::{
-    Binary, Expr, Join, Link, Node, Unary, apply, apply_unary, result_of, share_links, truth_of,
+    Binary, Expr, Join, Link, Node, Unary, apply, apply_unary, holds, result_of, share_links,
+    truth_of,
 };
 use tks_parse::Part;
 use tks_tcl::{Interrupt, fits, joined_within};
@@ -166,6 +168,21 @@ fn behind_left(
     Ok(Some(text))
 }
 
+// An operator with its two operands, where the expression has no other.
+fn one_operator(expr: &Expr) -> Option<(Binary, &Expr, &Expr)>
+    ensures { IfSome result (λ x. expr.now ≡ Two x.0 x.1.now x.2.now) }
+{
+    match expr.node() {
+        Node::Chain(first, link, links) => match link.join {
+            Join::Of(operator) if links.as_slice().is_empty() => {
+                Some((operator, first, &link.right))
+            }
+            _ => None,
+        },
+        _ => None,
+    }
+}
+
 // The text of an expression that is an operand, or an operator between two, and is made at once.
 fn operation(
     alloc: Global,
@@ -175,14 +192,9 @@ fn operation(
 ) -> Result<Option<Txt>, Interrupt>
     ensures { StandsSo (λ t. t) result (value_made limits.now variables.now expr.now) }
 {
-    match expr.node() {
-        Node::Chain(first, link, links) => match link.join {
-            Join::Of(operator) if links.as_slice().is_empty() => {
-                between(alloc, operator, first, &link.right, variables, limits)
-            }
-            _ => Ok(None),
-        },
-        _ => operand(alloc, expr, variables, limits),
+    match one_operator(expr) {
+        Some((operator, left, right)) => between(alloc, operator, left, right, variables, limits),
+        None => operand(alloc, expr, variables, limits),
     }
 }
 
@@ -272,6 +284,47 @@ pub fn value_at_once(
         }
         _ => operand(alloc, expr, variables, limits),
     }
+}
+
+// Whether an operator holds as a condition, where its operands stand.
+fn holds_where_they_stand(
+    operator: Binary,
+    left: &Expr,
+    right: &Expr,
+    variables: &Vars,
+    limits: &Limits,
+) -> Result<Option<bool>, Interrupt>
+    ensures { StandsSo (λ b. b) result (truth_made (value_made limits.now variables.now (Two operator left.now right.now))) }
+{
+    let Some(left) = standing(left, variables, limits)? else {
+        return Ok(None);
+    };
+    let Some(right) = standing(right, variables, limits)? else {
+        return Ok(None);
+    };
+    let holds = holds(operator, left, right)?;
+    Ok(Some(holds))
+}
+
+/// Whether an expression that is made at once holds as a condition.
+pub fn holds_at_once(
+    alloc: Global,
+    expr: &Expr,
+    variables: &Vars,
+    limits: &Limits,
+) -> Result<Option<bool>, Interrupt>
+    ensures { StandsSo (λ b. b) result (truth_made (value_made limits.now variables.now expr.now)) }
+{
+    if let Some((operator, left, right)) = one_operator(expr) {
+        if let Some(holds) = holds_where_they_stand(operator, left, right, variables, limits)? {
+            return Ok(Some(holds));
+        }
+    }
+    let Some(text) = value_at_once(alloc, expr, variables, limits)? else {
+        return Ok(None);
+    };
+    let holds = truth_of(&text)?;
+    Ok(Some(holds))
 }
 
 impl Machine {

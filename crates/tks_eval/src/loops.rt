@@ -2,12 +2,12 @@ ghost use Rattle.std.specs.Prelude.{◌≡◌, ◌≤◌, ◌+◌, ◌∷◌, If
 ghost use Rattle.tks_expr.specs.Reading.{expr_of};
 ghost use Rattle.tks_eval.specs.Outcome.{End};
 ghost use Rattle.tks_eval.specs.Meets.{ReadsSo};
-ghost use Rattle.tks_eval.specs.Evaluation.{evaluate, behind_body, loop_does, while_does, for_does};
+ghost use Rattle.tks_eval.specs.Evaluation.{evaluate, if_holds, turn_does, behind_body, loop_does, done, while_does, for_does};
 ghost use Rattle.tks_eval.specs.Machine.{resume, loop_weight, optional_weight, GoesSo, Falls};
 ghost use Rattle.tks_eval.specs.declared.frame.Frame.TheVariants as frame;
 ghost use Rattle.tks_eval.specs.declared.loops.Stage.TheVariants as stages;
 
-use crate::expressions::value_at_once;
+use crate::expressions::holds_at_once;
 use crate::frame::{Ending, Frame, Now};
 use crate::halt::{Halt, error_about};
 use crate::host::Host;
@@ -170,14 +170,15 @@ impl Machine {
         ensures goes { GoesSo H.meaning limits.now (resume H.meaning limits.now self.old.left self.old.stack (loop_does limits.now (evaluate H.meaning limits.now self.old.left) turns (H.state host.now) variables.now self.old.fuel)) result self.new (H.state host.now) variables.now }
     {
         let expr = self.read_known(alloc, turns.condition())?;
-        if let Some(text) = value_at_once(alloc, &expr, variables, limits)? {
-            return self.open_body(alloc, host, variables, turns, text, limits);
+        if let Some(holds) = holds_at_once(alloc, &expr, variables, limits)? {
+            return self.open_body(alloc, host, variables, turns, holds, limits);
         }
         self.stack.push(Frame::Turns(Stage::Condition, turns))?;
         Ok(Now::Value(expr))
     }
 
     /// Goes on with a loop behind what it waited for.
+    #[tactic(auto, using(crate::proofs::Halts::fault_halts))]
     pub fn after_stage<H: Host>(
         &mut self,
         alloc: Global,
@@ -194,9 +195,10 @@ impl Machine {
         match (stage, end.code) {
             (Stage::Start, 0) => self.next_turn(alloc, host, variables, turns, limits),
             (Stage::Next, 0) => self.next_turn(alloc, host, variables, turns, limits),
-            (Stage::Condition, 0) => self.open_body(
-                alloc, host, variables, turns, end.text, limits,
-            ),
+            (Stage::Condition, 0) => {
+                let holds = truth_of(&end.text)?;
+                self.open_body(alloc, host, variables, turns, holds, limits)
+            }
             (Stage::Body, 0 | 4) => self.open_next(alloc, host, variables, turns, limits),
             (Stage::Body | Stage::Next, 3) => Ok(Now::At(Ending {
                 code: 0,
@@ -206,21 +208,20 @@ impl Machine {
         }
     }
 
-    // Goes on with a loop, whose condition came to this text.
-    #[tactic(auto, using(crate::proofs::Halts::fault_halts))]
+    // Goes on with a loop, whose condition holds or not.
     fn open_body<H: Host>(
         &mut self,
         alloc: Global,
         host: &H,
         variables: &Vars,
         turns: Loop,
-        text: Txt,
+        holds: bool,
         limits: &Limits,
     ) -> Result<Now, Halt>
         ensures falls { Falls result (loop_weight stages.Condition turns) self.old self.new }
-        ensures goes { GoesSo H.meaning limits.now (resume H.meaning limits.now self.old.left (frame.Turns stages.Condition turns ∷ self.old.stack) (End 0 text (H.state host.now) variables.now self.old.fuel)) result self.new (H.state host.now) variables.now }
+        ensures goes { GoesSo H.meaning limits.now (resume H.meaning limits.now self.old.left self.old.stack (if_holds holds (turn_does (evaluate H.meaning limits.now self.old.left) turns (loop_does limits.now (evaluate H.meaning limits.now self.old.left) turns)) done (H.state host.now) variables.now self.old.fuel)) result self.new (H.state host.now) variables.now }
     {
-        if !truth_of(&text)? {
+        if !holds {
             return Ok(Now::At(Ending {
                 code: 0,
                 text: Txt::new(alloc),

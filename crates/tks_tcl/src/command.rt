@@ -21,8 +21,8 @@ pub enum Command {
     OfVariables(VariableCommand),
 }
 
-// Whether a name is this word. Most words differ in their first byte already.
-fn is(name: &[u8], word: &[u8]) -> bool
+/// Whether a name is this word. Most words differ in their first byte already.
+pub fn is_word(name: &[u8], word: &[u8]) -> bool
     ensures { result ≡ same_text name.now word.now }
 {
     match (name, word) {
@@ -35,13 +35,13 @@ fn is(name: &[u8], word: &[u8]) -> bool
 fn code_named(name: &[u8]) -> Option<CodeCommand>
     ensures { option_map code_command_of result ≡ code_named name.now }
 {
-    if is(name, b"break") {
+    if is_word(name, b"break") {
         Some(CodeCommand::Break)
-    } else if is(name, b"continue") {
+    } else if is_word(name, b"continue") {
         Some(CodeCommand::Continue)
-    } else if is(name, b"error") {
+    } else if is_word(name, b"error") {
         Some(CodeCommand::Error)
-    } else if is(name, b"return") {
+    } else if is_word(name, b"return") {
         Some(CodeCommand::Return)
     } else {
         None
@@ -52,21 +52,21 @@ fn code_named(name: &[u8]) -> Option<CodeCommand>
 fn list_named(name: &[u8]) -> Option<ListCommand>
     ensures { option_map list_command_of result ≡ list_named name.now }
 {
-    if is(name, b"concat") {
+    if is_word(name, b"concat") {
         Some(ListCommand::Concat)
-    } else if is(name, b"join") {
+    } else if is_word(name, b"join") {
         Some(ListCommand::Join)
-    } else if is(name, b"lindex") {
+    } else if is_word(name, b"lindex") {
         Some(ListCommand::Lindex)
-    } else if is(name, b"list") {
+    } else if is_word(name, b"list") {
         Some(ListCommand::List)
-    } else if is(name, b"llength") {
+    } else if is_word(name, b"llength") {
         Some(ListCommand::Llength)
-    } else if is(name, b"lrange") {
+    } else if is_word(name, b"lrange") {
         Some(ListCommand::Lrange)
-    } else if is(name, b"lsearch") {
+    } else if is_word(name, b"lsearch") {
         Some(ListCommand::Lsearch)
-    } else if is(name, b"split") {
+    } else if is_word(name, b"split") {
         Some(ListCommand::Split)
     } else {
         None
@@ -77,19 +77,19 @@ fn list_named(name: &[u8]) -> Option<ListCommand>
 fn variable_named(name: &[u8]) -> Option<VariableCommand>
     ensures { option_map variable_command_of result ≡ variable_named name.now }
 {
-    if is(name, b"append") {
+    if is_word(name, b"append") {
         Some(VariableCommand::Append)
-    } else if is(name, b"global") {
+    } else if is_word(name, b"global") {
         Some(VariableCommand::Global)
-    } else if is(name, b"incr") {
+    } else if is_word(name, b"incr") {
         Some(VariableCommand::Incr)
-    } else if is(name, b"info") {
+    } else if is_word(name, b"info") {
         Some(VariableCommand::Info)
-    } else if is(name, b"lappend") {
+    } else if is_word(name, b"lappend") {
         Some(VariableCommand::Lappend)
-    } else if is(name, b"set") {
+    } else if is_word(name, b"set") {
         Some(VariableCommand::Set)
-    } else if is(name, b"unset") {
+    } else if is_word(name, b"unset") {
         Some(VariableCommand::Unset)
     } else {
         None
@@ -102,7 +102,7 @@ impl Command {
         ensures { option_map command_of result ≡ command_named name.now }
     {
         let name = name.as_bytes();
-        if is(name, b"string") {
+        if is_word(name, b"string") {
             return Some(Command::OfStrings);
         }
         if let Some(command) = variable_named(name) {
@@ -122,42 +122,42 @@ impl Command {
 fn runs_scripts(name: &[u8]) -> bool
     ensures { result ≡ runs_scripts name.now }
 {
-    is(name, b"catch")
-        || is(name, b"eval")
-        || is(name, b"expr")
-        || is(name, b"for")
-        || is(name, b"foreach")
-        || is(name, b"if")
-        || is(name, b"proc")
-        || is(name, b"while")
+    is_word(name, b"catch")
+        || is_word(name, b"eval")
+        || is_word(name, b"expr")
+        || is_word(name, b"for")
+        || is_word(name, b"foreach")
+        || is_word(name, b"if")
+        || is_word(name, b"proc")
+        || is_word(name, b"while")
 }
 
 // Whether a command of this name makes windows.
 fn makes_window(name: &[u8]) -> bool
     ensures { result ≡ makes_window name.now }
 {
-    is(name, b"button")
-        || is(name, b"checkbutton")
-        || is(name, b"entry")
-        || is(name, b"frame")
-        || is(name, b"label")
-        || is(name, b"listbox")
-        || is(name, b"text")
+    is_word(name, b"button")
+        || is_word(name, b"checkbutton")
+        || is_word(name, b"entry")
+        || is_word(name, b"frame")
+        || is_word(name, b"label")
+        || is_word(name, b"listbox")
+        || is_word(name, b"text")
 }
 
 // Whether a command of this name acts on windows or events.
 fn acts_on_windows(name: &[u8]) -> bool
     ensures { result ≡ acts_on_windows name.now }
 {
-    is(name, b"after")
-        || is(name, b"bind")
-        || is(name, b"bindtags")
-        || is(name, b"destroy")
-        || is(name, b"event")
-        || is(name, b"focus")
-        || is(name, b"pack")
-        || is(name, b"tk_focusNext")
-        || is(name, b"tk_focusPrev")
+    is_word(name, b"after")
+        || is_word(name, b"bind")
+        || is_word(name, b"bindtags")
+        || is_word(name, b"destroy")
+        || is_word(name, b"event")
+        || is_word(name, b"focus")
+        || is_word(name, b"pack")
+        || is_word(name, b"tk_focusNext")
+        || is_word(name, b"tk_focusPrev")
 }
 
 /// Whether a name is that of a built-in command, also of one that isn't there yet. No procedure has it.

@@ -17,7 +17,7 @@ mod variables;
 mod words;
 
 pub use calls::plain;
-pub use command::is_built_in;
+pub use command::{is_built_in, is_word};
 pub use interrupt::{Interrupt, error_about, fits, within, wrong_words};
 pub use laws::{
     a_range_goes_place_by_place, a_search_finds_the_first, commands_leave_frames,

@@ -1,13 +1,10 @@
-use Rattle.std.proofs.Common.{Err, option_copied, rules, sym, subst, ap, ◌∙◌}
+use Rattle.std.proofs.Common.{Err, option_copied, rules, sym, subst, ◌∙◌}
 use Rattle.tks_parse.specs.Reading.{script_of}
-use Rattle.tks_expr.specs.Operation.{truth_of}
-use Rattle.tks_tcl.specs.Cause.{value_or_fault}
-use Rattle.tks_eval.specs.Outcome.{given}
-use Rattle.tks_eval.specs.Evaluation.{evaluate, value_does, script_does, if_holds, after_truth}
+use Rattle.tks_eval.specs.Evaluation.{evaluate, value_does, script_does, after_truth}
 use Rattle.tks_eval.specs.Machine.{resume, GoesSo}
 use Rattle.tks_eval.specs.Meets.{halt_of_interrupt}
 use Rattle.tks_eval.proofs.Halts.{test_halts}
-use Rattle.tks_eval.proofs.Operands.{value_is, value_halts}
+use Rattle.tks_eval.proofs.Operands.{truth_is, holds_halts}
 use Rattle.tks_eval.proofs.Turns.{tested_reads}
 use Rattle.tks_eval.proofs.machine.Machine.run_test.Goals as goal
 
@@ -20,8 +17,8 @@ returns-in_err-expr-clause-goes g c =
     (inner (script_of c.args.body.now)) (script_does inner (option_copied c.args.otherwise)) c.args.self.now.fuel why c.in_err-expr.ensures.reads in
     search rules
 
-pub returns-in_err-text-clause-goes : goal.returns-in_err-text-clause-goes
-returns-in_err-text-clause-goes g c =
+pub returns-in_err-holds-clause-goes : goal.returns-in_err-holds-clause-goes
+returns-in_err-holds-clause-goes g c =
     let host = g.H.Host.meaning in
     let limits = c.args.limits.now in
     let old = c.args.self.now in
@@ -33,10 +30,8 @@ returns-in_err-text-clause-goes g c =
     let variables = c.args.variables.now in
     let e = c.in_ok-expr.expr in
     let tests = tested_reads limits inner c.args.condition.now first second state variables old.fuel m.fuel e c.in_ok-expr.ensures.reads.0 c.in_ok-expr.ensures.reads.1 in
-    let why = c.in_err-text.field-0.0 in
-    let halts = value_halts host limits (record old { fuel = m.fuel }) state variables e
-    (λ text state variables fuel. given limits (value_or_fault (truth_of text)) state variables fuel (λ holds. if_holds holds first second state variables fuel))
-    why c.in_err-text.ensures in
+    let why = c.in_err-holds.field-0.0 in
+    let halts = holds_halts host limits (record old { fuel = m.fuel }) state variables e first second why c.in_err-holds.ensures in
     let here = subst (λ k. GoesSo host limits (resume host limits old.left old.stack (after_truth limits (value_does limits inner e state variables m.fuel) first second)) (Err (halt_of_interrupt why)) k state variables)
     (sym c.read_condition.ensures.kept) halts in
     let whole = subst (λ o. GoesSo host limits (resume host limits old.left old.stack o) (Err (halt_of_interrupt why)) m state variables) (sym tests) here in
@@ -51,8 +46,8 @@ returns-in-Some-clause-goes g c =
     let second = script_does inner (option_copied c.args.otherwise) in
     let state = g.H.Host.state c.args.host.now in
     let variables = c.args.variables.now in
-    let made = rw c.in-Some.is at c.in_ok-text.ensures in
+    let made = rw c.in-Some.is at c.in_ok-holds.ensures in
     let tests = tested_reads limits inner c.args.condition.now first second state variables c.args.self.now.fuel m.fuel c.in_ok-expr.expr c.in_ok-expr.ensures.reads.0 c.in_ok-expr.ensures.reads.1
-    ∙ ap (λ o. after_truth limits o first second) (value_is limits variables inner state m.fuel c.in_ok-expr.expr c.in-Some.text made) in
+    ∙ truth_is limits variables inner state m.fuel c.in_ok-expr.expr c.in-Some.holds first second made in
     let goes = rw c.read_condition.ensures.kept at c.open_chosen.ensures.goes in
     rw tests goes
