@@ -202,7 +202,6 @@ impl Machine {
     }
 
     // Goes on with what waited for an end.
-    #[inline(always)]
     fn resume<H: Host>(
         &mut self,
         alloc: Global,

@@ -44,7 +44,6 @@ impl<T: Drop> Rest<T> {
     }
 
     /// Takes the first item.
-    #[inline(always)]
     pub fn next(&mut self) -> Option<T>
         ensures { MatchOption result ((self.old ≡ []) × (self.new ≡ [])) (λ x. self.old ≡ x ∷ self.new) }
     {
@@ -59,7 +58,6 @@ impl<T: Drop> Rest<T> {
     }
 
     /// Puts an item in front.
-    #[inline(always)]
     pub fn push(&mut self, item: T) -> Result<(), AllocError>
         ensures ok { OnOk result (self.new ≡ item ∷ self.old) }
         ensures err { OnErr result (self.new ≡ self.old) }
