@@ -1,3 +1,5 @@
+pub mod Cuts
+pub mod Plain
 pub mod Loops
 pub mod Matching
 pub mod Spelled

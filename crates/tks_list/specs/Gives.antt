@@ -1,8 +1,11 @@
 -- What the code returned, against what reading gives, unless memory was refused.
-use Rattle.std.specs.Prelude.{◌≡◌, ℕ, List, ◌∷◌, ◌++◌, Option, Some, None, option_to_list, Result, Ok, Err}
+use Rattle.std.specs.Prelude.{◌≡◌, ℕ, List, [], ◌∷◌, ◌++◌, Option, Some, None, Result, Ok, Err}
 use Rattle.tks_text.specs.Run.{Step, stop, fails, takes, Run}
 use Rattle.tks_list.specs.ListText.{Splits}
+use Rattle.tks_list.specs.Cuts.{cut}
 use Rattle.tks_list.specs.declared.fault.ListFault.{ListFault}
+use Rattle.tks_list.specs.declared.reading.Found.{Found}
+use Rattle.tks_list.specs.declared.reading.Found.TheVariants.{In, Made}
 use Rattle.tks_list.specs.declared.fault.ListFault.TheVariants.{NoMemory, NotAList}
 
 abbrev pub FailsStep : {R : Type 0} → ListFault → Step ListFault R → Type 0
@@ -30,8 +33,21 @@ taken_char x = takes (λ e. x.0 ∷ e) x.1
 abbrev pub run_of_chars : List ℕ × ℕ → Run ListFault (List ℕ)
 run_of_chars x = record { items = x.0; fault = None; taken = x.1 }
 
-abbrev pub taken_element : Option (List ℕ) × ℕ → Step ListFault (List (List ℕ))
-taken_element x = takes (λ l. option_to_list x.0 ++ l) x.1
+-- the characters that were found in a text
+abbrev pub chars_found : List ℕ → Found → List ℕ
+chars_found t (In span) = cut t span
+chars_found t (Made e) = e
+
+abbrev pub run_found : List ℕ → Found × ℕ → Run ListFault (List ℕ)
+run_found t x = record { items = chars_found t x.0; fault = None; taken = x.1 }
+
+-- the element that was found in a text, if there was one
+abbrev pub element_found : List ℕ → Option Found → List (List ℕ)
+element_found t None = []
+element_found t (Some found) = chars_found t found ∷ []
+
+abbrev pub taken_element : List ℕ → Option Found × ℕ → Step ListFault (List (List ℕ))
+taken_element t x = takes (λ l. element_found t x.0 ++ l) x.1
 
 -- the list that a call read, or that there is none
 abbrev pub ListRead : Result (List (List ℕ)) ListFault → Option (List (List ℕ)) → Type 0

@@ -1,5 +1,6 @@
 pub mod ListText
 pub mod Reading
+pub mod Cuts
 pub mod Gives
 pub mod Quoting
 pub mod Growing

@@ -1,5 +1,5 @@
 -- The list that a text splits into, read from left to right.
-use Rattle.std.specs.Prelude.{ℕ, zero, suc, ◌+◌, ◌-◌, false, ◌==◌, List, [], ◌∷◌, ◌++◌, take, drop, Option, Some, None, if◌then◌else◌}
+use Rattle.std.specs.Prelude.{ℕ, zero, suc, ◌+◌, ◌-◌, Bool, true, false, ◌==◌, ◌&&◌, not, List, [], ◌∷◌, ◌++◌, take, drop, Option, Some, None, if◌then◌else◌}
 use Rattle.tks_text.specs.Backslash.{escape}
 use Rattle.tks_text.specs.Integer.{is_space}
 use Rattle.tks_text.specs.Run.{Step, stop, fails, takes, Run, run, on_run}
@@ -50,15 +50,23 @@ char_step ends (c ∷ u) =
     else (if c == 92 then escape_step (escape u)
     else takes (λ e. c ∷ e) 0)
 
+-- whether a character of an element is neither its end nor a backslash
+abbrev pub stands_for_itself : Ends → ℕ → Bool
+stands_for_itself ends c = not (ends_at ends c) && not (c == 92)
+
 unfoldable pub chars_at : Ends → List ℕ → Run ListFault (List ℕ)
 chars_at ends t = run [] (char_step ends) 0 t
 
 -- ---- elements
 
+-- whether an element in braces or quotes may end before this text
+abbrev pub may_end : List ℕ → Bool
+may_end [] = true
+may_end (c ∷ v) = is_space c
+
 -- an element of n bytes behind its first, where its closing quote or brace may stand before this text
 abbrev pub behind_close : List ℕ → ℕ → List ℕ → Step ListFault (List (List ℕ))
-behind_close e n [] = takes (λ l. e ∷ l) n
-behind_close e n (c ∷ v) = if is_space c then takes (λ l. e ∷ l) n else fails NotAList
+behind_close e n v = if may_end v then takes (λ l. e ∷ l) n else fails NotAList
 
 abbrev pub braced_element : Option ℕ → List ℕ → Step ListFault (List (List ℕ))
 braced_element None u = fails NotAList

@@ -2,6 +2,7 @@
 #![tactic(auto)]
 
 mod braces;
+mod elements;
 mod ends;
 mod fault;
 mod growing;
@@ -9,8 +10,9 @@ mod laws;
 mod reading;
 mod writing;
 
+pub use elements::Elements;
 pub use fault::ListFault;
 pub use growing::{ListText, Suffix};
 pub use laws::{backslash_form_splits_back, join_splits_back, one_list};
-pub use reading::split;
+pub use reading::{read, split};
 pub use writing::{backslash_form, join, quote};

@@ -1,13 +1,24 @@
-ghost use Rattle.std.specs.Prelude.{◌≡◌, ◌<◌, ◌≤◌, ◌++◌, length, option_to_list, IfOk, IfSome, OnOk, true};
+ghost use Rattle.std.specs.Prelude.{◌≡◌, ◌<◌, ◌≤◌, ◌++◌, length, drop, IfOk, IfSome, OnOk, true};
+ghost use Rattle.std.specs.List.{prefix_len};
 ghost use Rattle.tks_text.specs.Text.{IsText, is_text_byte};
-ghost use Rattle.tks_list.specs.Gives.{GivesStep, GivesRun, ListRead, SplitsSo, taken_char, run_of_chars, taken_element};
-ghost use Rattle.tks_list.specs.Reading.{char_step, chars_at, no_braces, closing_brace, behind_close, braced_element, quoted_step, element_step, list_of};
+ghost use Rattle.tks_list.specs.Gives.{GivesStep, GivesRun, ListRead, SplitsSo, taken_char, run_of_chars, run_found, taken_element, element_found};
+ghost use Rattle.tks_list.specs.Reading.{char_step, chars_at, stands_for_itself, no_braces, closing_brace, may_end, braced_element, quoted_step, element_step, list_of};
 
 use crate::braces::closing_brace;
+use crate::elements::{Elements, Span, cut};
 use crate::ends::Ends;
 use crate::fault::ListFault;
 use std::alloc::{AllocError, Global};
 use tks_text::{Seq, Txt, escape, is_space};
+
+/// The characters of an element that was found in a text.
+#[derive(Drop)]
+pub enum Found {
+    /// They stand in the text.
+    In(Span),
+    /// Escapes stand for some of them.
+    Made(Txt),
+}
 
 // The next character of an element, and how many bytes it takes behind its first.
 #[tactic(auto, unfolding(crate::specs::Reading::char_step))]
@@ -52,94 +63,143 @@ fn read_chars(alloc: Global, text: &[u8], ends: Ends) -> Result<(Txt, usize), Li
     Ok((chars, taken))
 }
 
-// An element of so many bytes behind its first, where it may end before this text.
-fn closed(
-    element: Txt,
-    taken: usize,
-    text: &[u8],
-) -> Result<Option<(Option<Txt>, usize)>, ListFault>
-    ensures gives { GivesStep taken_element result (behind_close element taken text.now) }
-    ensures bound { IfOk result (λ o. IfSome o (λ x. x.1 ≡ taken)) }
+// How many characters a text begins with that stand for themselves.
+fn plain_len(text: &[u8], ends: Ends) -> usize
+    ensures value { result ≡ prefix_len (stands_for_itself ends) text.now }
+    ensures bound { result ≤ length text.now }
 {
-    match text {
-        [c, ..] if !is_space(*c) => Err(ListFault::NotAList),
-        _ => Ok(Some((Some(element), taken))),
+    text.iter()
+        .take_while(|c| !ends.at(**c) && **c != b'\\')
+        .count()
+}
+
+// The characters from a place on, and how many bytes they take. They are made only where there is an escape.
+#[tactic(auto, using(crate::proofs::Plain::plain_found, tks_text::proofs::Texts::text_drop))]
+fn find_chars(
+    alloc: Global,
+    text: &[u8],
+    start: usize,
+    ends: Ends,
+) -> Result<(Found, usize), ListFault>
+    requires text { IsText text.now }
+    requires bound { start ≤ length text.now }
+    ensures gives { GivesRun (run_found text.now) result (chars_at ends (drop start text.now)) }
+    ensures bound { IfOk result (λ x. x.1 ≤ length (drop start text.now)) }
+{
+    let rest = text.split_at(start).1;
+    let len = plain_len(rest, ends);
+    match rest.split_at(len).1 {
+        [b'\\', ..] => {
+            let (chars, taken) = read_chars(alloc, rest, ends)?;
+            Ok((Found::Made(chars), taken))
+        }
+        _ => {
+            let end = start + len;
+            Ok((Found::In(Span { start, end }), len))
+        }
     }
 }
 
-// The element behind an opening brace.
-fn read_braced(alloc: Global, text: &[u8]) -> Result<Option<(Option<Txt>, usize)>, ListFault>
-    requires { IsText text.now }
-    ensures gives { GivesStep taken_element result (braced_element (closing_brace 0 no_braces text.now) text.now) }
-    ensures bound { IfOk result (λ o. IfSome o (λ x. x.1 ≤ length text.now)) }
+// Whether an element in braces or quotes may end before this text.
+fn may_end(text: &[u8]) -> bool
+    ensures { result ≡ may_end text.now }
 {
-    match closing_brace(text) {
+    match text {
+        [c, ..] => is_space(*c),
+        [] => true,
+    }
+}
+
+// The element in braces that a text begins with.
+fn read_braced(text: &[u8]) -> Result<Option<(Option<Found>, usize)>, ListFault>
+    requires { 1 ≤ length text.now }
+    ensures gives { GivesStep (taken_element text.now) result (braced_element (closing_brace 0 no_braces (drop 1 text.now)) (drop 1 text.now)) }
+    ensures bound { IfOk result (λ o. IfSome o (λ x. x.1 < length text.now)) }
+{
+    let rest = text.split_at(1).1;
+    match closing_brace(rest) {
         Some(len) => {
-            let element = Txt::from_text(alloc, &text[..len])?;
-            closed(element, len + 1, text.split_at(len + 1).1)
+            let taken = len + 1;
+            if !may_end(rest.split_at(taken).1) {
+                return Err(ListFault::NotAList);
+            }
+            let element = Found::In(Span {
+                start: 1,
+                end: taken,
+            });
+            Ok(Some((Some(element), taken)))
         }
         None => Err(ListFault::NotAList),
     }
 }
 
-// The element behind a quote.
+// The element in quotes that a text begins with.
 #[tactic(auto, unfolding(crate::specs::Reading::quoted_step))]
-fn read_quoted(alloc: Global, text: &[u8]) -> Result<Option<(Option<Txt>, usize)>, ListFault>
-    requires { IsText text.now }
-    ensures gives { GivesStep taken_element result (quoted_step text.now) }
-    ensures bound { IfOk result (λ o. IfSome o (λ x. x.1 ≤ length text.now)) }
+fn read_quoted(alloc: Global, text: &[u8]) -> Result<Option<(Option<Found>, usize)>, ListFault>
+    requires text { IsText text.now }
+    requires bound { 1 ≤ length text.now }
+    ensures gives { GivesStep (taken_element text.now) result (quoted_step (drop 1 text.now)) }
+    ensures bound { IfOk result (λ o. IfSome o (λ x. x.1 < length text.now)) }
 {
-    let (element, taken) = read_chars(alloc, text, Ends::Quote)?;
-    match text.split_at(taken).1 {
+    let (element, taken) = find_chars(alloc, text, 1, Ends::Quote)?;
+    match text.split_at(1).1.split_at(taken).1 {
         [] => Err(ListFault::NotAList),
-        [_, behind @ ..] => closed(element, taken + 1, behind),
+        [_, behind @ ..] => {
+            if !may_end(behind) {
+                return Err(ListFault::NotAList);
+            }
+            Ok(Some((Some(element), taken + 1)))
+        }
     }
 }
 
 // The next element, or white space before it, and how many bytes it takes behind its first.
 #[tactic(auto, unfolding(crate::specs::Reading::element_step, crate::specs::Reading::bare_step))]
-fn read_element(alloc: Global, text: &[u8]) -> Result<Option<(Option<Txt>, usize)>, ListFault>
+fn read_element(alloc: Global, text: &[u8]) -> Result<Option<(Option<Found>, usize)>, ListFault>
     requires { IsText text.now }
-    ensures gives { GivesStep taken_element result (element_step text.now) }
+    ensures gives { GivesStep (taken_element text.now) result (element_step text.now) }
     ensures bound { IfOk result (λ o. IfSome o (λ x. x.1 < length text.now)) }
 {
     match text {
         [] => Ok(None),
-        [first, rest @ ..] => {
+        [first, ..] => {
             let c = *first;
             if is_space(c) {
                 return Ok(Some((None, 0)));
             }
             if c == b'{' {
-                return read_braced(alloc, rest);
+                return read_braced(text);
             }
             if c == b'"' {
-                return read_quoted(alloc, rest);
+                return read_quoted(alloc, text);
             }
-            let (element, taken) = read_chars(alloc, text, Ends::Space)?;
+            let (element, taken) = find_chars(alloc, text, 0, Ends::Space)?;
             Ok(Some((Some(element), taken.saturating_sub(1))))
         }
     }
 }
 
-// Adds an element that is there.
-fn add_element(list: &mut Seq<Txt>, element: Option<Txt>) -> Result<(), AllocError>
-    ensures { OnOk result (list.new ≡ list.old ++ option_to_list element) }
+// Adds an element that was found in a text.
+#[tactic(auto, using(crate::proofs::Cuts::text_cut))]
+fn add_element(list: &mut Elements, text: &[u8], found: Option<Found>) -> Result<(), AllocError>
+    requires { IsText text.now }
+    ensures { OnOk result (list.new ≡ list.old ++ element_found text.now found) }
 {
-    if let Some(element) = element {
-        list.push(element)?;
+    match found {
+        Some(Found::In(span)) => list.push(cut(text, span)),
+        Some(Found::Made(chars)) => list.push(chars.as_bytes()),
+        None => Ok(()),
     }
-    Ok(())
 }
 
 // The elements of a text, up to its end.
-fn read_list(alloc: Global, text: &Txt) -> Result<Seq<Txt>, ListFault>
+fn read_list(alloc: Global, text: &Txt) -> Result<Elements, ListFault>
     ensures { ListRead result (list_of text.now) }
 {
-    let mut list = Seq::new(alloc);
+    let mut list = Elements::with_room(alloc, text.len())?;
     let mut rest = text.as_bytes();
     'elements: while let Some((element, more)) = read_element(alloc, rest)? {
-        add_element(&mut list, element)?;
+        add_element(&mut list, rest, element)?;
         rest = rest.split_at(1 + more).1;
     }
     Ok(list)
@@ -148,9 +208,19 @@ fn read_list(alloc: Global, text: &Txt) -> Result<Seq<Txt>, ListFault>
 /// The list that a text splits into: elements between white space, each in braces, in quotes or bare.
 /// `NotAList` where it splits into none.
 #[tactic(auto, using(crate::proofs::Told::reads_so))]
-pub fn split(alloc: Global, text: &Txt) -> Result<Seq<Txt>, ListFault>
+pub fn read(alloc: Global, text: &Txt) -> Result<Elements, ListFault>
     ensures list { ListRead result (list_of text.now) }
     ensures splits { SplitsSo result text.now }
 {
     read_list(alloc, text)
+}
+
+/// The same, with a text of its own for each element.
+pub fn split(alloc: Global, text: &Txt) -> Result<Seq<Txt>, ListFault>
+    ensures list { ListRead result (list_of text.now) }
+    ensures splits { SplitsSo result text.now }
+{
+    let elements = read(alloc, text)?;
+    let texts = elements.to_texts(alloc)?;
+    Ok(texts)
 }

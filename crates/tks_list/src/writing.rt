@@ -110,10 +110,11 @@ fn push_backslashed_chars(text: &mut Txt, chars: &[u8]) -> Result<(), AllocError
 }
 
 // Adds an element in backslash form.
-fn push_backslashed(text: &mut Txt, element: &Txt) -> Result<(), AllocError>
+fn push_backslashed(text: &mut Txt, element: &[u8]) -> Result<(), AllocError>
+    requires { IsText element.now }
     ensures { OnOk result (text.new ≡ text.old ++ backslashed element.now) }
 {
-    match element.as_bytes() {
+    match element {
         [] => push_in_braces(text, element),
         [b'#', rest @ ..] => {
             text.push_byte(b'\\')?;
@@ -124,25 +125,36 @@ fn push_backslashed(text: &mut Txt, element: &Txt) -> Result<(), AllocError>
     }
 }
 
+// Adds bytes that are a text.
+fn push_bytes(text: &mut Txt, bytes: &[u8]) -> Result<(), AllocError>
+    requires { IsText bytes.now }
+    ensures { OnOk result (text.new ≡ text.old ++ bytes.now) }
+{
+    for byte in bytes {
+        text.push_byte(*byte)?;
+    }
+    Ok(())
+}
+
 // Adds an element in braces.
-fn push_in_braces(text: &mut Txt, element: &Txt) -> Result<(), AllocError>
+fn push_in_braces(text: &mut Txt, element: &[u8]) -> Result<(), AllocError>
+    requires { IsText element.now }
     ensures { OnOk result (text.new ≡ text.old ++ in_braces element.now) }
 {
     text.push_byte(b'{')?;
-    text.append(element)?;
+    push_bytes(text, element)?;
     text.push_byte(b'}')?;
     Ok(())
 }
 
-// Adds an element, quoted where it has to be.
-fn push_quoted(text: &mut Txt, element: &Txt) -> Result<(), AllocError>
+/// Adds an element, quoted where it has to be.
+pub(crate) fn push_quoted(text: &mut Txt, element: &[u8]) -> Result<(), AllocError>
+    requires { IsText element.now }
     ensures { OnOk result (text.new ≡ text.old ++ quoted element.now) }
 {
-    let bytes = element.as_bytes();
-    if stands_bare(bytes) {
-        text.append(element)?;
-        Ok(())
-    } else if stands_in_braces(bytes) {
+    if stands_bare(element) {
+        push_bytes(text, element)
+    } else if stands_in_braces(element) {
         push_in_braces(text, element)
     } else {
         push_backslashed(text, element)
@@ -155,7 +167,7 @@ pub(crate) fn push_spaced(text: &mut Txt, list: &[Txt]) -> Result<(), AllocError
 {
     for element in list {
         text.push_byte(b' ')?;
-        push_quoted(text, element)?;
+        push_quoted(text, element.as_bytes())?;
     }
     Ok(())
 }
@@ -166,7 +178,7 @@ pub fn quote(alloc: Global, element: &Txt) -> Result<Txt, AllocError>
     ensures { IfOk result (λ t. t ≡ quoted element.now) }
 {
     let mut text = Txt::new(alloc);
-    push_quoted(&mut text, element)?;
+    push_quoted(&mut text, element.as_bytes())?;
     Ok(text)
 }
 
@@ -176,7 +188,7 @@ pub fn backslash_form(alloc: Global, element: &Txt) -> Result<Txt, AllocError>
     ensures { IfOk result (λ t. t ≡ backslashed element.now) }
 {
     let mut text = Txt::new(alloc);
-    push_backslashed(&mut text, element)?;
+    push_backslashed(&mut text, element.as_bytes())?;
     Ok(text)
 }
 
@@ -186,7 +198,7 @@ pub fn join(alloc: Global, list: &[Txt]) -> Result<Txt, AllocError>
 {
     let mut text = Txt::new(alloc);
     if let [first, rest @ ..] = list {
-        push_quoted(&mut text, first)?;
+        push_quoted(&mut text, first.as_bytes())?;
         push_spaced(&mut text, rest)?;
     }
     Ok(text)
