@@ -94,6 +94,7 @@ impl Elements {
     pub fn position(&self, value: &Txt) -> Option<usize>
         ensures bound { IfSome result (λ n. n < length self.now) }
         ensures value { result ≡ position (λ element. same_text element value.now) self.now }
+        ensures short { IsShort self.now }
     {
         place(&self.bytes, self.spans.as_slice(), value.as_bytes())
     }

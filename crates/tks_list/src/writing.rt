@@ -125,8 +125,8 @@ fn push_backslashed(text: &mut Txt, element: &[u8]) -> Result<(), AllocError>
     }
 }
 
-// Adds bytes that are a text.
-fn push_bytes(text: &mut Txt, bytes: &[u8]) -> Result<(), AllocError>
+/// Adds bytes that the caller knows to be a text.
+pub fn push_bytes(text: &mut Txt, bytes: &[u8]) -> Result<(), AllocError>
     requires { IsText bytes.now }
     ensures { OnOk result (text.new ≡ text.old ++ bytes.now) }
 {

@@ -3,7 +3,7 @@ use Rattle.std.proofs.Common.{◌≡◌, ℕ, suc, pos, ◌+ℤ◌, ◌+◌, ◌
 use Rattle.std.specs.Prelude.{not, ◌&&◌}
 use Rattle.std.specs.List.{list_all, prefix_len}
 use Rattle.std.proofs.Math.Seq.{drop-cons}
-use Rattle.std.proofs.lemmas.List.{take_all, drop_all, drop_min}
+use Rattle.std.proofs.lemmas.List.{take_all, take_min, length-take, drop_all, drop_min}
 use Rattle.std.proofs.lemmas.List.Folds.{list_all-append}
 use Rattle.tks_text.specs.Text.{IsText}
 use Rattle.tks_text.specs.Integer.{is_space}
@@ -16,6 +16,14 @@ use Rattle.tks_tcl.specs.Lists.{without_end, is_among, with_first, fields}
 -- places beyond the members that are left are cut
 pub drop_cut : {A : Type 0} (n m : ℕ) (l : List A) → m ≡ length l → drop (min n m) l ≡ drop n l
 drop_cut n m l e = rw e (drop_min n l)
+
+-- the members from one index to another, by how many stand before them and up to their end
+pub range_within : {A : Type 0} (first last : Index) (l : List A) (front behind : ℕ) → front ≡ min (before (place first (length l))) behind → behind ≡ min (before (place last (length l) +ℤ pos 1)) (length l)
+    → drop front (take behind l) ≡ range first last l
+range_within first last l front behind f b =
+    let len : behind ≡ length (take behind l) = omega (arith, length-take behind l, b) in
+    ap (λ n. drop n (take behind l)) f ∙ drop_cut (before (place first (length l))) behind (take behind l) len
+    ∙ ap (drop (before (place first (length l)))) (ap (λ n. take n l) b ∙ take_min (before (place last (length l) +ℤ pos 1)) l)
 
 -- ---- fields
 

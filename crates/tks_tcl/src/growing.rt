@@ -114,7 +114,7 @@ pub fn add_texts(
 }
 
 // Adds elements at the end of a list.
-pub(crate) fn push_elements(list: &mut Seq<Txt>, elements: &[Txt]) -> Result<(), AllocError>
+fn push_elements(list: &mut Seq<Txt>, elements: &[Txt]) -> Result<(), AllocError>
     ensures { OnOk result (list.new ≡ list.old ++ elements.now) }
 {
     for element in elements {

@@ -98,13 +98,19 @@ fn before(place: i128, len: usize) -> usize
     }
 }
 
+/// How many members stand before those from one index to another, and how many up to their end, of so many.
+pub fn bounds(len: usize, first: Index, last: Index) -> (usize, usize)
+    ensures front { result.0 ≡ min (before (place (index_of first) len)) result.1 }
+    ensures behind { result.1 ≡ min (before (place (index_of last) len +ℤ pos 1)) len }
+{
+    let behind = before(last.place(len) + 1, len);
+    (before(first.place(len), behind), behind)
+}
+
 /// The members from one index to another, of those that are there.
 pub fn range<T>(items: &[T], first: Index, last: Index) -> &[T]
     ensures { result.now ≡ range (index_of first) (index_of last) items.now }
 {
-    let len = items.len();
-    let behind = before(last.place(len) + 1, len);
-    let items = items.split_at(behind).0;
-    let front = before(first.place(len), behind);
-    items.split_at(front).1
+    let (front, behind) = bounds(items.len(), first, last);
+    items.split_at(behind).0.split_at(front).1
 }

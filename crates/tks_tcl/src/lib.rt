@@ -4,6 +4,7 @@
 mod calls;
 mod codes;
 mod command;
+mod elements;
 mod growing;
 mod index;
 mod interrupt;

@@ -1,14 +1,15 @@
-ghost use Rattle.std.specs.Prelude.{◌≡◌, ◌==◌, ◌<◌, ◌≤◌, ◌^◌, ◌++◌, ◌∷◌, [], length, map, filter, not, IfSome, IfOk, OnOk, position};
+ghost use Rattle.std.specs.Prelude.{◌≡◌, ◌==◌, ◌<◌, ◌≤◌, ◌^◌, ◌++◌, ◌∷◌, [], length, map, filter, not, IfSome, IfOk, OnOk};
 ghost use Rattle.std.specs.List.{prefix_len};
-ghost use Rattle.tks_text.specs.Text.{same_text, IsText};
+ghost use Rattle.tks_text.specs.Text.{IsText};
 ghost use Rattle.tks_text.specs.Integer.{is_space};
 ghost use Rattle.tks_tcl.specs.Cause.{after, fits, within};
 ghost use Rattle.tks_tcl.specs.Meets.{GivesSo};
 ghost use Rattle.tks_list.specs.Quoting.{joined};
-ghost use Rattle.tks_tcl.specs.Lists.{first_or_empty, place_text, separated, joined_by, without_end, trimmed, concatenated, is_among, fields, split_at, llength_does, lindex_does, lrange_does, searched, lsearch_does, join_does, split_does};
+ghost use Rattle.tks_tcl.specs.Lists.{place_text, separated, joined_by, without_end, trimmed, concatenated, is_among, fields, split_at, llength_does, lindex_does, lrange_does, searched, lsearch_does, join_does, split_does};
 ghost use Rattle.tks_tcl.specs.View.{list_command_of};
 
-use crate::index::{index_in, range};
+use crate::elements::{element_at, elements_joined, joined_range};
+use crate::index::index_in;
 use crate::interrupt::{Interrupt, error_about, within, wrong_words};
 use crate::room::have_room;
 use crate::table::ListTable;
@@ -84,16 +85,6 @@ fn run_llength(
     }
 }
 
-// The first member, or the empty text.
-fn first_or_empty(alloc: Global, list: &[Txt]) -> Result<Txt, AllocError>
-    ensures { IfOk result (λ t. t ≡ first_or_empty list.now) }
-{
-    match list {
-        [] => Ok(Txt::new(alloc)),
-        [element, ..] => element.try_clone(),
-    }
-}
-
 // lindex l i
 #[tactic(auto, using(crate::proofs::Causes::tells))]
 fn run_lindex(
@@ -108,7 +99,7 @@ fn run_lindex(
         [list, index] => {
             let list = lists.list(alloc, list)?;
             let index = index_in(alloc, index)?;
-            Ok(first_or_empty(alloc, range(list.get().as_slice(), index, index))?)
+            Ok(element_at(alloc, list.get(), index)?)
         }
         _ => Err(wrong_words(command)),
     }
@@ -129,18 +120,10 @@ fn run_lrange(
             let list = lists.list(alloc, list)?;
             let first = index_in(alloc, first)?;
             let last = index_in(alloc, last)?;
-            Ok(join(alloc, range(list.get().as_slice(), first, last))?)
+            Ok(joined_range(alloc, list.get(), first, last)?)
         }
         _ => Err(wrong_words(command)),
     }
-}
-
-// The place of the first element with this value.
-fn place(list: &[Txt], value: &Txt) -> Option<usize>
-    ensures bound { IfSome result (λ n. n < length list.now) }
-    ensures value { result ≡ position (λ element. same_text element value.now) list.now }
-{
-    list.iter().position(|element| element == value)
 }
 
 // A place as a text.
@@ -159,7 +142,7 @@ fn searched(alloc: Global, lists: &mut ListTable, list: &Txt, value: &Txt) -> Re
     ensures { GivesSo (λ t. t) result (searched list.now value.now) }
 {
     let list = lists.list(alloc, list)?;
-    let found = place(list.get().as_slice(), value);
+    let found = list.get().position(value);
     let text = place_text(alloc, found)?;
     Ok(text)
 }
@@ -247,12 +230,12 @@ fn run_join(
         [list] => {
             let list = lists.list(alloc, list)?;
             let space = Txt::from_text(alloc, b" ")?;
-            let text = joined_within(alloc, list.get().as_slice(), &space, limits)?;
+            let text = elements_joined(alloc, list.get(), &space, limits)?;
             Ok(text)
         }
         [list, separator] => {
             let list = lists.list(alloc, list)?;
-            let text = joined_within(alloc, list.get().as_slice(), separator, limits)?;
+            let text = elements_joined(alloc, list.get(), separator, limits)?;
             Ok(text)
         }
         _ => Err(wrong_words(command)),

@@ -1,8 +1,16 @@
 //! Whether the parts of a text have room: what would pass a limit is refused before it is made.
-ghost use Rattle.std.specs.Prelude.{◌≡◌, ◌≤◌, nat_le};
+ghost use Rattle.std.specs.Prelude.{◌≡◌, ◌+◌, ◌<◌, ◌≤◌, nat_le, IfSome, IfNone};
 ghost use Rattle.tks_tcl.specs.Room.{room_of};
 
 use tks_text::Txt;
+
+/// What is left of a room behind a text of so many bytes, and so many more.
+pub fn room_behind(room: usize, len: usize, more: usize) -> Option<usize>
+    ensures some { IfSome result (λ left. left + (len + more) ≡ room) }
+    ensures none { IfNone result (room < len + more) }
+{
+    room.checked_sub(len)?.checked_sub(more)
+}
 
 /// Whether these texts, and so many bytes more with each, are no more than this room.
 pub fn have_room(texts: &[Txt], more: usize, room: usize) -> bool
@@ -10,14 +18,10 @@ pub fn have_room(texts: &[Txt], more: usize, room: usize) -> bool
 {
     let mut left = room;
     for text in texts {
-        if text.len() > left {
-            return false;
+        match room_behind(left, text.len(), more) {
+            Some(room) => left = room,
+            None => return false,
         }
-        left -= text.len();
-        if more > left {
-            return false;
-        }
-        left -= more;
     }
     true
 }

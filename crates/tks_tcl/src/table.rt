@@ -3,11 +3,11 @@ ghost use Rattle.std.specs.Prelude.{◌≡◌, IfSome, Ok};
 ghost use Rattle.tks_tcl.specs.Meets.{GivesSo};
 ghost use Rattle.tks_tcl.specs.Words.{list_in};
 
-use crate::growing::push_elements;
 use crate::interrupt::Interrupt;
-use crate::words::list_in;
+use crate::words::{elements_in, list_in};
 use std::alloc::{AllocError, Global};
 use std::marker::Model;
+use tks_list::Elements;
 use tks_share::Shared;
 use tks_text::{Seq, Txt};
 
@@ -15,7 +15,7 @@ use tks_text::{Seq, Txt};
 #[derive(Drop)]
 struct KeptList {
     text: Txt,
-    list: Shared<Seq<Txt>>,
+    list: Shared<Elements>,
 }
 
 impl Model for KeptList {
@@ -31,7 +31,7 @@ impl Model for KeptList {
 
 impl KeptList {
     // The list, where this is its text.
-    fn list(&self, text: &Txt) -> Option<Shared<Seq<Txt>>>
+    fn list(&self, text: &Txt) -> Option<Shared<Elements>>
         ensures { IfSome result (λ l. list_in text.now ≡ Ok l) }
     {
         if self.text != *text {
@@ -90,7 +90,7 @@ impl ListTable {
     }
 
     // Keeps a list under its text.
-    fn keep(&mut self, text: &Txt, list: &Shared<Seq<Txt>>) -> Result<(), AllocError>
+    fn keep(&mut self, text: &Txt, list: &Shared<Elements>) -> Result<(), AllocError>
         requires { list_in text.now ≡ Ok list.now }
     {
         let kept = KeptList {
@@ -102,7 +102,7 @@ impl ListTable {
     }
 
     // The list that is kept of a text.
-    fn kept(&self, text: &Txt) -> Option<Shared<Seq<Txt>>>
+    fn kept(&self, text: &Txt) -> Option<Shared<Elements>>
         ensures { IfSome result (λ l. list_in text.now ≡ Ok l) }
     {
         for kept in self.lists.as_slice() {
@@ -114,13 +114,13 @@ impl ListTable {
     }
 
     /// The list that a text splits into, read where it isn't kept, and then kept where memory serves.
-    pub fn list(&mut self, alloc: Global, text: &Txt) -> Result<Shared<Seq<Txt>>, Interrupt>
+    pub fn list(&mut self, alloc: Global, text: &Txt) -> Result<Shared<Elements>, Interrupt>
         ensures { GivesSo (λ l. l) result (list_in text.now) }
     {
         if let Some(list) = self.kept(text) {
             return Ok(list);
         }
-        let list = Shared::new(alloc, list_in(alloc, text)?)?;
+        let list = Shared::new(alloc, elements_in(alloc, text)?)?;
         if text.len() >= LEAST_LEN {
             let _ = self.keep(text, &list);
         }
@@ -132,11 +132,7 @@ impl ListTable {
         ensures { GivesSo (λ l. l) result (list_in text.now) }
     {
         match self.kept(text) {
-            Some(kept) => {
-                let mut list = Seq::new(alloc);
-                push_elements(&mut list, kept.get().as_slice())?;
-                Ok(list)
-            }
+            Some(kept) => Ok(kept.get().to_texts(alloc)?),
             None => list_in(alloc, text),
         }
     }

@@ -5,7 +5,7 @@ ghost use Rattle.tks_tcl.specs.Words.{integer_in, list_in, truth_text};
 
 use crate::interrupt::{Interrupt, error, error_about};
 use std::alloc::{AllocError, Global};
-use tks_list::{ListFault, split};
+use tks_list::{Elements, ListFault, read, split};
 use tks_text::{ErrorNumber, Seq, Txt, decimal_of, integer_of};
 
 /// The integer that a text spells.
@@ -17,6 +17,17 @@ pub fn integer_in(text: &Txt) -> Result<i64, Interrupt>
         Ok(Some(integer)) => Ok(integer),
         Ok(None) => Err(error_about(ErrorNumber::NotAnInteger, text)),
         Err(_) => Err(error(ErrorNumber::OutOfRange)),
+    }
+}
+
+/// The list that a text splits into, in one buffer.
+pub fn elements_in(alloc: Global, text: &Txt) -> Result<Elements, Interrupt>
+    ensures { GivesSo (λ l. l) result (list_in text.now) }
+{
+    match read(alloc, text) {
+        Ok(list) => Ok(list),
+        Err(ListFault::NotAList) => Err(error(ErrorNumber::NotAList)),
+        Err(ListFault::NoMemory) => Err(Interrupt::NoMemory),
     }
 }
 

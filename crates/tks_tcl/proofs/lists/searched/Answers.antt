@@ -9,4 +9,4 @@ pub returns : goal.returns
 returns c =
     let told : List (List ℕ) → List ℕ = λ l. place_text (position (λ element. same_text element c.args.value.now) l) in
     ap (λ (r : Result (List (List ℕ)) Cause). after r (λ l. Ok (told l))) c.in_ok-list.ensures
-    ∙ ap Ok (ap told (sym (c.as_slice.ensures.value ∙ c.get.ensures)) ∙ ap place_text (sym c.place-found.ensures.value) ∙ sym c.in_ok-text.ensures)
+    ∙ ap Ok (ap told (sym c.get.ensures) ∙ ap place_text (sym c.position-found.ensures.value) ∙ sym c.in_ok-text.ensures)

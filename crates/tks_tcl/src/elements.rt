@@ -1,0 +1,106 @@
+//! What commands make of the elements of a list that was read.
+ghost use Rattle.std.specs.Prelude.{◌≡◌, ◌++◌, drop, nat_le, IfOk, OnOk};
+ghost use Rattle.tks_list.specs.Quoting.{joined};
+ghost use Rattle.tks_tcl.specs.Cause.{fits, within};
+ghost use Rattle.tks_tcl.specs.Index.{range};
+ghost use Rattle.tks_tcl.specs.Lists.{first_or_empty, separated, joined_by};
+ghost use Rattle.tks_tcl.specs.Meets.{GivesSo};
+ghost use Rattle.tks_tcl.specs.Room.{room_of};
+ghost use Rattle.tks_tcl.specs.View.{index_of};
+
+use crate::index::{Index, bounds};
+use crate::interrupt::Interrupt;
+use crate::room::room_behind;
+use std::alloc::{AllocError, Global};
+use tks_list::{Elements, push_bytes};
+use tks_text::{Limits, Txt};
+
+/// The element at an index, or the empty text where there is none.
+pub fn element_at(alloc: Global, list: &Elements, index: Index) -> Result<Txt, AllocError>
+    ensures { IfOk result (λ t. t ≡ first_or_empty (range (index_of index) (index_of index) list.now)) }
+{
+    let (front, behind) = bounds(list.len(), index, index);
+    if front == behind {
+        return Ok(Txt::new(alloc));
+    }
+    Txt::from_text(alloc, list.at(front))
+}
+
+/// The text of a list of those from one index to another.
+pub fn joined_range(
+    alloc: Global,
+    list: &Elements,
+    first: Index,
+    last: Index,
+) -> Result<Txt, AllocError>
+    ensures { IfOk result (λ t. t ≡ joined (range (index_of first) (index_of last) list.now)) }
+{
+    let (front, behind) = bounds(list.len(), first, last);
+    list.joined(alloc, front, behind)
+}
+
+// Whether the elements, and so many bytes more with each, are no more than this room.
+fn have_room(list: &Elements, more: usize, room: usize) -> bool
+    ensures { result ≡ nat_le (room_of more list.now) room }
+{
+    let mut left = room;
+    for index in 0..list.len() {
+        match room_behind(left, list.at(index).len(), more) {
+            Some(room) => left = room,
+            None => return false,
+        }
+    }
+    true
+}
+
+// Adds the elements from an index on, each with a separator before it.
+fn push_separated(
+    text: &mut Txt,
+    list: &Elements,
+    front: usize,
+    separator: &Txt,
+) -> Result<(), AllocError>
+    ensures { OnOk result (text.new ≡ text.old ++ separated separator.now (drop front list.now)) }
+{
+    for index in front..list.len() {
+        text.append(separator)?;
+        push_bytes(text, list.at(index))?;
+    }
+    Ok(())
+}
+
+// The elements with a separator between them.
+fn joined_by(alloc: Global, list: &Elements, separator: &Txt) -> Result<Txt, AllocError>
+    ensures { IfOk result (λ t. t ≡ joined_by separator.now list.now) }
+{
+    let mut text = Txt::new(alloc);
+    if list.len() == 0 {
+        return Ok(text);
+    }
+    push_bytes(&mut text, list.at(0))?;
+    push_separated(&mut text, list, 1, separator)?;
+    Ok(text)
+}
+
+// Whether the elements with a separator between them pass no limit.
+fn joined_fits(list: &Elements, separator: &Txt, limits: &Limits) -> bool
+    ensures { result ≡ fits limits.now (joined_by separator.now list.now) }
+{
+    let between = separator.as_bytes().len();
+    have_room(list, between, limits.text as usize + between)
+}
+
+/// The elements with a separator between them, where they pass no limit. Where they would, nothing is made.
+pub fn elements_joined(
+    alloc: Global,
+    list: &Elements,
+    separator: &Txt,
+    limits: &Limits,
+) -> Result<Txt, Interrupt>
+    ensures { GivesSo (λ t. t) result (within limits.now (joined_by separator.now list.now)) }
+{
+    if !joined_fits(list, separator, limits) {
+        return Err(Interrupt::TooLarge);
+    }
+    Ok(joined_by(alloc, list, separator)?)
+}
