@@ -30,24 +30,24 @@ GivesRun view (Err e) r = FailsRun e r
 abbrev pub taken_char : ℕ × ℕ → Step ListFault (List ℕ)
 taken_char x = takes (λ e. x.0 ∷ e) x.1
 
-abbrev pub run_of_chars : List ℕ × ℕ → Run ListFault (List ℕ)
-run_of_chars x = record { items = x.0; fault = None; taken = x.1 }
+abbrev pub run_of_chars : List ℕ → ℕ → Run ListFault (List ℕ)
+run_of_chars e n = record { items = e; fault = None; taken = n }
 
--- the characters that were found in a text
-abbrev pub chars_found : List ℕ → Found → List ℕ
-chars_found t (In span) = cut t span
-chars_found t (Made e) = e
+-- the characters that were found in a text, or made
+abbrev pub chars_found : List ℕ → List ℕ → Found → List ℕ
+chars_found made t (In span) = cut t span
+chars_found made t Made = made
 
-abbrev pub run_found : List ℕ → Found × ℕ → Run ListFault (List ℕ)
-run_found t x = record { items = chars_found t x.0; fault = None; taken = x.1 }
+abbrev pub run_found : List ℕ → List ℕ → Found × ℕ → Run ListFault (List ℕ)
+run_found made t x = run_of_chars (chars_found made t x.0) x.1
 
--- the element that was found in a text, if there was one
-abbrev pub element_found : List ℕ → Option Found → List (List ℕ)
-element_found t None = []
-element_found t (Some found) = chars_found t found ∷ []
+-- the element that was found, if there was one
+abbrev pub element_found : List ℕ → List ℕ → Option Found → List (List ℕ)
+element_found made t None = []
+element_found made t (Some found) = chars_found made t found ∷ []
 
-abbrev pub taken_element : List ℕ → Option Found × ℕ → Step ListFault (List (List ℕ))
-taken_element t x = takes (λ l. element_found t x.0 ++ l) x.1
+abbrev pub taken_element : List ℕ → List ℕ → Option Found × ℕ → Step ListFault (List (List ℕ))
+taken_element made t x = takes (λ l. element_found made t x.0 ++ l) x.1
 
 -- the list that a call read, or that there is none
 abbrev pub ListRead : Result (List (List ℕ)) ListFault → Option (List (List ℕ)) → Type 0

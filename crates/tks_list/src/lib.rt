@@ -2,6 +2,7 @@
 #![tactic(auto)]
 
 mod braces;
+mod buffer;
 mod elements;
 mod ends;
 mod fault;

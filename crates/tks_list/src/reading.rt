@@ -1,23 +1,24 @@
-ghost use Rattle.std.specs.Prelude.{◌≡◌, ◌<◌, ◌≤◌, ◌++◌, length, drop, IfOk, IfSome, OnOk, true};
+ghost use Rattle.std.specs.Prelude.{◌≡◌, ◌<◌, ◌≤◌, ◌++◌, List, ℕ, length, drop, IfOk, IfSome, OnOk, true};
 ghost use Rattle.std.specs.List.{prefix_len};
 ghost use Rattle.tks_text.specs.Text.{IsText, is_text_byte};
 ghost use Rattle.tks_list.specs.Gives.{GivesStep, GivesRun, ListRead, SplitsSo, taken_char, run_of_chars, run_found, taken_element, element_found};
 ghost use Rattle.tks_list.specs.Reading.{char_step, chars_at, stands_for_itself, no_braces, closing_brace, may_end, braced_element, quoted_step, element_step, list_of};
 
 use crate::braces::closing_brace;
+use crate::buffer::CharBuffer;
 use crate::elements::{Elements, Span, cut};
 use crate::ends::Ends;
 use crate::fault::ListFault;
 use std::alloc::{AllocError, Global};
 use tks_text::{Seq, Txt, escape, is_space};
 
-/// The characters of an element that was found in a text.
-#[derive(Drop)]
+/// Where the characters of an element are.
+#[derive(Clone, Copy)]
 pub enum Found {
-    /// They stand in the text.
+    /// In the text.
     In(Span),
-    /// Escapes stand for some of them.
-    Made(Txt),
+    /// In the buffer, since escapes stand for some of them.
+    Made,
 }
 
 // The next character of an element, and how many bytes it takes behind its first.
@@ -46,21 +47,21 @@ fn read_char(text: &[u8], ends: Ends) -> Result<Option<(u8, usize)>, ListFault>
     }
 }
 
-// The characters that a text begins with, and how many bytes they take.
-fn read_chars(alloc: Global, text: &[u8], ends: Ends) -> Result<(Txt, usize), ListFault>
+// Makes the characters that a text begins with, and tells how many bytes they take.
+fn read_chars(made: &mut CharBuffer, text: &[u8], ends: Ends) -> Result<usize, ListFault>
     requires { IsText text.now }
-    ensures gives { GivesRun run_of_chars result (chars_at ends text.now) }
-    ensures bound { IfOk result (λ x. x.1 ≤ length text.now) }
+    ensures gives { GivesRun (run_of_chars made.new) result (chars_at ends text.now) }
+    ensures bound { IfOk result (λ n. n ≤ length text.now) }
 {
-    let mut chars = Txt::new(alloc);
+    made.clear();
     let mut taken = 0;
     let mut rest = text;
     'chars: while let Some((c, more)) = read_char(rest, ends)? {
-        chars.push_byte(c)?;
+        made.push(c)?;
         taken += 1 + more;
         rest = rest.split_at(1 + more).1;
     }
-    Ok((chars, taken))
+    Ok(taken)
 }
 
 // How many characters a text begins with that stand for themselves.
@@ -76,22 +77,22 @@ fn plain_len(text: &[u8], ends: Ends) -> usize
 // The characters from a place on, and how many bytes they take. They are made only where there is an escape.
 #[tactic(auto, using(crate::proofs::Plain::plain_found, tks_text::proofs::Texts::text_drop))]
 fn find_chars(
-    alloc: Global,
+    made: &mut CharBuffer,
     text: &[u8],
     start: usize,
     ends: Ends,
 ) -> Result<(Found, usize), ListFault>
     requires text { IsText text.now }
     requires bound { start ≤ length text.now }
-    ensures gives { GivesRun (run_found text.now) result (chars_at ends (drop start text.now)) }
+    ensures gives { GivesRun (run_found made.new text.now) result (chars_at ends (drop start text.now)) }
     ensures bound { IfOk result (λ x. x.1 ≤ length (drop start text.now)) }
 {
     let rest = text.split_at(start).1;
     let len = plain_len(rest, ends);
     match rest.split_at(len).1 {
         [b'\\', ..] => {
-            let (chars, taken) = read_chars(alloc, rest, ends)?;
-            Ok((Found::Made(chars), taken))
+            let taken = read_chars(made, rest, ends)?;
+            Ok((Found::Made, taken))
         }
         _ => {
             let end = start + len;
@@ -113,7 +114,7 @@ fn may_end(text: &[u8]) -> bool
 // The element in braces that a text begins with.
 fn read_braced(text: &[u8]) -> Result<Option<(Option<Found>, usize)>, ListFault>
     requires { 1 ≤ length text.now }
-    ensures gives { GivesStep (taken_element text.now) result (braced_element (closing_brace 0 no_braces (drop 1 text.now)) (drop 1 text.now)) }
+    ensures gives { (made : List ℕ) → GivesStep (taken_element made text.now) result (braced_element (closing_brace 0 no_braces (drop 1 text.now)) (drop 1 text.now)) }
     ensures bound { IfOk result (λ o. IfSome o (λ x. x.1 < length text.now)) }
 {
     let rest = text.split_at(1).1;
@@ -135,13 +136,16 @@ fn read_braced(text: &[u8]) -> Result<Option<(Option<Found>, usize)>, ListFault>
 
 // The element in quotes that a text begins with.
 #[tactic(auto, unfolding(crate::specs::Reading::quoted_step))]
-fn read_quoted(alloc: Global, text: &[u8]) -> Result<Option<(Option<Found>, usize)>, ListFault>
+fn read_quoted(
+    made: &mut CharBuffer,
+    text: &[u8],
+) -> Result<Option<(Option<Found>, usize)>, ListFault>
     requires text { IsText text.now }
     requires bound { 1 ≤ length text.now }
-    ensures gives { GivesStep (taken_element text.now) result (quoted_step (drop 1 text.now)) }
+    ensures gives { GivesStep (taken_element made.new text.now) result (quoted_step (drop 1 text.now)) }
     ensures bound { IfOk result (λ o. IfSome o (λ x. x.1 < length text.now)) }
 {
-    let (element, taken) = find_chars(alloc, text, 1, Ends::Quote)?;
+    let (element, taken) = find_chars(made, text, 1, Ends::Quote)?;
     match text.split_at(1).1.split_at(taken).1 {
         [] => Err(ListFault::NotAList),
         [_, behind @ ..] => {
@@ -155,9 +159,12 @@ fn read_quoted(alloc: Global, text: &[u8]) -> Result<Option<(Option<Found>, usiz
 
 // The next element, or white space before it, and how many bytes it takes behind its first.
 #[tactic(auto, unfolding(crate::specs::Reading::element_step, crate::specs::Reading::bare_step))]
-fn read_element(alloc: Global, text: &[u8]) -> Result<Option<(Option<Found>, usize)>, ListFault>
+fn read_element(
+    made: &mut CharBuffer,
+    text: &[u8],
+) -> Result<Option<(Option<Found>, usize)>, ListFault>
     requires { IsText text.now }
-    ensures gives { GivesStep (taken_element text.now) result (element_step text.now) }
+    ensures gives { GivesStep (taken_element made.new text.now) result (element_step text.now) }
     ensures bound { IfOk result (λ o. IfSome o (λ x. x.1 < length text.now)) }
 {
     match text {
@@ -171,9 +178,9 @@ fn read_element(alloc: Global, text: &[u8]) -> Result<Option<(Option<Found>, usi
                 return read_braced(text);
             }
             if c == b'"' {
-                return read_quoted(alloc, text);
+                return read_quoted(made, text);
             }
-            let (element, taken) = find_chars(alloc, text, 0, Ends::Space)?;
+            let (element, taken) = find_chars(made, text, 0, Ends::Space)?;
             Ok(Some((Some(element), taken.saturating_sub(1))))
         }
     }
@@ -181,13 +188,18 @@ fn read_element(alloc: Global, text: &[u8]) -> Result<Option<(Option<Found>, usi
 
 // Adds an element that was found in a text.
 #[tactic(auto, using(crate::proofs::Cuts::text_cut))]
-fn add_element(list: &mut Elements, text: &[u8], found: Option<Found>) -> Result<(), AllocError>
+fn add_element(
+    list: &mut Elements,
+    made: &CharBuffer,
+    text: &[u8],
+    found: Option<Found>,
+) -> Result<(), AllocError>
     requires { IsText text.now }
-    ensures { OnOk result (list.new ≡ list.old ++ element_found text.now found) }
+    ensures { OnOk result (list.new ≡ list.old ++ element_found made.now text.now found) }
 {
     match found {
         Some(Found::In(span)) => list.push(cut(text, span)),
-        Some(Found::Made(chars)) => list.push(chars.as_bytes()),
+        Some(Found::Made) => list.push(made.as_bytes()),
         None => Ok(()),
     }
 }
@@ -197,9 +209,10 @@ fn read_list(alloc: Global, text: &Txt) -> Result<Elements, ListFault>
     ensures { ListRead result (list_of text.now) }
 {
     let mut list = Elements::with_room(alloc, text.len())?;
+    let mut made = CharBuffer::new(alloc);
     let mut rest = text.as_bytes();
-    'elements: while let Some((element, more)) = read_element(alloc, rest)? {
-        add_element(&mut list, rest, element)?;
+    'elements: while let Some((element, more)) = read_element(&mut made, rest)? {
+        add_element(&mut list, &made, rest, element)?;
         rest = rest.split_at(1 + more).1;
     }
     Ok(list)

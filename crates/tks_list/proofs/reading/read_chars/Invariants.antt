@@ -6,7 +6,7 @@ use Rattle.tks_list.proofs.reading.read_chars.Given as goal
 
 abbrev pub invariant-chars : goal.invariant-chars
 invariant-chars l = record {
-  so_far : behind (λ e. l.chars ++ e) l.taken (chars_at l.ends l.rest) ≡ chars_at l.ends l.text;
+  so_far : behind (λ e. l.made ++ e) l.taken (chars_at l.ends l.rest) ≡ chars_at l.ends l.text;
   len : l.taken + length l.rest ≡ length l.text;
   is_text : IsText l.rest;
 }

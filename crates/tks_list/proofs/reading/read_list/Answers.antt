@@ -10,7 +10,7 @@ elements-preserved c =
     let read = rw c.in-Some.is at c.in_ok-element.ensures.gives in
     let lt : c.in-Some.more < length c.elements.rest.now = rw c.in-Some.is at c.in_ok-element.ensures.bound in
     record {
-      so_far = rw (c.in_ok-add_element.ensures, c.split_at.ensures.back) (list_go c.elements.list (element_found c.elements.rest.now c.in-Some.element) c.in-Some.more c.elements.rest.now _ c.elements.invariant.so_far read lt);
+      so_far = rw (c.in_ok-add_element.ensures, c.split_at.ensures.back) (list_go c.elements.list (element_found c.read_element.new.made c.elements.rest.now c.in-Some.element) c.in-Some.more c.elements.rest.now _ c.elements.invariant.so_far read lt);
       len = omega arith;
       is_text = rw c.split_at.ensures.back (text_drop _ _ c.elements.invariant.is_text);
     }
