@@ -1,7 +1,7 @@
 ghost use Rattle.std.specs.Prelude.{◌≡◌, ◌<◌, ◌≤◌, ◌++◌, List, ℕ, length, drop, IfOk, IfSome, OnOk, true};
 ghost use Rattle.std.specs.List.{prefix_len};
 ghost use Rattle.tks_text.specs.Text.{IsText, is_text_byte};
-ghost use Rattle.tks_list.specs.Gives.{GivesStep, GivesRun, ListRead, SplitsSo, taken_char, run_of_chars, run_found, taken_element, element_found};
+ghost use Rattle.tks_list.specs.Gives.{GivesStep, GivesRun, ListRead, SplitsSo, taken_char, run_of_chars, run_found, taken_element, chars_found, element_found};
 ghost use Rattle.tks_list.specs.Reading.{char_step, chars_at, stands_for_itself, no_braces, closing_brace, may_end, braced_element, quoted_step, element_step, list_of};
 
 use crate::braces::closing_brace;
@@ -186,8 +186,20 @@ fn read_element(
     }
 }
 
-// Adds an element that was found in a text.
+// The characters that were found in a text, or made.
 #[tactic(auto, using(crate::proofs::Cuts::text_cut))]
+fn chars_of<'a>(made: &'a CharBuffer, text: &'a [u8], found: Found) -> &'a [u8]
+    requires { IsText text.now }
+    ensures value { result.now ≡ chars_found made.now text.now found }
+    ensures text { IsText result.now }
+{
+    match found {
+        Found::In(span) => cut(text, span),
+        Found::Made => made.as_bytes(),
+    }
+}
+
+// Adds an element that was found in a text.
 fn add_element(
     list: &mut Elements,
     made: &CharBuffer,
@@ -198,8 +210,24 @@ fn add_element(
     ensures { OnOk result (list.new ≡ list.old ++ element_found made.now text.now found) }
 {
     match found {
-        Some(Found::In(span)) => list.push(cut(text, span)),
-        Some(Found::Made) => list.push(made.as_bytes()),
+        Some(found) => list.push(chars_of(made, text, found)),
+        None => Ok(()),
+    }
+}
+
+// The same, as a text of its own.
+fn add_text(
+    alloc: Global,
+    list: &mut Seq<Txt>,
+    made: &CharBuffer,
+    text: &[u8],
+    found: Option<Found>,
+) -> Result<(), AllocError>
+    requires { IsText text.now }
+    ensures { OnOk result (list.new ≡ list.old ++ element_found made.now text.now found) }
+{
+    match found {
+        Some(found) => list.push(Txt::from_text(alloc, chars_of(made, text, found))?),
         None => Ok(()),
     }
 }
@@ -218,6 +246,20 @@ fn read_list(alloc: Global, text: &Txt) -> Result<Elements, ListFault>
     Ok(list)
 }
 
+// The same, each as a text of its own.
+fn split_list(alloc: Global, text: &Txt) -> Result<Seq<Txt>, ListFault>
+    ensures { ListRead result (list_of text.now) }
+{
+    let mut list = Seq::new(alloc);
+    let mut made = CharBuffer::new(alloc);
+    let mut rest = text.as_bytes();
+    'elements: while let Some((element, more)) = read_element(&mut made, rest)? {
+        add_text(alloc, &mut list, &made, rest, element)?;
+        rest = rest.split_at(1 + more).1;
+    }
+    Ok(list)
+}
+
 /// The list that a text splits into: elements between white space, each in braces, in quotes or bare.
 /// `NotAList` where it splits into none.
 #[tactic(auto, using(crate::proofs::Told::reads_so))]
@@ -229,11 +271,10 @@ pub fn read(alloc: Global, text: &Txt) -> Result<Elements, ListFault>
 }
 
 /// The same, with a text of its own for each element.
+#[tactic(auto, using(crate::proofs::Told::reads_so))]
 pub fn split(alloc: Global, text: &Txt) -> Result<Seq<Txt>, ListFault>
     ensures list { ListRead result (list_of text.now) }
     ensures splits { SplitsSo result text.now }
 {
-    let elements = read(alloc, text)?;
-    let texts = elements.to_texts(alloc)?;
-    Ok(texts)
+    split_list(alloc, text)
 }
