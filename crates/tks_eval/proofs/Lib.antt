@@ -10,3 +10,4 @@ pub mod Grammar
 pub mod Parameters
 pub mod Filling
 pub mod Operands
+pub mod AtOnce

@@ -18,6 +18,12 @@ pub first_of : (words : List (List ℕ)) (x : List ℕ) → 1 ≤ length words �
 first_of [] x l f = absurd (omega arith)
 first_of (y ∷ ys) x l f = ap (λ z. z ∷ ys) (sym f)
 
+-- the only one
+pub one_of : {A : Type 0} (xs : List A) (x : A) → 1 ≤ length xs → length xs < 2 → x ≡ get_or xs 0 x → xs ≡ x ∷ []
+one_of [] x l m f = absurd (omega (arith, l))
+one_of (a ∷ []) x l m f = ap (λ z. z ∷ []) (sym f)
+one_of (a ∷ b ∷ xs) x l m f = absurd (omega (arith, m))
+
 -- two words, which are all
 pub two_of : (words : List (List ℕ)) (x y : List ℕ) → 2 ≤ length words → length words < 3 → x ≡ get_or words 0 x → y ≡ get_or words 1 y → words ≡ x ∷ y ∷ []
 two_of [] x y l m f g = absurd (omega (arith, l))

@@ -5,10 +5,10 @@ use Rattle.tks_parse.specs.Tree.{script_size, words_size, parts_size}
 use Rattle.tks_parse.specs.Reading.{script_of}
 use Rattle.tks_parse.specs.View.{parts_of, words_of, script_of_commands}
 use Rattle.tks_vars.specs.Variables.{Variables}
-use Rattle.tks_eval.specs.Outcome.{Outcome, End, Meaning, Next, after, after_body, caught, appended, fails, given}
+use Rattle.tks_eval.specs.Outcome.{Outcome, End, Meaning, Next, Level, after, after_body, caught, appended, fails, given}
 use Rattle.tks_expr.specs.Tree.{Expr, Literal, Made, One, Two, Both, Either, Conditional}
 use Rattle.tks_expr.specs.declared.tree.Link.{Link}
-use Rattle.tks_eval.specs.Evaluation.{Loop, element_name, with_value, parts_do, words_in, words_do, commands_do, evaluate, value_does, after_truth, branches_do, catch_ends, each, settled, without_frame, returned, after_script, scripts_do}
+use Rattle.tks_eval.specs.Evaluation.{Loop, loop_does, element_name, with_value, parts_do, words_in, words_do, commands_do, evaluate, value_does, after_truth, branches_do, catch_ends, each, settled, without_frame, returned, after_script, scripts_do}
 use Rattle.tks_eval.specs.Names.{Control}
 use Rattle.tks_eval.specs.Names as control
 use Rattle.tks_eval.specs.Values.{after_value}
@@ -22,6 +22,9 @@ use Rattle.tks_eval.specs.declared.expressions.ValueFrame.{ValueFrame}
 use Rattle.tks_eval.specs.declared.expressions.ValueFrame.TheVariants as value
 use Rattle.tks_eval.specs.declared.loops.Stage.{Stage}
 use Rattle.tks_eval.specs.declared.loops.Stage.TheVariants as stage
+use Rattle.tks_eval.specs.declared.loops.Turn.{Turn}
+use Rattle.tks_eval.specs.declared.loops.Turn.TheVariants as turn
+use Rattle.tks_eval.specs.declared.frame.Ending.{Ending}
 use Rattle.tks_eval.specs.declared.frame.Now.{Now}
 use Rattle.tks_eval.specs.declared.frame.Now.TheVariants.{Open, Fill, Value, At}
 use Rattle.tks_eval.specs.declared.machine.Machine.{Machine}
@@ -85,6 +88,24 @@ module _ {S : Type 0} (host : Meaning S) (limits : Limits) where
   GoesSo whole (Ok now) m state variables = whole ≡ resume m.left m.stack (outcome_now m.left now state variables m.fuel)
   GoesSo whole (Err (halt.Fault fault)) m state variables = whole ≡ resume m.left m.stack (fails limits fault state variables m.fuel)
   GoesSo whole (Err (halt.Stop why)) m state variables = StopsSo whole why
+
+  -- how far a turn of a loop came at once, and what is left of the loop
+  abbrev pub TurnsSo : ℕ → Loop → Outcome S → Result Turn Halt → S → Variables → ℕ → Type 0
+  TurnsSo left loop whole (Ok turn.Again) state variables fuel = whole ≡ loop_does limits (evaluate host limits left) loop state variables fuel
+  TurnsSo left loop whole (Ok (turn.Ended end)) state variables fuel = whole ≡ End end.code end.text state variables fuel
+  TurnsSo left loop whole (Ok (turn.Waits stage now)) state variables fuel =
+      whole ≡ after_stage limits (evaluate host limits left) stage loop (outcome_now left now state variables fuel)
+  TurnsSo left loop whole (Err (halt.Fault fault)) state variables fuel = whole ≡ fails limits fault state variables fuel
+  TurnsSo left loop whole (Err (halt.Stop why)) state variables fuel = StopsSo whole why
+
+-- how far the turn of a `foreach` came at once that has these elements behind it
+abbrev pub TakesElement : {S : Type 0} → Level S → List ℕ → List ℕ → List (List ℕ) → Limits → Outcome S → Result (Option Ending) Halt → S → Variables → ℕ → Type 0
+TakesElement inner name body items limits whole (Ok None) state variables fuel =
+    whole ≡ after_body (inner (script_of body) state variables fuel) (each limits inner name body items)
+TakesElement inner name body items limits whole (Ok (Some end)) state variables fuel =
+    whole ≡ after_body (End end.code end.text state variables fuel) (each limits inner name body items)
+TakesElement inner name body items limits whole (Err (halt.Fault fault)) state variables fuel = whole ≡ fails limits fault state variables fuel
+TakesElement inner name body items limits whole (Err (halt.Stop why)) state variables fuel = StopsSo whole why
 
 -- ---- what is left to do before the next step
 

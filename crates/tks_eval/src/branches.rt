@@ -263,10 +263,7 @@ impl Machine {
         ensures goes { GoesSo H.meaning limits.now (resume H.meaning limits.now self.old.left self.old.stack (script_does (evaluate H.meaning limits.now self.old.left) (option_copied otherwise.entry) (H.state host.now) variables.now self.old.fuel)) result self.new (H.state host.now) variables.now }
     {
         match otherwise {
-            None => Ok(Now::At(Ending {
-                code: 0,
-                text: Txt::new(alloc),
-            })),
+            None => Ok(Now::At(Ending::silent(alloc))),
             Some(body) => Ok(Now::Open(self.table.script(alloc, body)?)),
         }
     }

@@ -1,12 +1,13 @@
-ghost use Rattle.std.specs.Prelude.{◌≡◌, ◌≤◌, [], ◌∷◌};
+ghost use Rattle.std.specs.Prelude.{◌≡◌, ◌≤◌, ◌<◌, ℕ, List, [], ◌∷◌, IfOk};
 ghost use Rattle.std.specs.FinMap as map;
 ghost use Rattle.std.specs.List.{list_all};
+ghost use Rattle.tks_parse.specs.Reading.{script_of};
 ghost use Rattle.tks_parse.specs.View.{ready_words};
 ghost use Rattle.tks_tcl.specs.Cause.{fits};
 ghost use Rattle.tks_tcl.specs.Meets.{GivesSo};
 ghost use Rattle.tks_eval.specs.Outcome.{End};
 ghost use Rattle.tks_eval.specs.Evaluation.{evaluate, call, words_do, procedure_does, control_does, catch_does, eval_does, foreach_does, proc_does, each, foreach_form};
-ghost use Rattle.tks_eval.specs.Machine.{control_of, resume, frame_weight, GoesSo, Falls};
+ghost use Rattle.tks_eval.specs.Machine.{control_of, resume, frame_weight, GoesSo, Falls, TakesElement};
 ghost use Rattle.tks_eval.specs.declared.frame.Frame.TheVariants as frame;
 
 use crate::control::Control;
@@ -17,7 +18,7 @@ use crate::machine::Machine;
 use crate::procedures::{enter, run_proc};
 use crate::rest::Rest;
 use std::alloc::Global;
-use tks_parse::{Command, Left};
+use tks_parse::{Command, Left, Script};
 use tks_tcl::{Interrupt, ListTable, Stop, concatenated_within, fits, plain, store, wrong_words};
 use tks_text::{ErrorNumber, Limits, ScriptFault, Seq, Txt, decimal_of};
 use tks_vars::Vars;
@@ -43,8 +44,8 @@ fn foreach_form(
     }
 }
 
-// Whether no text passes the limit.
-fn all_fit(texts: &[Txt], limits: &Limits) -> bool
+/// Whether no text passes the limit.
+pub fn all_fit(texts: &[Txt], limits: &Limits) -> bool
     ensures { result ≡ list_all (λ t. fits limits.now t) texts.now }
 {
     texts.iter().all(|text| fits(text, limits))
@@ -134,10 +135,7 @@ impl Machine {
         ensures goes { GoesSo H.meaning limits.now (resume H.meaning limits.now self.old.left self.old.stack (call H.meaning limits.now (evaluate H.meaning limits.now self.old.left) words.now (H.state host.old) variables.old self.old.fuel)) result self.new (H.state host.new) variables.new }
     {
         let Some((command, rest)) = words.split_first() else {
-            return Ok(Now::At(Ending {
-                code: 0,
-                text: Txt::new(alloc),
-            }));
+            return Ok(Now::At(Ending::silent(alloc)));
         };
         self.take_step()?;
         if let Some(control) = Control::named(command) {
@@ -260,8 +258,29 @@ impl Machine {
         self.next_element(alloc, host, variables, name, body, elements, limits)
     }
 
-    // Goes on with the elements of a `foreach`.
+    // Makes a turn of a `foreach`: takes a step, stores the element, and runs the body where that goes at once.
     #[tactic(auto, using(crate::proofs::Halts::given_halts, crate::proofs::Halts::step_halts))]
+    fn element_turn<H: Host>(
+        &mut self,
+        alloc: Global,
+        host: &H,
+        variables: &mut Vars,
+        name: &Txt,
+        body: &Script,
+        element: Txt,
+        limits: &Limits,
+    ) -> Result<Option<Ending>, Halt>
+        ensures spends { self.new.fuel ≤ self.old.fuel }
+        ensures step { IfOk result (λ _. self.new.fuel < self.old.fuel) }
+        ensures kept { self.new ≡ record self.old { fuel = self.new.fuel } }
+        ensures goes { (text : List ℕ) → (items : List (List ℕ)) → script_of text ≡ body.now → TakesElement (evaluate H.meaning limits.now self.old.left) name.now text items limits.now (each limits.now (evaluate H.meaning limits.now self.old.left) name.now text (element ∷ items) (H.state host.now) variables.old self.old.fuel) result (H.state host.now) variables.new self.new.fuel }
+    {
+        self.take_step()?;
+        store(variables, name, element, limits)?;
+        Ok(self.run_at_once(alloc, host, variables, body, limits))
+    }
+
+    // Goes on with the elements of a `foreach`, and with those behind them whose body is run at once.
     fn next_element<H: Host>(
         &mut self,
         alloc: Global,
@@ -275,22 +294,27 @@ impl Machine {
         ensures falls { Falls result 1 self.old self.new }
         ensures goes { GoesSo H.meaning limits.now (resume H.meaning limits.now self.old.left self.old.stack (each limits.now (evaluate H.meaning limits.now self.old.left) name body elements (H.state host.now) variables.old self.old.fuel)) result self.new (H.state host.now) variables.new }
     {
-        let mut elements = elements;
-        let Some(element) = elements.next() else {
-            return Ok(Now::At(Ending {
-                code: 0,
-                text: Txt::new(alloc),
-            }));
-        };
-        self.take_step()?;
-        store(variables, &name, element, limits)?;
         let script = self.table.script(alloc, &body)?;
-        self.stack.push(Frame::Each {
-            name,
-            body,
-            elements,
-        })?;
-        Ok(Now::Open(script))
+        let mut elements = elements;
+        'element: loop {
+            let Some(element) = elements.next() else {
+                return Ok(Now::At(Ending::silent(alloc)));
+            };
+            let ended = self.element_turn(alloc, host, variables, &name, &script, element, limits)?;
+            let Some(end) = ended else {
+                self.stack.push(Frame::Each {
+                    name,
+                    body,
+                    elements,
+                })?;
+                return Ok(Now::Open(script));
+            };
+            match end.code {
+                0 | 4 => continue 'element,
+                3 => return Ok(Now::At(Ending::silent(alloc))),
+                _ => return Ok(Now::At(end)),
+            }
+        }
     }
 
     /// Goes on with a `foreach` behind its body.
@@ -310,10 +334,7 @@ impl Machine {
     {
         match end.code {
             0 | 4 => self.next_element(alloc, host, variables, name, body, elements, limits),
-            3 => Ok(Now::At(Ending {
-                code: 0,
-                text: Txt::new(alloc),
-            })),
+            3 => Ok(Now::At(Ending::silent(alloc))),
             _ => Ok(Now::At(end)),
         }
     }
@@ -333,10 +354,7 @@ impl Machine {
         ensures goes { GoesSo H.meaning limits.now (resume H.meaning limits.now self.old.left self.old.stack (proc_does H.meaning limits.now command.now words.now (H.state host.now) variables.old self.old.fuel)) result self.new (H.state host.now) variables.new }
     {
         run_proc(alloc, host, variables, command, words, limits)?;
-        Ok(Now::At(Ending {
-            code: 0,
-            text: Txt::new(alloc),
-        }))
+        Ok(Now::At(Ending::silent(alloc)))
     }
 
     // Calls a procedure.

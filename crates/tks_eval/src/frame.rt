@@ -1,7 +1,10 @@
+ghost use Rattle.std.specs.Prelude.{◌≡◌, []};
+
 use crate::branches::Branches;
 use crate::expressions::ValueFrame;
 use crate::loops::{Loop, Stage};
 use crate::rest::Rest;
+use std::alloc::Global;
 use tks_expr::Expr;
 use tks_parse::{Command, Left, Part, Script, Word};
 use tks_text::{ScriptFault, Seq, Txt};
@@ -11,6 +14,18 @@ use tks_text::{ScriptFault, Seq, Txt};
 pub struct Ending {
     pub code: u8,
     pub text: Txt,
+}
+
+impl Ending {
+    /// The end with nothing to say.
+    pub fn silent(alloc: Global) -> Ending
+        ensures { result ≡ record { code = 0; text = [] } }
+    {
+        Ending {
+            code: 0,
+            text: Txt::new(alloc),
+        }
+    }
 }
 
 /// What waits for an end.

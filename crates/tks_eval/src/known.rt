@@ -40,10 +40,10 @@ impl KnownScript {
     }
 
     /// The script.
-    pub fn script(&self) -> Result<Script, AllocError>
-        ensures { IfOk result (λ s. s ≡ script_of self.now) }
+    pub fn script(&self) -> &Script
+        ensures { result.now ≡ script_of self.now }
     {
-        self.script.share()
+        &self.script
     }
 
     /// The script, where this is its text.

@@ -1,6 +1,7 @@
 //! What scripts do.
 #![tactic(auto)]
 
+mod at_once;
 mod branches;
 mod commands;
 mod control;

@@ -1,9 +1,9 @@
-ghost use Rattle.std.specs.Prelude.{◌≡◌, ◌≤◌, ◌+◌, ◌∷◌, IfOk, option_copied};
+ghost use Rattle.std.specs.Prelude.{◌≡◌, ◌≤◌, ◌<◌, ◌+◌, ◌∷◌, IfOk, option_copied};
 ghost use Rattle.tks_expr.specs.Reading.{expr_of};
 ghost use Rattle.tks_eval.specs.Outcome.{End};
 ghost use Rattle.tks_eval.specs.Meets.{ReadsSo};
 ghost use Rattle.tks_eval.specs.Evaluation.{evaluate, if_holds, turn_does, behind_body, loop_does, done, while_does, for_does};
-ghost use Rattle.tks_eval.specs.Machine.{resume, loop_weight, optional_weight, GoesSo, Falls};
+ghost use Rattle.tks_eval.specs.Machine.{resume, loop_weight, optional_weight, GoesSo, Falls, TurnsSo};
 ghost use Rattle.tks_eval.specs.declared.frame.Frame.TheVariants as frame;
 ghost use Rattle.tks_eval.specs.declared.loops.Stage.TheVariants as stages;
 
@@ -96,6 +96,17 @@ pub enum Stage {
     Next,
 }
 
+/// How far a turn of a loop was made at once.
+#[derive(Drop)]
+pub enum Turn {
+    /// It was made, and the next one follows.
+    Again,
+    /// The loop ended so.
+    Ended(Ending),
+    /// The loop waits for what is to be run.
+    Waits(Stage, Now),
+}
+
 impl Machine {
     // while c b
     #[tactic(auto, using(crate::proofs::Halts::error_halts))]
@@ -103,13 +114,13 @@ impl Machine {
         &mut self,
         alloc: Global,
         host: &H,
-        variables: &Vars,
+        variables: &mut Vars,
         command: &Txt,
         words: &[Txt],
         limits: &Limits,
     ) -> Result<Now, Halt>
         ensures spends { self.new.fuel ≤ self.old.fuel }
-        ensures goes { GoesSo H.meaning limits.now (resume H.meaning limits.now self.old.left self.old.stack (while_does limits.now (evaluate H.meaning limits.now self.old.left) command.now words.now (H.state host.now) variables.now self.old.fuel)) result self.new (H.state host.now) variables.now }
+        ensures goes { GoesSo H.meaning limits.now (resume H.meaning limits.now self.old.left self.old.stack (while_does limits.now (evaluate H.meaning limits.now self.old.left) command.now words.now (H.state host.now) variables.old self.old.fuel)) result self.new (H.state host.now) variables.new }
     {
         let [condition, body] = words else {
             return Err(error_about(ErrorNumber::WrongWords, command));
@@ -126,13 +137,13 @@ impl Machine {
         &mut self,
         alloc: Global,
         host: &H,
-        variables: &Vars,
+        variables: &mut Vars,
         command: &Txt,
         words: &[Txt],
         limits: &Limits,
     ) -> Result<Now, Halt>
         ensures spends { self.new.fuel ≤ self.old.fuel }
-        ensures goes { GoesSo H.meaning limits.now (resume H.meaning limits.now self.old.left self.old.stack (for_does limits.now (evaluate H.meaning limits.now self.old.left) command.now words.now (H.state host.now) variables.now self.old.fuel)) result self.new (H.state host.now) variables.now }
+        ensures goes { GoesSo H.meaning limits.now (resume H.meaning limits.now self.old.left self.old.stack (for_does limits.now (evaluate H.meaning limits.now self.old.left) command.now words.now (H.state host.now) variables.old self.old.fuel)) result self.new (H.state host.now) variables.new }
     {
         let [start, condition, next, body] = words else {
             return Err(error_about(ErrorNumber::WrongWords, command));
@@ -156,25 +167,102 @@ impl Machine {
         Ok(expr)
     }
 
-    // Goes on with the next turn of a loop.
-    #[tactic(auto, using(crate::proofs::Halts::test_halts, crate::proofs::Turns::loop_unrolls))]
+    // Goes on with the next turn of a loop, and those behind it that are made at once.
     fn next_turn<H: Host>(
         &mut self,
         alloc: Global,
         host: &H,
-        variables: &Vars,
+        variables: &mut Vars,
         turns: Loop,
         limits: &Limits,
     ) -> Result<Now, Halt>
         ensures falls { Falls result 1 self.old self.new }
-        ensures goes { GoesSo H.meaning limits.now (resume H.meaning limits.now self.old.left self.old.stack (loop_does limits.now (evaluate H.meaning limits.now self.old.left) turns (H.state host.now) variables.now self.old.fuel)) result self.new (H.state host.now) variables.now }
+        ensures goes { GoesSo H.meaning limits.now (resume H.meaning limits.now self.old.left self.old.stack (loop_does limits.now (evaluate H.meaning limits.now self.old.left) turns (H.state host.now) variables.old self.old.fuel)) result self.new (H.state host.now) variables.new }
+    {
+        'turn: loop {
+            match self.turn(alloc, host, variables, &turns, limits)? {
+                Turn::Again => continue 'turn,
+                Turn::Ended(end) => return Ok(Now::At(end)),
+                Turn::Waits(stage, now) => {
+                    self.stack.push(Frame::Turns(stage, turns))?;
+                    return Ok(now);
+                }
+            }
+        }
+    }
+
+    // Makes a turn of a loop, as far as that goes at once.
+    #[tactic(auto, using(crate::proofs::Halts::test_halts, crate::proofs::Turns::loop_unrolls))]
+    fn turn<H: Host>(
+        &mut self,
+        alloc: Global,
+        host: &H,
+        variables: &mut Vars,
+        turns: &Loop,
+        limits: &Limits,
+    ) -> Result<Turn, Halt>
+        ensures spends { self.new.fuel ≤ self.old.fuel }
+        ensures step { IfOk result (λ _. self.new.fuel < self.old.fuel) }
+        ensures kept { self.new ≡ record self.old { fuel = self.new.fuel } }
+        ensures goes { TurnsSo H.meaning limits.now self.old.left turns.now (loop_does limits.now (evaluate H.meaning limits.now self.old.left) turns.now (H.state host.now) variables.old self.old.fuel) result (H.state host.now) variables.new self.new.fuel }
     {
         let expr = self.read_known(alloc, turns.condition())?;
-        if let Some(holds) = holds_at_once(alloc, &expr, variables, limits)? {
-            return self.open_body(alloc, host, variables, turns, holds, limits);
+        match holds_at_once(alloc, &expr, variables, limits)? {
+            None => Ok(Turn::Waits(Stage::Condition, Now::Value(expr))),
+            Some(false) => Ok(Turn::Ended(Ending::silent(alloc))),
+            Some(true) => self.body_at_once(alloc, host, variables, turns, limits),
         }
-        self.stack.push(Frame::Turns(Stage::Condition, turns))?;
-        Ok(Now::Value(expr))
+    }
+
+    // Goes on with a turn, the condition of which holds.
+    fn body_at_once<H: Host>(
+        &mut self,
+        alloc: Global,
+        host: &H,
+        variables: &mut Vars,
+        turns: &Loop,
+        limits: &Limits,
+    ) -> Result<Turn, Halt>
+        ensures spends { self.new.fuel ≤ self.old.fuel }
+        ensures kept { self.new ≡ record self.old { fuel = self.new.fuel } }
+        ensures goes { TurnsSo H.meaning limits.now self.old.left turns.now (turn_does (evaluate H.meaning limits.now self.old.left) turns.now (loop_does limits.now (evaluate H.meaning limits.now self.old.left) turns.now) (H.state host.now) variables.old self.old.fuel) result (H.state host.now) variables.new self.new.fuel }
+    {
+        let body = turns.body().script();
+        let Some(end) = self.run_at_once(alloc, host, variables, body, limits) else {
+            return Ok(Turn::Waits(Stage::Body, Now::Open(body.share()?)));
+        };
+        match end.code {
+            0 | 4 => self.next_at_once(alloc, host, variables, turns, limits),
+            3 => Ok(Turn::Ended(Ending::silent(alloc))),
+            _ => Ok(Turn::Ended(end)),
+        }
+    }
+
+    // Goes on with a turn behind its body.
+    fn next_at_once<H: Host>(
+        &mut self,
+        alloc: Global,
+        host: &H,
+        variables: &mut Vars,
+        turns: &Loop,
+        limits: &Limits,
+    ) -> Result<Turn, Halt>
+        ensures spends { self.new.fuel ≤ self.old.fuel }
+        ensures kept { self.new ≡ record self.old { fuel = self.new.fuel } }
+        ensures goes { TurnsSo H.meaning limits.now self.old.left turns.now (behind_body (evaluate H.meaning limits.now self.old.left) turns.now (loop_does limits.now (evaluate H.meaning limits.now self.old.left) turns.now) (H.state host.now) variables.old self.old.fuel) result (H.state host.now) variables.new self.new.fuel }
+    {
+        let Some(next) = turns.next() else {
+            return Ok(Turn::Again);
+        };
+        let next = next.script();
+        let Some(end) = self.run_at_once(alloc, host, variables, next, limits) else {
+            return Ok(Turn::Waits(Stage::Next, Now::Open(next.share()?)));
+        };
+        match end.code {
+            0 => Ok(Turn::Again),
+            3 => Ok(Turn::Ended(Ending::silent(alloc))),
+            _ => Ok(Turn::Ended(end)),
+        }
     }
 
     /// Goes on with a loop behind what it waited for.
@@ -183,14 +271,14 @@ impl Machine {
         &mut self,
         alloc: Global,
         host: &H,
-        variables: &Vars,
+        variables: &mut Vars,
         stage: Stage,
         turns: Loop,
         end: Ending,
         limits: &Limits,
     ) -> Result<Now, Halt>
         ensures falls { Falls result (loop_weight stage turns) self.old self.new }
-        ensures goes { GoesSo H.meaning limits.now (resume H.meaning limits.now self.old.left (frame.Turns stage turns ∷ self.old.stack) (End end.code end.text (H.state host.now) variables.now self.old.fuel)) result self.new (H.state host.now) variables.now }
+        ensures goes { GoesSo H.meaning limits.now (resume H.meaning limits.now self.old.left (frame.Turns stage turns ∷ self.old.stack) (End end.code end.text (H.state host.now) variables.old self.old.fuel)) result self.new (H.state host.now) variables.new }
     {
         match (stage, end.code) {
             (Stage::Start, 0) => self.next_turn(alloc, host, variables, turns, limits),
@@ -200,10 +288,7 @@ impl Machine {
                 self.open_body(alloc, host, variables, turns, holds, limits)
             }
             (Stage::Body, 0 | 4) => self.open_next(alloc, host, variables, turns, limits),
-            (Stage::Body | Stage::Next, 3) => Ok(Now::At(Ending {
-                code: 0,
-                text: Txt::new(alloc),
-            })),
+            (Stage::Body | Stage::Next, 3) => Ok(Now::At(Ending::silent(alloc))),
             _ => Ok(Now::At(end)),
         }
     }
@@ -213,21 +298,18 @@ impl Machine {
         &mut self,
         alloc: Global,
         host: &H,
-        variables: &Vars,
+        variables: &mut Vars,
         turns: Loop,
         holds: bool,
         limits: &Limits,
     ) -> Result<Now, Halt>
         ensures falls { Falls result (loop_weight stages.Condition turns) self.old self.new }
-        ensures goes { GoesSo H.meaning limits.now (resume H.meaning limits.now self.old.left self.old.stack (if_holds holds (turn_does (evaluate H.meaning limits.now self.old.left) turns (loop_does limits.now (evaluate H.meaning limits.now self.old.left) turns)) done (H.state host.now) variables.now self.old.fuel)) result self.new (H.state host.now) variables.now }
+        ensures goes { GoesSo H.meaning limits.now (resume H.meaning limits.now self.old.left self.old.stack (if_holds holds (turn_does (evaluate H.meaning limits.now self.old.left) turns (loop_does limits.now (evaluate H.meaning limits.now self.old.left) turns)) done (H.state host.now) variables.old self.old.fuel)) result self.new (H.state host.now) variables.new }
     {
         if !holds {
-            return Ok(Now::At(Ending {
-                code: 0,
-                text: Txt::new(alloc),
-            }));
+            return Ok(Now::At(Ending::silent(alloc)));
         }
-        let body = turns.body().script()?;
+        let body = turns.body().script().share()?;
         self.stack.push(Frame::Turns(Stage::Body, turns))?;
         Ok(Now::Open(body))
     }
@@ -237,17 +319,17 @@ impl Machine {
         &mut self,
         alloc: Global,
         host: &H,
-        variables: &Vars,
+        variables: &mut Vars,
         turns: Loop,
         limits: &Limits,
     ) -> Result<Now, Halt>
         ensures falls { Falls result (loop_weight stages.Body turns) self.old self.new }
-        ensures goes { GoesSo H.meaning limits.now (resume H.meaning limits.now self.old.left self.old.stack (behind_body (evaluate H.meaning limits.now self.old.left) turns (loop_does limits.now (evaluate H.meaning limits.now self.old.left) turns) (H.state host.now) variables.now self.old.fuel)) result self.new (H.state host.now) variables.now }
+        ensures goes { GoesSo H.meaning limits.now (resume H.meaning limits.now self.old.left self.old.stack (behind_body (evaluate H.meaning limits.now self.old.left) turns (loop_does limits.now (evaluate H.meaning limits.now self.old.left) turns) (H.state host.now) variables.old self.old.fuel)) result self.new (H.state host.now) variables.new }
     {
         match turns.next() {
             None => self.next_turn(alloc, host, variables, turns, limits),
             Some(next) => {
-                let next = next.script()?;
+                let next = next.script().share()?;
                 self.stack.push(Frame::Turns(Stage::Next, turns))?;
                 Ok(Now::Open(next))
             }

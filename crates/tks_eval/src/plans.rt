@@ -53,10 +53,10 @@ impl Machine {
     {
         let mut scripts = scripts;
         let Some(script) = scripts.next() else {
-            return Ok(nothing_said(alloc));
+            return Ok(Now::At(Ending::silent(alloc)));
         };
         if !host.alive(window) {
-            return Ok(nothing_said(alloc));
+            return Ok(Now::At(Ending::silent(alloc)));
         }
         self.take_step()?;
         variables.push_global()?;
@@ -84,20 +84,10 @@ impl Machine {
         match end.code {
             1 => {
                 host.fault(&end.text)?;
-                Ok(nothing_said(alloc))
+                Ok(Now::At(Ending::silent(alloc)))
             }
-            3 => Ok(nothing_said(alloc)),
+            3 => Ok(Now::At(Ending::silent(alloc))),
             _ => self.next_script(alloc, host, variables, window, scripts, limits),
         }
     }
-}
-
-// The end with nothing to say.
-fn nothing_said(alloc: Global) -> Now
-    ensures { result ≡ At (record { code = 0; text = [] }) }
-{
-    Now::At(Ending {
-        code: 0,
-        text: Txt::new(alloc),
-    })
 }

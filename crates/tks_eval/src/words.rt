@@ -1,4 +1,4 @@
-ghost use Rattle.std.specs.Prelude.{◌≡◌, ◌+◌, ◌*◌, ◌∷◌, ◌++◌, IfOk, OnOk, OnErr, Ok};
+ghost use Rattle.std.specs.Prelude.{◌≡◌, ◌+◌, ◌*◌, ◌∷◌, ◌++◌, IfOk, OnOk, OnErr, Ok, Some};
 ghost use Rattle.tks_parse.specs.Tree.{words_size, parts_size};
 ghost use Rattle.tks_parse.specs.View.{words_of, parts_of};
 ghost use Rattle.tks_eval.specs.Outcome.{End, appended};
@@ -147,8 +147,8 @@ pub struct Begun {
     pub parts: Left<Part>,
 }
 
-// Makes the words that come first and have nothing in them that has to be run, and begins the one behind them.
-fn make_words(
+/// Makes the words that come first and have nothing in them that has to be run, and begins the one behind them.
+pub fn make_words(
     alloc: Global,
     words: &mut Seq<Txt>,
     rest: &mut Left<Word>,
@@ -314,10 +314,32 @@ impl Machine {
                     expand,
                     rest,
                 })?;
-                let now = self.open_inner(alloc, inner, made, parts)?;
-                Ok(now)
+                self.go_into(alloc, host, variables, inner, made, parts, limits)
             }
         }
+    }
+
+    // Goes on with what has to be run in a word. A script is run at once where that can be.
+    fn go_into<H: Host>(
+        &mut self,
+        alloc: Global,
+        host: &H,
+        variables: &mut Vars,
+        inner: Inner,
+        made: Txt,
+        parts: Left<Part>,
+        limits: &Limits,
+    ) -> Result<Now, Halt>
+        ensures falls { Falls result (4 * parts_size (left_of (Some inner) (parts_of parts)) + 1) self.old self.new }
+        ensures goes { GoesSo H.meaning limits.now (resume H.meaning limits.now self.old.left self.old.stack (parts_do limits.now (evaluate H.meaning limits.now self.old.left) (left_of (Some inner) (parts_of parts)) made (H.state host.now) variables.old self.old.fuel)) result self.new (H.state host.now) variables.new }
+    {
+        if let Inner::Script(script) = &inner {
+            if let Some(end) = self.run_at_once(alloc, host, variables, script, limits) {
+                return self.after_nested(alloc, host, variables, made, parts, end, limits);
+            }
+        }
+        let now = self.open_inner(alloc, inner, made, parts)?;
+        Ok(now)
     }
 
     /// Goes on with the words of a command behind one that was made.

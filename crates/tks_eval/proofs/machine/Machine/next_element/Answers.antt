@@ -1,17 +1,151 @@
-use Rattle.std.proofs.Common.{◌≡◌, suc, rules}
-use Rattle.tks_eval.specs.Outcome.{after_body}
+use Rattle.std.proofs.Common.{◌≡◌, ◌∷◌, Ok, Err, Some, None, rules, sym, subst, ap, ◌∙◌, arith}
+use Rattle.tks_eval.specs.Outcome.{End, after_body}
 use Rattle.tks_eval.specs.Evaluation.{evaluate, each}
-use Rattle.tks_parse.specs.Reading.{script_of}
-use Rattle.tks_tcl.specs.Variables.{stores}
-use Rattle.tks_eval.proofs.Halts.{given_halts}
+use Rattle.tks_eval.specs.Machine.{resume, GoesSo, TakesElement}
+use Rattle.tks_eval.specs.declared.machine.Machine.{Machine}
+use Rattle.tks_eval.proofs.AtOnce.{again, element_left, element_stops}
 use Rattle.tks_eval.proofs.machine.Machine.next_element.Goals as goal
 
-pub returns-in_err-store-clause-goes : goal.returns-in_err-store-clause-goes
-returns-in_err-store-clause-goes g c =
-    let step : c.args.self.now.fuel ≡ suc c.take_step.new.self.fuel = c.in_ok-take_step.ensures.step in
-    let inner = evaluate g.H.Host.meaning c.args.limits.now c.take_step.new.self.left in
-    let halts = given_halts g.H.Host.meaning c.args.limits.now c.take_step.new.self (g.H.Host.state c.args.host.now) c.args.variables.now
-    (stores c.args.limits.now c.args.name c.args.variables.now c.in-Some.element)
-    (λ stored. after_body (inner (script_of c.args.body) (g.H.Host.state c.args.host.now) stored.1 c.take_step.new.self.fuel) (each c.args.limits.now inner c.args.name c.args.body c.next.new.self))
-    c.in_err-store.field-0.0 c.in_err-store.ensures.value in
-    rw (c.in-Some.ensures, step) search rules
+pub returns-in_err-ended-clause-goes : goal.returns-in_err-ended-clause-goes
+returns-in_err-ended-clause-goes g c =
+    let why = c.in_err-ended.field-0.0 in
+    let host = g.H.Host.meaning in
+    let limits = c.args.limits.now in
+    let old = c.args.self.now in
+    let level = evaluate host limits old.left in
+    let there = evaluate host limits c.element.self.left in
+    let new = c.element_turn.new.self in
+    let variables = c.element_turn.new.variables in
+    let state = g.H.Host.state c.args.host.now in
+    let so_far = c.element.invariant in
+    let name = c.args.name in
+    let body = c.args.body in
+    let item = c.in-Some.element in
+    let items = c.next.new.self in
+    let goes : each limits level name body c.args.elements state c.args.variables.now old.fuel ≡ each limits level name body (item ∷ items) state c.element.variables c.element.self.fuel
+    = so_far.goes ∙ ap (λ es. each limits level name body es state c.element.variables c.element.self.fuel) c.in-Some.ensures in
+    let here : TakesElement there name body items limits (each limits there name body (item ∷ items) state c.element.variables c.element.self.fuel) (Err why) state variables new.fuel
+    = c.in_err-ended.ensures.goes c.args.body c.next.new.self (sym c.element.invariant.script) in
+    let took : TakesElement level name body items limits (each limits level name body (item ∷ items) state c.element.variables c.element.self.fuel) (Err why) state variables new.fuel
+    = element_left host limits c.element.self.left old.left name body item items (Err why) state c.element.variables c.element.self.fuel variables new.fuel so_far.left here in
+    let whole = each limits level name body (item ∷ items) state c.element.variables c.element.self.fuel in
+    let m : Machine = record { stack = old.stack; left = old.left; fuel = new.fuel; table = tt } in
+    let kept : new ≡ m = rw (so_far.left, so_far.stack) at c.element_turn.ensures.kept in
+    let stops = element_stops host limits level m name body items whole why state variables took in
+    let stopped = subst (λ k. GoesSo host limits (resume host limits old.left old.stack whole) (Err why) k state variables) (sym kept) stops in
+    let all = subst (λ o. GoesSo host limits (resume host limits old.left old.stack o) (Err why) new state variables) (sym goes) stopped in
+    search rules
+
+pub returns-in_default-ended-clause-goes : goal.returns-in_default-ended-clause-goes
+returns-in_default-ended-clause-goes g c =
+    let host = g.H.Host.meaning in
+    let limits = c.args.limits.now in
+    let old = c.args.self.now in
+    let level = evaluate host limits old.left in
+    let there = evaluate host limits c.element.self.left in
+    let new = c.element_turn.new.self in
+    let variables = c.element_turn.new.variables in
+    let state = g.H.Host.state c.args.host.now in
+    let so_far = c.element.invariant in
+    let name = c.args.name in
+    let body = c.args.body in
+    let item = c.in-Some.element in
+    let items = c.next.new.self in
+    let goes : each limits level name body c.args.elements state c.args.variables.now old.fuel ≡ each limits level name body (item ∷ items) state c.element.variables c.element.self.fuel
+    = so_far.goes ∙ ap (λ es. each limits level name body es state c.element.variables c.element.self.fuel) c.in-Some.ensures in
+    let here : TakesElement there name body items limits (each limits there name body (item ∷ items) state c.element.variables c.element.self.fuel) (Ok None) state variables new.fuel
+    = rw c.in_default-ended.is at (c.in_ok-ended.ensures.goes c.args.body c.next.new.self (sym c.element.invariant.script)) in
+    let took : TakesElement level name body items limits (each limits level name body (item ∷ items) state c.element.variables c.element.self.fuel) (Ok None) state variables new.fuel
+    = element_left host limits c.element.self.left old.left name body item items (Ok None) state c.element.variables c.element.self.fuel variables new.fuel so_far.left here in
+    let left : new.left ≡ old.left = ap (λ m. m.left) c.element_turn.ensures.kept ∙ so_far.left in
+    let stack : new.stack ≡ old.stack = ap (λ m. m.stack) c.element_turn.ensures.kept ∙ so_far.stack in
+    rw (c.in_ok-push.ensures.ok, left, stack, so_far.script) (ap (resume host limits old.left old.stack) (goes ∙ took))
+
+pub element-preserved : goal.element-preserved
+element-preserved g c =
+    let host = g.H.Host.meaning in
+    let limits = c.args.limits.now in
+    let old = c.args.self.now in
+    let level = evaluate host limits old.left in
+    let there = evaluate host limits c.element.self.left in
+    let new = c.element_turn.new.self in
+    let variables = c.element_turn.new.variables in
+    let state = g.H.Host.state c.args.host.now in
+    let so_far = c.element.invariant in
+    let name = c.args.name in
+    let body = c.args.body in
+    let item = c.in-Some.element in
+    let items = c.next.new.self in
+    let goes : each limits level name body c.args.elements state c.args.variables.now old.fuel ≡ each limits level name body (item ∷ items) state c.element.variables c.element.self.fuel
+    = so_far.goes ∙ ap (λ es. each limits level name body es state c.element.variables c.element.self.fuel) c.in-Some.ensures in
+    let here : TakesElement there name body items limits (each limits there name body (item ∷ items) state c.element.variables c.element.self.fuel) (Ok (Some c.in-Some-ended.end)) state variables new.fuel
+    = rw c.in-Some-ended.is at (c.in_ok-ended.ensures.goes c.args.body c.next.new.self (sym c.element.invariant.script)) in
+    let took : TakesElement level name body items limits (each limits level name body (item ∷ items) state c.element.variables c.element.self.fuel) (Ok (Some c.in-Some-ended.end)) state variables new.fuel
+    = element_left host limits c.element.self.left old.left name body item items (Ok (Some c.in-Some-ended.end)) state c.element.variables c.element.self.fuel variables new.fuel so_far.left here in
+    let end = c.in-Some-ended.end in
+    let kept = c.element_turn.ensures.kept in
+    let whole = goes ∙ took in
+    let next = again end.code end.text state variables new.fuel (each limits level name body items) c.in-0.is in
+    record {
+      script = so_far.script;
+      left = ap (λ m. m.left) kept ∙ so_far.left;
+      stack = ap (λ m. m.stack) kept ∙ so_far.stack;
+      spends = omega (arith, so_far.spends, c.element_turn.ensures.spends);
+      goes = whole ∙ next;
+    }
+
+pub returns-in-3-clause-goes : goal.returns-in-3-clause-goes
+returns-in-3-clause-goes g c =
+    let host = g.H.Host.meaning in
+    let limits = c.args.limits.now in
+    let old = c.args.self.now in
+    let level = evaluate host limits old.left in
+    let there = evaluate host limits c.element.self.left in
+    let new = c.element_turn.new.self in
+    let variables = c.element_turn.new.variables in
+    let state = g.H.Host.state c.args.host.now in
+    let so_far = c.element.invariant in
+    let name = c.args.name in
+    let body = c.args.body in
+    let item = c.in-Some.element in
+    let items = c.next.new.self in
+    let goes : each limits level name body c.args.elements state c.args.variables.now old.fuel ≡ each limits level name body (item ∷ items) state c.element.variables c.element.self.fuel
+    = so_far.goes ∙ ap (λ es. each limits level name body es state c.element.variables c.element.self.fuel) c.in-Some.ensures in
+    let here : TakesElement there name body items limits (each limits there name body (item ∷ items) state c.element.variables c.element.self.fuel) (Ok (Some c.in-Some-ended.end)) state variables new.fuel
+    = rw c.in-Some-ended.is at (c.in_ok-ended.ensures.goes c.args.body c.next.new.self (sym c.element.invariant.script)) in
+    let took : TakesElement level name body items limits (each limits level name body (item ∷ items) state c.element.variables c.element.self.fuel) (Ok (Some c.in-Some-ended.end)) state variables new.fuel
+    = element_left host limits c.element.self.left old.left name body item items (Ok (Some c.in-Some-ended.end)) state c.element.variables c.element.self.fuel variables new.fuel so_far.left here in
+    let whole = goes ∙ took in
+    let left : new.left ≡ old.left = ap (λ m. m.left) c.element_turn.ensures.kept ∙ so_far.left in
+    let stack : new.stack ≡ old.stack = ap (λ m. m.stack) c.element_turn.ensures.kept ∙ so_far.stack in
+    let end = c.in-Some-ended.end in
+    let ended = ap (λ k. after_body (End k end.text state variables new.fuel) (each limits level name body items)) c.in-3.is in
+    rw (left, stack, c.silent-in-3.ensures) (ap (resume host limits old.left old.stack) (whole ∙ ended))
+
+pub returns-in_default-code-clause-goes : goal.returns-in_default-code-clause-goes
+returns-in_default-code-clause-goes g c =
+    let host = g.H.Host.meaning in
+    let limits = c.args.limits.now in
+    let old = c.args.self.now in
+    let level = evaluate host limits old.left in
+    let there = evaluate host limits c.element.self.left in
+    let new = c.element_turn.new.self in
+    let variables = c.element_turn.new.variables in
+    let state = g.H.Host.state c.args.host.now in
+    let so_far = c.element.invariant in
+    let name = c.args.name in
+    let body = c.args.body in
+    let item = c.in-Some.element in
+    let items = c.next.new.self in
+    let goes : each limits level name body c.args.elements state c.args.variables.now old.fuel ≡ each limits level name body (item ∷ items) state c.element.variables c.element.self.fuel
+    = so_far.goes ∙ ap (λ es. each limits level name body es state c.element.variables c.element.self.fuel) c.in-Some.ensures in
+    let here : TakesElement there name body items limits (each limits there name body (item ∷ items) state c.element.variables c.element.self.fuel) (Ok (Some c.in-Some-ended.end)) state variables new.fuel
+    = rw c.in-Some-ended.is at (c.in_ok-ended.ensures.goes c.args.body c.next.new.self (sym c.element.invariant.script)) in
+    let took : TakesElement level name body items limits (each limits level name body (item ∷ items) state c.element.variables c.element.self.fuel) (Ok (Some c.in-Some-ended.end)) state variables new.fuel
+    = element_left host limits c.element.self.left old.left name body item items (Ok (Some c.in-Some-ended.end)) state c.element.variables c.element.self.fuel variables new.fuel so_far.left here in
+    let whole = goes ∙ took in
+    let left : new.left ≡ old.left = ap (λ m. m.left) c.element_turn.ensures.kept ∙ so_far.left in
+    let stack : new.stack ≡ old.stack = ap (λ m. m.stack) c.element_turn.ensures.kept ∙ so_far.stack in
+    let end = c.in-Some-ended.end in
+    let ended : after_body (End end.code end.text state variables new.fuel) (each limits level name body items) ≡ End end.code end.text state variables new.fuel = search rules in
+    rw (left, stack) (ap (resume host limits old.left old.stack) (whole ∙ ended))

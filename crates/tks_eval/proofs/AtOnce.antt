@@ -1,0 +1,92 @@
+-- What is run at once comes to what evaluation says of it.
+use Rattle.std.proofs.Common.{◌≡◌, ◌==◌, ◌<◌, ◌-◌, ◌⊎◌, inl, inr, ℕ, zero, suc, false, List, [], ◌∷◌, Option, None, Some, IfSome, Result, Err, cond, rules, refl, subst, ap, ◌∙◌, arith}
+use Rattle.tks_text.specs.declared.limits.Limits.{Limits}
+use Rattle.tks_parse.specs.Tree.{Script, Words, no_command, command}
+use Rattle.tks_vars.specs.Variables.{Variables}
+use Rattle.tks_eval.specs.Outcome.{Outcome, End, Meaning, Next, Level, after, after_body}
+use Rattle.tks_eval.specs.Evaluation.{Loop, loop_does, each, words_do, commands_do, evaluate}
+use Rattle.tks_eval.specs.Machine.{resume, GoesSo, TurnsSo, TakesElement}
+use Rattle.tks_eval.specs.declared.frame.Ending.{Ending}
+use Rattle.tks_eval.specs.declared.loops.Turn.{Turn}
+use Rattle.tks_eval.specs.declared.halt.Halt.{Halt}
+use Rattle.tks_eval.specs.declared.halt.Halt.TheVariants as halt
+use Rattle.tks_eval.specs.declared.machine.Machine.{Machine}
+use Rattle.tks_eval.proofs.Halts.{resume_stops}
+
+module _ {S : Type 0} where
+  -- a command's end is that of a script that ends behind it
+  after_end : (code : ℕ) (text : List ℕ) (state : S) (variables : Variables) (fuel : ℕ)
+      → after (End code text state variables fuel) (λ text state variables fuel. End 0 text state variables fuel) ≡ End code text state variables fuel
+  after_end zero text state variables fuel = refl
+  after_end (suc code) text state variables fuel =
+      let some : (suc code == 0) ≡ false = search rules in
+      ap (λ b. cond b (End 0 text state variables fuel) (End (suc code) text state variables fuel)) some
+
+  -- behind a body that went well or was continued
+  pub again : (code : ℕ) (text : List ℕ) (state : S) (variables : Variables) (fuel : ℕ) (next : Next S) → (code ≡ 0) ⊎ (code ≡ 4)
+      → after_body (End code text state variables fuel) next ≡ next state variables fuel
+  again code text state variables fuel next (inl h) = ap (λ k. after_body (End k text state variables fuel) next) h
+  again code text state variables fuel next (inr h) = ap (λ k. after_body (End k text state variables fuel) next) h
+
+module _ {S : Type 0} (host : Meaning S) (limits : Limits) where
+  -- a script that may be opened is its commands
+  pub opens : (left : ℕ) (script : Script) (state : S) (variables : Variables) (fuel : ℕ) → 0 < left
+      → evaluate host limits left script state variables fuel ≡ commands_do host limits (evaluate host limits (left - 1)) script [] state variables fuel
+  opens zero script state variables fuel h = absurd (omega (arith, h))
+  opens (suc n) script state variables fuel h =
+      let less : n ≡ suc n - 1 = omega arith in
+      ap (λ k. commands_do host limits (evaluate host limits k) script [] state variables fuel) less
+
+  -- the end of a script's only command is the script's
+  pub only_command : (left : ℕ) (words : Words) (state : S) (variables : Variables) (fuel : ℕ) (code : ℕ) (text : List ℕ) (state' : S) (variables' : Variables) (fuel' : ℕ) → 0 < left
+      → words_do host limits (evaluate host limits (left - 1)) words [] state variables fuel ≡ End code text state' variables' fuel'
+      → evaluate host limits left (command words no_command) state variables fuel ≡ End code text state' variables' fuel'
+  only_command left words state variables fuel code text state' variables' fuel' some h =
+      opens left (command words no_command) state variables fuel some
+      ∙ ap (λ o. after o (λ text state variables fuel. End 0 text state variables fuel)) h
+      ∙ after_end code text state' variables' fuel'
+
+  -- the same, where it has one
+  pub only_command_some : (left : ℕ) (script : Script) (words : Words) (end : Option Ending) (state : S) (variables : Variables) (fuel : ℕ) (variables' : Variables) (fuel' : ℕ) → 0 < left → script ≡ command words no_command
+      → IfSome end (λ e. words_do host limits (evaluate host limits (left - 1)) words [] state variables fuel ≡ End e.code e.text state variables' fuel')
+      → IfSome end (λ e. evaluate host limits left script state variables fuel ≡ End e.code e.text state variables' fuel')
+  only_command_some left script words None state variables fuel variables' fuel' some is h = h
+  only_command_some left script words (Some e) state variables fuel variables' fuel' some is h =
+      ap (λ s. evaluate host limits left s state variables fuel) is ∙ only_command left words state variables fuel e.code e.text state variables' fuel' some h
+
+  -- where there is nothing to go on with in a turn
+  pub turn_halts : (left fuel : ℕ) (loop : Loop) (whole : Outcome S) (why : Halt) (state : S) (variables : Variables)
+      → GoesSo host limits whole (Err why) (record { stack = []; left = left; fuel = fuel; table = tt }) state variables → TurnsSo host limits left loop whole (Err why) state variables fuel
+  turn_halts left fuel loop whole (halt.Fault fault) state variables h = h
+  turn_halts left fuel loop whole (halt.Stop why) state variables h = h
+
+  pub turn_stops : (m : Machine) (loop : Loop) (whole : Outcome S) (why : Halt) (state : S) (variables : Variables)
+      → TurnsSo host limits m.left loop whole (Err why) state variables m.fuel → GoesSo host limits (resume host limits m.left m.stack whole) (Err why) m state variables
+  turn_stops m loop whole (halt.Fault fault) state variables h = ap (resume host limits m.left m.stack) h
+  turn_stops m loop whole (halt.Stop why) state variables h = resume_stops host limits m.left m.stack whole why h
+
+  -- as many scripts may yet be opened in one another, and it is the same loop
+  pub turn_left : (left left' : ℕ) (loop loop' : Loop) (result : Result Turn Halt) (state : S) (variables : Variables) (fuel : ℕ) (variables' : Variables) (fuel' : ℕ) → left ≡ left' → loop ≡ loop'
+      → TurnsSo host limits left loop (loop_does limits (evaluate host limits left) loop state variables fuel) result state variables' fuel'
+      → TurnsSo host limits left' loop' (loop_does limits (evaluate host limits left') loop' state variables fuel) result state variables' fuel'
+  turn_left left left' loop loop' result state variables fuel variables' fuel' same same_loop h =
+      subst (λ l. TurnsSo host limits left' l (loop_does limits (evaluate host limits left') l state variables fuel) result state variables' fuel') same_loop
+      (subst (λ k. TurnsSo host limits k loop (loop_does limits (evaluate host limits k) loop state variables fuel) result state variables' fuel') same h)
+
+  -- the same in a turn of a `foreach`
+  pub element_halts : (level : Level S) (left fuel : ℕ) (name body : List ℕ) (items : List (List ℕ)) (whole : Outcome S) (why : Halt) (state : S) (variables : Variables)
+      → GoesSo host limits whole (Err why) (record { stack = []; left = left; fuel = fuel; table = tt }) state variables → TakesElement level name body items limits whole (Err why) state variables fuel
+  element_halts level left fuel name body items whole (halt.Fault fault) state variables h = h
+  element_halts level left fuel name body items whole (halt.Stop why) state variables h = h
+
+  pub element_stops : (level : Level S) (m : Machine) (name body : List ℕ) (items : List (List ℕ)) (whole : Outcome S) (why : Halt) (state : S) (variables : Variables)
+      → TakesElement level name body items limits whole (Err why) state variables m.fuel → GoesSo host limits (resume host limits m.left m.stack whole) (Err why) m state variables
+  element_stops level m name body items whole (halt.Fault fault) state variables h = ap (resume host limits m.left m.stack) h
+  element_stops level m name body items whole (halt.Stop why) state variables h = resume_stops host limits m.left m.stack whole why h
+
+  -- as many scripts may yet be opened in one another
+  pub element_left : (left left' : ℕ) (name body item : List ℕ) (items : List (List ℕ)) (result : Result (Option Ending) Halt) (state : S) (variables : Variables) (fuel : ℕ) (variables' : Variables) (fuel' : ℕ) → left ≡ left'
+      → TakesElement (evaluate host limits left) name body items limits (each limits (evaluate host limits left) name body (item ∷ items) state variables fuel) result state variables' fuel'
+      → TakesElement (evaluate host limits left') name body items limits (each limits (evaluate host limits left') name body (item ∷ items) state variables fuel) result state variables' fuel'
+  element_left left left' name body item items result state variables fuel variables' fuel' same h =
+      subst (λ k. TakesElement (evaluate host limits k) name body items limits (each limits (evaluate host limits k) name body (item ∷ items) state variables fuel) result state variables' fuel') same h
