@@ -11,19 +11,14 @@ use crate::expressions::value_at_once;
 use crate::frame::Ending;
 use crate::host::Host;
 use crate::machine::Machine;
-use crate::words::make_words;
+use crate::words::{make_words, stands};
 use std::alloc::Global;
 use std::rc::Rc;
 use tks_expr::result_of;
-use tks_parse::{Command, Left, Part, Script, Word};
+use tks_parse::{Command, Left, Script, Word};
 use tks_tcl::{fits, plain};
 use tks_text::{Limits, Seq, Txt};
 use tks_vars::Vars;
-
-// Whether nothing in a word has to be run. It is asked first, so that no word is made in vain.
-fn stands(word: &Word) -> bool {
-    word.parts.as_slice().iter().all(|part| matches!(part, Part::Text(_) | Part::Variable(_, None)))
-}
 
 // The words of a command, where all are made at once.
 fn words_at_once(
@@ -34,7 +29,7 @@ fn words_at_once(
 ) -> Option<Seq<Txt>>
     ensures { IfSome result (λ made. words_made limits.now variables.now (words_of words.now.value.items) [] ≡ Ok (All made)) }
 {
-    if !words.as_ref().iter().all(stands) {
+    if !words.as_ref().iter().all(|word| stands(&word.parts)) {
         return None;
     }
     let Ok(words) = words.clone() else {

@@ -18,7 +18,7 @@ use crate::halt::{Halt, error_about};
 use crate::host::Host;
 use crate::machine::Machine;
 use crate::rest::Rest;
-use crate::words::fill_up;
+use crate::words::{fill_up, stands};
 use std::alloc::Global;
 use tks_expr::{
     Binary, Expr, Join, Link, Node, Unary, apply, apply_unary, holds, result_of, share_links,
@@ -80,7 +80,7 @@ fn operand(
 {
     match expr.node() {
         Node::Literal(text) => Ok(Some(text.try_clone()?)),
-        Node::Made(parts) => {
+        Node::Made(parts) if stands(parts) => {
             let mut parts = parts.left()?;
             let mut made = Txt::new(alloc);
             match fill_up(&mut made, &mut parts, variables, limits)? {

@@ -15,7 +15,7 @@ use crate::host::Host;
 use crate::machine::Machine;
 use crate::rest::Rest;
 use std::alloc::{AllocError, Global};
-use tks_parse::{Left, Part, Script, Word};
+use tks_parse::{Left, Part, Parts, Script, Word};
 use tks_tcl::{Interrupt, list_in};
 use tks_text::{Limits, Seq, Txt};
 use tks_vars::Vars;
@@ -92,6 +92,11 @@ fn append(words: &mut Seq<Txt>, more: Rest<Txt>) -> Result<(), AllocError>
         words.push(word)?;
     }
     Ok(())
+}
+
+/// Whether nothing in a word has to be run. It is asked before a word is made at once, so that none is begun in vain.
+pub fn stands(parts: &Parts) -> bool {
+    parts.as_slice().iter().all(|part| matches!(part, Part::Text(_) | Part::Variable(_, None)))
 }
 
 /// What stands in a word and has to be run before the word goes on.
