@@ -16,4 +16,4 @@ pub use fault::ListFault;
 pub use growing::{ListText, Suffix};
 pub use laws::{backslash_form_splits_back, join_splits_back, one_list};
 pub use reading::{read, split};
-pub use writing::{backslash_form, join, push_bytes, quote};
+pub use writing::{backslash_form, join, quote};

@@ -125,24 +125,13 @@ fn push_backslashed(text: &mut Txt, element: &[u8]) -> Result<(), AllocError>
     }
 }
 
-/// Adds bytes that the caller knows to be a text.
-pub fn push_bytes(text: &mut Txt, bytes: &[u8]) -> Result<(), AllocError>
-    requires { IsText bytes.now }
-    ensures { OnOk result (text.new ≡ text.old ++ bytes.now) }
-{
-    for byte in bytes {
-        text.push_byte(*byte)?;
-    }
-    Ok(())
-}
-
 // Adds an element in braces.
 fn push_in_braces(text: &mut Txt, element: &[u8]) -> Result<(), AllocError>
     requires { IsText element.now }
     ensures { OnOk result (text.new ≡ text.old ++ in_braces element.now) }
 {
     text.push_byte(b'{')?;
-    push_bytes(text, element)?;
+    text.push_bytes(element)?;
     text.push_byte(b'}')?;
     Ok(())
 }
@@ -153,7 +142,7 @@ pub(crate) fn push_quoted(text: &mut Txt, element: &[u8]) -> Result<(), AllocErr
     ensures { OnOk result (text.new ≡ text.old ++ quoted element.now) }
 {
     if stands_bare(element) {
-        push_bytes(text, element)
+        text.push_bytes(element)
     } else if stands_in_braces(element) {
         push_in_braces(text, element)
     } else {

@@ -12,7 +12,7 @@ use crate::index::{Index, bounds};
 use crate::interrupt::Interrupt;
 use crate::room::room_behind;
 use std::alloc::{AllocError, Global};
-use tks_list::{Elements, push_bytes};
+use tks_list::Elements;
 use tks_text::{Limits, Txt};
 
 /// The element at an index, or the empty text where there is none.
@@ -64,7 +64,7 @@ fn push_separated(
 {
     for index in front..list.len() {
         text.append(separator)?;
-        push_bytes(text, list.at(index))?;
+        text.push_bytes(list.at(index))?;
     }
     Ok(())
 }
@@ -77,7 +77,7 @@ fn joined_by(alloc: Global, list: &Elements, separator: &Txt) -> Result<Txt, All
     if list.len() == 0 {
         return Ok(text);
     }
-    push_bytes(&mut text, list.at(0))?;
+    text.push_bytes(list.at(0))?;
     push_separated(&mut text, list, 1, separator)?;
     Ok(text)
 }

@@ -137,18 +137,26 @@ impl Txt {
         Ok(())
     }
 
-    /// Adds a text at the end.
+    /// Adds bytes, which are a text, at the end.
     #[tactic(auto, using(crate::proofs::Texts::text_append))]
-    pub fn append(&mut self, more: &Txt) -> Result<(), AllocError>
-        ensures ok { OnOk result (self.new ≡ self.old ++ more.now) }
+    pub fn push_bytes(&mut self, bytes: &[u8]) -> Result<(), AllocError>
+        requires { IsText bytes.now }
+        ensures ok { OnOk result (self.new ≡ self.old ++ bytes.now) }
         ensures err { OnErr result (self.new ≡ self.old) }
     {
-        let bytes = more.as_bytes();
         if bytes.len() > MAX_LEN - self.bytes.len() {
             return Err(AllocError);
         }
         self.bytes.extend_from_slice(bytes)?;
         Ok(())
+    }
+
+    /// Adds a text at the end.
+    pub fn append(&mut self, more: &Txt) -> Result<(), AllocError>
+        ensures ok { OnOk result (self.new ≡ self.old ++ more.now) }
+        ensures err { OnErr result (self.new ≡ self.old) }
+    {
+        self.push_bytes(more.as_bytes())
     }
 
     /// Adds the first `count` bytes of a text at the end, or all where there are fewer.
