@@ -1,5 +1,5 @@
 -- What is run at once comes to what evaluation says of it.
-use Rattle.std.proofs.Common.{◌≡◌, ◌==◌, ◌<◌, ◌-◌, ◌⊎◌, inl, inr, ℕ, zero, suc, false, List, [], ◌∷◌, Option, None, Some, IfSome, Result, Err, cond, rules, refl, subst, ap, ◌∙◌, arith}
+use Rattle.std.proofs.Common.{◌≡◌, ◌==◌, ◌<◌, ◌-◌, ◌⊎◌, inl, inr, ℕ, zero, suc, false, List, [], ◌∷◌, Option, None, Some, IfSome, Result, Err, cond, rules, refl, sym, subst, ap, ◌∙◌, arith}
 use Rattle.tks_text.specs.declared.limits.Limits.{Limits}
 use Rattle.tks_parse.specs.Tree.{Script, Words, no_command, command}
 use Rattle.tks_vars.specs.Variables.{Variables}
@@ -85,8 +85,18 @@ module _ {S : Type 0} (host : Meaning S) (limits : Limits) where
   element_stops level m name body items whole (halt.Stop why) state variables h = resume_stops host limits m.left m.stack whole why h
 
   -- as many scripts may yet be opened in one another
-  pub element_left : (left left' : ℕ) (name body item : List ℕ) (items : List (List ℕ)) (result : Result (Option Ending) Halt) (state : S) (variables : Variables) (fuel : ℕ) (variables' : Variables) (fuel' : ℕ) → left ≡ left'
+  element_left : (there left : ℕ) (name body item : List ℕ) (items : List (List ℕ)) (result : Result (Option Ending) Halt) (state : S) (variables : Variables) (fuel : ℕ) (variables' : Variables) (fuel' : ℕ) → there ≡ left
+      → TakesElement (evaluate host limits there) name body items limits (each limits (evaluate host limits there) name body (item ∷ items) state variables fuel) result state variables' fuel'
       → TakesElement (evaluate host limits left) name body items limits (each limits (evaluate host limits left) name body (item ∷ items) state variables fuel) result state variables' fuel'
-      → TakesElement (evaluate host limits left') name body items limits (each limits (evaluate host limits left') name body (item ∷ items) state variables fuel) result state variables' fuel'
-  element_left left left' name body item items result state variables fuel variables' fuel' same h =
+  element_left there left name body item items result state variables fuel variables' fuel' same h =
       subst (λ k. TakesElement (evaluate host limits k) name body items limits (each limits (evaluate host limits k) name body (item ∷ items) state variables fuel) result state variables' fuel') same h
+
+  -- a turn says of the whole `foreach` what it says of what was left of it
+  pub element_taken : (there left : ℕ) (name body item : List ℕ) (all rest items : List (List ℕ)) (result : Result (Option Ending) Halt) (state : S) (first : Variables) (fuel₀ : ℕ) (variables : Variables) (fuel : ℕ) (variables' : Variables) (fuel' : ℕ) → there ≡ left
+      → each limits (evaluate host limits left) name body all state first fuel₀ ≡ each limits (evaluate host limits left) name body rest state variables fuel → rest ≡ item ∷ items
+      → TakesElement (evaluate host limits there) name body items limits (each limits (evaluate host limits there) name body (item ∷ items) state variables fuel) result state variables' fuel'
+      → TakesElement (evaluate host limits left) name body items limits (each limits (evaluate host limits left) name body all state first fuel₀) result state variables' fuel'
+  element_taken there left name body item all rest items result state first fuel₀ variables fuel variables' fuel' same goes is h =
+      subst (λ o. TakesElement (evaluate host limits left) name body items limits o result state variables' fuel')
+      (sym (goes ∙ ap (λ es. each limits (evaluate host limits left) name body es state variables fuel) is))
+      (element_left there left name body item items result state variables fuel variables' fuel' same h)

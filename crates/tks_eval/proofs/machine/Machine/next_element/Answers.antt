@@ -1,9 +1,9 @@
-use Rattle.std.proofs.Common.{◌≡◌, ◌∷◌, Ok, Err, Some, None, rules, sym, subst, ap, ◌∙◌, arith}
+use Rattle.std.proofs.Common.{◌≡◌, Ok, Err, Some, None, rules, sym, subst, ap, ◌∙◌, arith}
 use Rattle.tks_eval.specs.Outcome.{End, after_body}
 use Rattle.tks_eval.specs.Evaluation.{evaluate, each}
 use Rattle.tks_eval.specs.Machine.{resume, GoesSo, TakesElement}
 use Rattle.tks_eval.specs.declared.machine.Machine.{Machine}
-use Rattle.tks_eval.proofs.AtOnce.{again, element_left, element_stops}
+use Rattle.tks_eval.proofs.AtOnce.{again, element_taken, element_stops}
 use Rattle.tks_eval.proofs.machine.Machine.next_element.Goals as goal
 
 pub returns-in_err-ended-clause-goes : goal.returns-in_err-ended-clause-goes
@@ -13,27 +13,20 @@ returns-in_err-ended-clause-goes g c =
     let limits = c.args.limits.now in
     let old = c.args.self.now in
     let level = evaluate host limits old.left in
-    let there = evaluate host limits c.element.self.left in
     let new = c.element_turn.new.self in
     let variables = c.element_turn.new.variables in
     let state = g.H.Host.state c.args.host.now in
     let so_far = c.element.invariant in
-    let name = c.args.name in
-    let body = c.args.body in
-    let item = c.in-Some.element in
     let items = c.next.new.self in
-    let goes : each limits level name body c.args.elements state c.args.variables.now old.fuel ≡ each limits level name body (item ∷ items) state c.element.variables c.element.self.fuel
-    = so_far.goes ∙ ap (λ es. each limits level name body es state c.element.variables c.element.self.fuel) c.in-Some.ensures in
-    let here : TakesElement there name body items limits (each limits there name body (item ∷ items) state c.element.variables c.element.self.fuel) (Err why) state variables new.fuel
-    = c.in_err-ended.ensures.goes c.args.body c.next.new.self (sym c.element.invariant.script) in
-    let took : TakesElement level name body items limits (each limits level name body (item ∷ items) state c.element.variables c.element.self.fuel) (Err why) state variables new.fuel
-    = element_left host limits c.element.self.left old.left name body item items (Err why) state c.element.variables c.element.self.fuel variables new.fuel so_far.left here in
-    let whole = each limits level name body (item ∷ items) state c.element.variables c.element.self.fuel in
+    let took : TakesElement level c.args.name c.args.body items limits (each limits level c.args.name c.args.body c.args.elements state c.args.variables.now old.fuel) (Err why) state variables new.fuel
+    = element_taken host limits c.element.self.left old.left c.args.name c.args.body c.in-Some.element c.args.elements c.element.elements items (Err why)
+    state c.args.variables.now old.fuel c.element.variables c.element.self.fuel variables new.fuel so_far.left so_far.goes c.in-Some.ensures
+    (c.in_err-ended.ensures.goes c.args.body c.next.new.self (sym c.element.invariant.script)) in
+    let whole = each limits level c.args.name c.args.body c.args.elements state c.args.variables.now old.fuel in
     let m : Machine = record { stack = old.stack; left = old.left; fuel = new.fuel; table = tt } in
     let kept : new ≡ m = rw (so_far.left, so_far.stack) at c.element_turn.ensures.kept in
-    let stops = element_stops host limits level m name body items whole why state variables took in
-    let stopped = subst (λ k. GoesSo host limits (resume host limits old.left old.stack whole) (Err why) k state variables) (sym kept) stops in
-    let all = subst (λ o. GoesSo host limits (resume host limits old.left old.stack o) (Err why) new state variables) (sym goes) stopped in
+    let stops = element_stops host limits level m c.args.name c.args.body items whole why state variables took in
+    let all = subst (λ k. GoesSo host limits (resume host limits old.left old.stack whole) (Err why) k state variables) (sym kept) stops in
     search rules
 
 pub returns-in_default-ended-clause-goes : goal.returns-in_default-ended-clause-goes
@@ -42,24 +35,18 @@ returns-in_default-ended-clause-goes g c =
     let limits = c.args.limits.now in
     let old = c.args.self.now in
     let level = evaluate host limits old.left in
-    let there = evaluate host limits c.element.self.left in
     let new = c.element_turn.new.self in
     let variables = c.element_turn.new.variables in
     let state = g.H.Host.state c.args.host.now in
     let so_far = c.element.invariant in
-    let name = c.args.name in
-    let body = c.args.body in
-    let item = c.in-Some.element in
     let items = c.next.new.self in
-    let goes : each limits level name body c.args.elements state c.args.variables.now old.fuel ≡ each limits level name body (item ∷ items) state c.element.variables c.element.self.fuel
-    = so_far.goes ∙ ap (λ es. each limits level name body es state c.element.variables c.element.self.fuel) c.in-Some.ensures in
-    let here : TakesElement there name body items limits (each limits there name body (item ∷ items) state c.element.variables c.element.self.fuel) (Ok None) state variables new.fuel
-    = rw c.in_default-ended.is at (c.in_ok-ended.ensures.goes c.args.body c.next.new.self (sym c.element.invariant.script)) in
-    let took : TakesElement level name body items limits (each limits level name body (item ∷ items) state c.element.variables c.element.self.fuel) (Ok None) state variables new.fuel
-    = element_left host limits c.element.self.left old.left name body item items (Ok None) state c.element.variables c.element.self.fuel variables new.fuel so_far.left here in
+    let took : TakesElement level c.args.name c.args.body items limits (each limits level c.args.name c.args.body c.args.elements state c.args.variables.now old.fuel) (Ok None) state variables new.fuel
+    = element_taken host limits c.element.self.left old.left c.args.name c.args.body c.in-Some.element c.args.elements c.element.elements items (Ok None)
+    state c.args.variables.now old.fuel c.element.variables c.element.self.fuel variables new.fuel so_far.left so_far.goes c.in-Some.ensures
+    (rw c.in_default-ended.is at (c.in_ok-ended.ensures.goes c.args.body c.next.new.self (sym c.element.invariant.script))) in
     let left : new.left ≡ old.left = ap (λ m. m.left) c.element_turn.ensures.kept ∙ so_far.left in
     let stack : new.stack ≡ old.stack = ap (λ m. m.stack) c.element_turn.ensures.kept ∙ so_far.stack in
-    rw (c.in_ok-push.ensures.ok, left, stack, so_far.script) (ap (resume host limits old.left old.stack) (goes ∙ took))
+    rw (c.in_ok-push.ensures.ok, left, stack, so_far.script) (ap (resume host limits old.left old.stack) took)
 
 pub element-preserved : goal.element-preserved
 element-preserved g c =
@@ -67,31 +54,24 @@ element-preserved g c =
     let limits = c.args.limits.now in
     let old = c.args.self.now in
     let level = evaluate host limits old.left in
-    let there = evaluate host limits c.element.self.left in
     let new = c.element_turn.new.self in
     let variables = c.element_turn.new.variables in
     let state = g.H.Host.state c.args.host.now in
     let so_far = c.element.invariant in
-    let name = c.args.name in
-    let body = c.args.body in
-    let item = c.in-Some.element in
     let items = c.next.new.self in
-    let goes : each limits level name body c.args.elements state c.args.variables.now old.fuel ≡ each limits level name body (item ∷ items) state c.element.variables c.element.self.fuel
-    = so_far.goes ∙ ap (λ es. each limits level name body es state c.element.variables c.element.self.fuel) c.in-Some.ensures in
-    let here : TakesElement there name body items limits (each limits there name body (item ∷ items) state c.element.variables c.element.self.fuel) (Ok (Some c.in-Some-ended.end)) state variables new.fuel
-    = rw c.in-Some-ended.is at (c.in_ok-ended.ensures.goes c.args.body c.next.new.self (sym c.element.invariant.script)) in
-    let took : TakesElement level name body items limits (each limits level name body (item ∷ items) state c.element.variables c.element.self.fuel) (Ok (Some c.in-Some-ended.end)) state variables new.fuel
-    = element_left host limits c.element.self.left old.left name body item items (Ok (Some c.in-Some-ended.end)) state c.element.variables c.element.self.fuel variables new.fuel so_far.left here in
+    let took : TakesElement level c.args.name c.args.body items limits (each limits level c.args.name c.args.body c.args.elements state c.args.variables.now old.fuel) (Ok (Some c.in-Some-ended.end)) state variables new.fuel
+    = element_taken host limits c.element.self.left old.left c.args.name c.args.body c.in-Some.element c.args.elements c.element.elements items (Ok (Some c.in-Some-ended.end))
+    state c.args.variables.now old.fuel c.element.variables c.element.self.fuel variables new.fuel so_far.left so_far.goes c.in-Some.ensures
+    (rw c.in-Some-ended.is at (c.in_ok-ended.ensures.goes c.args.body c.next.new.self (sym c.element.invariant.script))) in
+    let left : new.left ≡ old.left = ap (λ m. m.left) c.element_turn.ensures.kept ∙ so_far.left in
+    let stack : new.stack ≡ old.stack = ap (λ m. m.stack) c.element_turn.ensures.kept ∙ so_far.stack in
     let end = c.in-Some-ended.end in
-    let kept = c.element_turn.ensures.kept in
-    let whole = goes ∙ took in
-    let next = again end.code end.text state variables new.fuel (each limits level name body items) c.in-0.is in
     record {
       script = so_far.script;
-      left = ap (λ m. m.left) kept ∙ so_far.left;
-      stack = ap (λ m. m.stack) kept ∙ so_far.stack;
+      left = left;
+      stack = stack;
       spends = omega (arith, so_far.spends, c.element_turn.ensures.spends);
-      goes = whole ∙ next;
+      goes = took ∙ again end.code end.text state variables new.fuel (each limits level c.args.name c.args.body items) c.in-0.is;
     }
 
 pub returns-in-3-clause-goes : goal.returns-in-3-clause-goes
@@ -100,27 +80,20 @@ returns-in-3-clause-goes g c =
     let limits = c.args.limits.now in
     let old = c.args.self.now in
     let level = evaluate host limits old.left in
-    let there = evaluate host limits c.element.self.left in
     let new = c.element_turn.new.self in
     let variables = c.element_turn.new.variables in
     let state = g.H.Host.state c.args.host.now in
     let so_far = c.element.invariant in
-    let name = c.args.name in
-    let body = c.args.body in
-    let item = c.in-Some.element in
     let items = c.next.new.self in
-    let goes : each limits level name body c.args.elements state c.args.variables.now old.fuel ≡ each limits level name body (item ∷ items) state c.element.variables c.element.self.fuel
-    = so_far.goes ∙ ap (λ es. each limits level name body es state c.element.variables c.element.self.fuel) c.in-Some.ensures in
-    let here : TakesElement there name body items limits (each limits there name body (item ∷ items) state c.element.variables c.element.self.fuel) (Ok (Some c.in-Some-ended.end)) state variables new.fuel
-    = rw c.in-Some-ended.is at (c.in_ok-ended.ensures.goes c.args.body c.next.new.self (sym c.element.invariant.script)) in
-    let took : TakesElement level name body items limits (each limits level name body (item ∷ items) state c.element.variables c.element.self.fuel) (Ok (Some c.in-Some-ended.end)) state variables new.fuel
-    = element_left host limits c.element.self.left old.left name body item items (Ok (Some c.in-Some-ended.end)) state c.element.variables c.element.self.fuel variables new.fuel so_far.left here in
-    let whole = goes ∙ took in
+    let took : TakesElement level c.args.name c.args.body items limits (each limits level c.args.name c.args.body c.args.elements state c.args.variables.now old.fuel) (Ok (Some c.in-Some-ended.end)) state variables new.fuel
+    = element_taken host limits c.element.self.left old.left c.args.name c.args.body c.in-Some.element c.args.elements c.element.elements items (Ok (Some c.in-Some-ended.end))
+    state c.args.variables.now old.fuel c.element.variables c.element.self.fuel variables new.fuel so_far.left so_far.goes c.in-Some.ensures
+    (rw c.in-Some-ended.is at (c.in_ok-ended.ensures.goes c.args.body c.next.new.self (sym c.element.invariant.script))) in
     let left : new.left ≡ old.left = ap (λ m. m.left) c.element_turn.ensures.kept ∙ so_far.left in
     let stack : new.stack ≡ old.stack = ap (λ m. m.stack) c.element_turn.ensures.kept ∙ so_far.stack in
     let end = c.in-Some-ended.end in
-    let ended = ap (λ k. after_body (End k end.text state variables new.fuel) (each limits level name body items)) c.in-3.is in
-    rw (left, stack, c.silent-in-3.ensures) (ap (resume host limits old.left old.stack) (whole ∙ ended))
+    let ended = ap (λ k. after_body (End k end.text state variables new.fuel) (each limits level c.args.name c.args.body items)) c.in-3.is in
+    rw (left, stack, c.silent-in-3.ensures) (ap (resume host limits old.left old.stack) (took ∙ ended))
 
 pub returns-in_default-code-clause-goes : goal.returns-in_default-code-clause-goes
 returns-in_default-code-clause-goes g c =
@@ -128,24 +101,17 @@ returns-in_default-code-clause-goes g c =
     let limits = c.args.limits.now in
     let old = c.args.self.now in
     let level = evaluate host limits old.left in
-    let there = evaluate host limits c.element.self.left in
     let new = c.element_turn.new.self in
     let variables = c.element_turn.new.variables in
     let state = g.H.Host.state c.args.host.now in
     let so_far = c.element.invariant in
-    let name = c.args.name in
-    let body = c.args.body in
-    let item = c.in-Some.element in
     let items = c.next.new.self in
-    let goes : each limits level name body c.args.elements state c.args.variables.now old.fuel ≡ each limits level name body (item ∷ items) state c.element.variables c.element.self.fuel
-    = so_far.goes ∙ ap (λ es. each limits level name body es state c.element.variables c.element.self.fuel) c.in-Some.ensures in
-    let here : TakesElement there name body items limits (each limits there name body (item ∷ items) state c.element.variables c.element.self.fuel) (Ok (Some c.in-Some-ended.end)) state variables new.fuel
-    = rw c.in-Some-ended.is at (c.in_ok-ended.ensures.goes c.args.body c.next.new.self (sym c.element.invariant.script)) in
-    let took : TakesElement level name body items limits (each limits level name body (item ∷ items) state c.element.variables c.element.self.fuel) (Ok (Some c.in-Some-ended.end)) state variables new.fuel
-    = element_left host limits c.element.self.left old.left name body item items (Ok (Some c.in-Some-ended.end)) state c.element.variables c.element.self.fuel variables new.fuel so_far.left here in
-    let whole = goes ∙ took in
+    let took : TakesElement level c.args.name c.args.body items limits (each limits level c.args.name c.args.body c.args.elements state c.args.variables.now old.fuel) (Ok (Some c.in-Some-ended.end)) state variables new.fuel
+    = element_taken host limits c.element.self.left old.left c.args.name c.args.body c.in-Some.element c.args.elements c.element.elements items (Ok (Some c.in-Some-ended.end))
+    state c.args.variables.now old.fuel c.element.variables c.element.self.fuel variables new.fuel so_far.left so_far.goes c.in-Some.ensures
+    (rw c.in-Some-ended.is at (c.in_ok-ended.ensures.goes c.args.body c.next.new.self (sym c.element.invariant.script))) in
     let left : new.left ≡ old.left = ap (λ m. m.left) c.element_turn.ensures.kept ∙ so_far.left in
     let stack : new.stack ≡ old.stack = ap (λ m. m.stack) c.element_turn.ensures.kept ∙ so_far.stack in
     let end = c.in-Some-ended.end in
-    let ended : after_body (End end.code end.text state variables new.fuel) (each limits level name body items) ≡ End end.code end.text state variables new.fuel = search rules in
-    rw (left, stack) (ap (resume host limits old.left old.stack) (whole ∙ ended))
+    let ended : after_body (End end.code end.text state variables new.fuel) (each limits level c.args.name c.args.body items) ≡ End end.code end.text state variables new.fuel = search rules in
+    rw (left, stack) (ap (resume host limits old.left old.stack) (took ∙ ended))
