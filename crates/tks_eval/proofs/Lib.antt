@@ -11,3 +11,4 @@ pub mod Parameters
 pub mod Filling
 pub mod Operands
 pub mod AtOnce
+pub mod Reaching

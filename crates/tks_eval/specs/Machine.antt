@@ -1,14 +1,17 @@
 -- What a stack of frames means: each frame is one sequencing of the evaluation, read backwards.
 use Rattle.std.specs.Prelude.{◌≡◌, ℕ, ◌+◌, ◌*◌, ◌≤◌, ◌<◌, List, [], ◌∷◌, ◌++◌, Option, Some, None, Result, Ok, Err}
 use Rattle.tks_text.specs.declared.limits.Limits.{Limits}
-use Rattle.tks_parse.specs.Tree.{script_size, words_size, parts_size}
+use Rattle.tks_parse.specs.Tree.{Parts, script_size, words_size, parts_size}
 use Rattle.tks_parse.specs.Reading.{script_of}
 use Rattle.tks_parse.specs.View.{parts_of, words_of, script_of_commands}
+use Rattle.tks_parse.specs.declared.tree.Command.{Command}
+use Rattle.tks_text.specs.declared.fault.ScriptFault.{ScriptFault}
 use Rattle.tks_vars.specs.Variables.{Variables}
 use Rattle.tks_eval.specs.Outcome.{Outcome, End, Meaning, Next, Level, after, after_body, caught, appended, fails, given}
 use Rattle.tks_expr.specs.Tree.{Expr, Literal, Made, One, Two, Both, Either, Conditional}
 use Rattle.tks_expr.specs.declared.tree.Link.{Link}
-use Rattle.tks_eval.specs.Evaluation.{Loop, loop_does, element_name, with_value, parts_do, words_in, words_do, commands_do, evaluate, value_does, after_truth, branches_do, catch_ends, each, settled, without_frame, returned, after_script, scripts_do}
+use Rattle.tks_eval.specs.Evaluation.{Loop, loop_does, element_name, with_value, parts_do, words_in, words_do, commands_do, evaluate, control_does, host_does, value_does, after_truth, branches_do, catch_ends, each, settled, without_frame, returned, after_script, scripts_do}
+use Rattle.tks_eval.specs.Filling.{left_of}
 use Rattle.tks_eval.specs.Names.{Control}
 use Rattle.tks_eval.specs.Names as control
 use Rattle.tks_eval.specs.Values.{after_value}
@@ -28,6 +31,13 @@ use Rattle.tks_eval.specs.declared.frame.Ending.{Ending}
 use Rattle.tks_eval.specs.declared.frame.Now.{Now}
 use Rattle.tks_eval.specs.declared.frame.Now.TheVariants.{Open, Fill, Value, At}
 use Rattle.tks_eval.specs.declared.machine.Machine.{Machine}
+use Rattle.tks_eval.specs.declared.words.Filled.{Filled}
+use Rattle.tks_eval.specs.declared.words.Filled.TheVariants as filled
+use Rattle.tks_eval.specs.declared.reach.Given.{Given}
+use Rattle.tks_eval.specs.declared.reach.Given.TheVariants as words
+use Rattle.tks_eval.specs.declared.reach.Waiting.{Waiting}
+use Rattle.tks_eval.specs.declared.reach.Reached.{Reached}
+use Rattle.tks_eval.specs.declared.reach.Reached.TheVariants as reached
 use Rattle.tks_eval.specs.declared.halt.Halt.{Halt}
 use Rattle.tks_eval.specs.declared.halt.Halt.TheVariants as halt
 
@@ -41,6 +51,17 @@ control_of coded.Foreach = control.Foreach
 control_of coded.If = control.If
 control_of coded.Proc = control.Proc
 control_of coded.While = control.While
+
+-- the words of a command
+abbrev pub given_words : Given → List (List ℕ)
+given_words (words.Ready texts) = texts.value.items
+given_words (words.Made made) = made
+
+-- what follows on a script in a word
+abbrev pub behind_script : {S : Type 0} → Limits → Level S → Parts → List ℕ → Outcome S → Outcome S
+behind_script limits inner parts made outcome =
+    after outcome (λ text state variables fuel. given limits (appended limits made text) state variables fuel (λ made.
+    parts_do limits inner parts made state variables fuel))
 
 module _ {S : Type 0} (host : Meaning S) (limits : Limits) where
   -- what a frame makes of the end that it waited for, where so many scripts may yet be opened in one another
@@ -88,6 +109,50 @@ module _ {S : Type 0} (host : Meaning S) (limits : Limits) where
   GoesSo whole (Ok now) m state variables = whole ≡ resume m.left m.stack (outcome_now m.left now state variables m.fuel)
   GoesSo whole (Err (halt.Fault fault)) m state variables = whole ≡ resume m.left m.stack (fails limits fault state variables m.fuel)
   GoesSo whole (Err (halt.Stop why)) m state variables = StopsSo whole why
+
+  -- there is nothing to go on with
+  abbrev pub HaltsSo : Outcome S → Halt → S → Variables → ℕ → Type 0
+  HaltsSo whole (halt.Fault fault) state variables fuel = whole ≡ fails limits fault state variables fuel
+  HaltsSo whole (halt.Stop why) state variables fuel = StopsSo whole why
+
+  -- how far a word was made at once
+  abbrev pub FillsSo : ℕ → Outcome S → Result Filled Halt → S → Variables → ℕ → Type 0
+  FillsSo left whole (Ok (filled.Ended end)) state variables fuel = whole ≡ End end.code end.text state variables fuel
+  FillsSo left whole (Ok (filled.Waits made inner parts)) state variables fuel =
+      whole ≡ parts_do limits (evaluate host limits left) (left_of (Some inner) (parts_of parts)) made state variables fuel
+  FillsSo left whole (Err why) state variables fuel = HaltsSo whole why state variables fuel
+
+  -- a command that runs scripts, behind its step
+  abbrev pub control_called : Level S → Control → List (List ℕ) → Next S
+  control_called inner c [] state variables fuel = End 0 [] state variables fuel
+  control_called inner c (first ∷ words) state variables fuel = control_does host limits inner c first words state variables fuel
+
+  -- a command of the host, or a procedure, behind its step
+  abbrev pub called : Level S → List (List ℕ) → Next S
+  called inner [] state variables fuel = End 0 [] state variables fuel
+  called inner (first ∷ words) state variables fuel =
+      host_does host limits inner first words (host.commands state variables (first ∷ words)) state variables fuel
+
+  -- what comes of a command that came so far
+  abbrev pub reached_does : ℕ → Reached → Next S
+  reached_does left (reached.Ended end) state variables fuel = End end.code end.text state variables fuel
+  reached_does left (reached.Opens script) state variables fuel = evaluate host limits left script state variables fuel
+  reached_does left (reached.Runs c given) state variables fuel = control_called (evaluate host limits left) (control_of c) (given_words given) state variables fuel
+  reached_does left (reached.Calls given) state variables fuel = called (evaluate host limits left) (given_words given) state variables fuel
+  reached_does left (reached.Waits w) state variables fuel =
+      after_frame left (frame.Command w.words w.expand w.rest)
+      (parts_do limits (evaluate host limits left) (left_of (Some w.inner) (parts_of w.parts)) w.made state variables fuel)
+
+  -- how far a command came at once
+  abbrev pub ReachesSo : ℕ → Outcome S → Result Reached Halt → S → Variables → ℕ → Type 0
+  ReachesSo left whole (Ok came) state variables fuel = whole ≡ reached_does left came state variables fuel
+  ReachesSo left whole (Err why) state variables fuel = HaltsSo whole why state variables fuel
+
+  -- how far the commands of a script came at once that has such a fault at its end, and what is behind them
+  abbrev pub RunsSo : ℕ → Option ScriptFault → Outcome S → Result Reached Halt → List Command → S → Variables → ℕ → Type 0
+  RunsSo left fault whole (Ok came) rest state variables fuel =
+      whole ≡ after (reached_does left came state variables fuel) (commands_do host limits (evaluate host limits left) (script_of_commands rest fault))
+  RunsSo left fault whole (Err why) rest state variables fuel = HaltsSo whole why state variables fuel
 
   -- how far a turn of a loop came at once, and what is left of the loop
   abbrev pub TurnsSo : ℕ → Loop → Outcome S → Result Turn Halt → S → Variables → ℕ → Type 0
@@ -175,3 +240,56 @@ result_weight (Err why) = 0
 abbrev pub Falls : Result Now Halt → ℕ → Machine → Machine → Type 0
 Falls result weight old new =
     (new.fuel ≤ old.fuel) × (new.fuel ≡ old.fuel → result_weight result + stack_weight new.stack < weight + stack_weight old.stack)
+
+-- a step was taken while a word was made, or no more is left of it than this
+abbrev pub FillFalls : Result Filled Halt → ℕ → ℕ → ℕ → Type 0
+FillFalls (Ok (filled.Ended end)) size old new = new ≤ old
+FillFalls (Ok (filled.Waits made inner parts)) size old new = (new ≤ old) × (new ≡ old → parts_size (left_of (Some inner) (parts_of parts)) ≤ size)
+FillFalls (Err why) size old new = new ≤ old
+
+-- what is left of a command that waits
+abbrev pub waiting_weight : Waiting → ℕ
+waiting_weight w = 4 * parts_size (left_of (Some w.inner) (parts_of w.parts)) + 4 * words_size (words_of w.rest) + 2
+
+-- a step was taken, or no more is left of a command than of words of this size
+abbrev pub ReachFalls : Result Reached Halt → ℕ → ℕ → ℕ → Type 0
+ReachFalls (Ok (reached.Ended end)) size old new = new ≤ old
+ReachFalls (Ok (reached.Opens script)) size old new = new < old
+ReachFalls (Ok (reached.Runs c given)) size old new = new < old
+ReachFalls (Ok (reached.Calls given)) size old new = new < old
+ReachFalls (Ok (reached.Waits w)) size old new = (new ≤ old) × (new ≡ old → waiting_weight w ≤ 4 * size)
+ReachFalls (Err why) size old new = new ≤ old
+
+-- a step was taken, or less is left of the commands of a script, which had this size and have that one behind these
+abbrev pub RunFalls : Result Reached Halt → ℕ → ℕ → ℕ → ℕ → Type 0
+RunFalls (Ok (reached.Ended end)) size behind old new = new ≤ old
+RunFalls (Ok (reached.Opens script)) size behind old new = new < old
+RunFalls (Ok (reached.Runs c given)) size behind old new = new < old
+RunFalls (Ok (reached.Calls given)) size behind old new = new < old
+RunFalls (Ok (reached.Waits w)) size behind old new = (new ≤ old) × (new ≡ old → waiting_weight w + 4 * behind ≤ 4 * size)
+RunFalls (Err why) size behind old new = new ≤ old
+
+-- commands that ended well have none behind them
+abbrev pub IsDone : Result Reached Halt → List Command → Type 0
+IsDone (Ok (reached.Ended end)) rest = end.code ≡ 0 → rest ≡ []
+IsDone (Ok (reached.Opens script)) rest = Unit {0}
+IsDone (Ok (reached.Runs c given)) rest = Unit {0}
+IsDone (Ok (reached.Calls given)) rest = Unit {0}
+IsDone (Ok (reached.Waits w)) rest = Unit {0}
+IsDone (Err why) rest = Unit {0}
+
+-- a command that didn't end
+abbrev pub IsBegun : Reached → Type 0
+IsBegun (reached.Ended end) = ⊥
+IsBegun (reached.Opens script) = Unit {0}
+IsBegun (reached.Runs c given) = Unit {0}
+IsBegun (reached.Calls given) = Unit {0}
+IsBegun (reached.Waits w) = Unit {0}
+
+-- less is left of a command that ended or waits; of another one the step was taken
+abbrev pub GoesOn : Reached → Result Now Halt → Machine → Machine → Type 0
+GoesOn (reached.Ended end) result old new = Falls result 1 old new
+GoesOn (reached.Opens script) result old new = new.fuel ≤ old.fuel
+GoesOn (reached.Runs c given) result old new = new.fuel ≤ old.fuel
+GoesOn (reached.Calls given) result old new = new.fuel ≤ old.fuel
+GoesOn (reached.Waits w) result old new = Falls result (waiting_weight w) old new

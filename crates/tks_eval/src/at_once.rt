@@ -68,8 +68,8 @@ impl Machine {
         }
     }
 
-    // The end of an `expr` of these words, where it is made at once.
-    fn expr_at_once<H: Host>(
+    /// The end of an `expr` of these words, where it is made at once.
+    pub fn expr_at_once<H: Host>(
         &mut self,
         alloc: Global,
         host: &H,

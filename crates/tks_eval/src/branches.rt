@@ -124,8 +124,8 @@ fn read_branches(alloc: Global, words: &[Txt]) -> Result<Option<Branches>, Alloc
     }
 }
 
-// The condition, the body, and the body for where it doesn't hold, of an `if` with one condition.
-fn one_test(words: &[Txt]) -> Option<(&Txt, &Txt, Option<&Txt>)>
+/// The condition, the body, and the body for where it doesn't hold, of an `if` with one condition.
+pub fn one_test(words: &[Txt]) -> Option<(&Txt, &Txt, Option<&Txt>)>
     ensures { IfSome result (λ x. branches Condition [] words.now ≡ Some (record { tests = record { condition = x.0.now; body = x.1.now } ∷ []; otherwise = option_copied x.2 })) }
 {
     let (condition, body, behind) = test_at(words)?;

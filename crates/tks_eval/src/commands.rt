@@ -1,13 +1,14 @@
-ghost use Rattle.std.specs.Prelude.{◌≡◌, ◌≤◌, ◌<◌, ℕ, List, [], ◌∷◌, IfOk};
+ghost use Rattle.std.specs.Prelude.{◌≡◌, ◌≤◌, ◌<◌, ℕ, List, Option, [], ◌∷◌, IfOk};
 ghost use Rattle.std.specs.FinMap as map;
 ghost use Rattle.std.specs.List.{list_all};
+ghost use Rattle.tks_parse.specs.Tree.{script_size};
 ghost use Rattle.tks_parse.specs.Reading.{script_of};
-ghost use Rattle.tks_parse.specs.View.{ready_words};
+ghost use Rattle.tks_parse.specs.View.{script_of_commands};
 ghost use Rattle.tks_tcl.specs.Cause.{fits};
 ghost use Rattle.tks_tcl.specs.Meets.{GivesSo};
-ghost use Rattle.tks_eval.specs.Outcome.{End};
-ghost use Rattle.tks_eval.specs.Evaluation.{evaluate, call, words_do, procedure_does, control_does, catch_does, eval_does, foreach_does, proc_does, each, foreach_form};
-ghost use Rattle.tks_eval.specs.Machine.{control_of, resume, frame_weight, GoesSo, Falls, TakesElement};
+ghost use Rattle.tks_eval.specs.Outcome.{End, after};
+ghost use Rattle.tks_eval.specs.Evaluation.{evaluate, commands_do, procedure_does, control_does, catch_does, eval_does, foreach_does, proc_does, each, foreach_form};
+ghost use Rattle.tks_eval.specs.Machine.{control_of, resume, frame_weight, called, GoesSo, Falls, RunsSo, RunFalls, IsDone, TakesElement};
 ghost use Rattle.tks_eval.specs.declared.frame.Frame.TheVariants as frame;
 
 use crate::control::Control;
@@ -16,10 +17,11 @@ use crate::halt::{Halt, error_about};
 use crate::host::Host;
 use crate::machine::Machine;
 use crate::procedures::{enter, run_proc};
+use crate::reach::Reached;
 use crate::rest::Rest;
 use std::alloc::Global;
 use tks_parse::{Command, Left, Script};
-use tks_tcl::{Interrupt, ListTable, Stop, concatenated_within, fits, plain, store, wrong_words};
+use tks_tcl::{Interrupt, ListTable, concatenated_within, fits, store, wrong_words};
 use tks_text::{ErrorNumber, Limits, ScriptFault, Seq, Txt, decimal_of};
 use tks_vars::Vars;
 
@@ -52,6 +54,38 @@ pub fn all_fit(texts: &[Txt], limits: &Limits) -> bool
 }
 
 impl Machine {
+    // Runs the commands that come first behind such an end, as far as that goes at once, and takes what is behind them.
+    fn run_commands<H: Host>(
+        &mut self,
+        alloc: Global,
+        host: &H,
+        variables: &mut Vars,
+        rest: &mut Left<Command>,
+        end: Ending,
+        limits: &Limits,
+    ) -> Result<Reached, Halt>
+        ensures kept { self.new ≡ record self.old { fuel = self.new.fuel } }
+        ensures falls { (fault : Option ScriptFault) → RunFalls result (script_size (script_of_commands rest.old fault)) (script_size (script_of_commands rest.new fault)) self.old.fuel self.new.fuel }
+        ensures done { IsDone result rest.new }
+        ensures goes { (fault : Option ScriptFault) → RunsSo H.meaning limits.now self.old.left fault (after (End end.code end.text (H.state host.now) variables.old self.old.fuel) (commands_do H.meaning limits.now (evaluate H.meaning limits.now self.old.left) (script_of_commands rest.old fault))) result rest.new (H.state host.now) variables.new self.new.fuel }
+    {
+        let mut end = end;
+        'command: loop {
+            if end.code != 0 {
+                return Ok(Reached::Ended(end));
+            }
+            let Some(command) = rest.first() else {
+                return Ok(Reached::Ended(end));
+            };
+            let reached = self.reach_command(alloc, host, variables, command, limits)?;
+            rest.skip();
+            match reached {
+                Reached::Ended(ended) => end = ended,
+                reached => return Ok(reached),
+            }
+        }
+    }
+
     /// Goes on behind a command of a script.
     pub fn after_command<H: Host>(
         &mut self,
@@ -68,60 +102,34 @@ impl Machine {
         ensures falls { Falls result (frame_weight (frame.Commands rest fault levels)) self.old self.new }
         ensures goes { GoesSo H.meaning limits.now (resume H.meaning limits.now self.old.left (frame.Commands rest fault levels ∷ self.old.stack) (End end.code end.text (H.state host.old) variables.old self.old.fuel)) result self.new (H.state host.new) variables.new }
     {
-        if end.code != 0 {
-            self.left = levels;
-            return Ok(Now::At(end));
-        }
         let mut rest = rest;
-        match rest.first() {
-            None => {
+        let reached = match self.run_commands(alloc, host, variables, &mut rest, end, limits) {
+            Ok(reached) => reached,
+            Err(why) => {
+                self.left = levels;
+                return Err(why);
+            }
+        };
+        match reached {
+            Reached::Ended(end) => {
                 self.left = levels;
                 match fault {
-                    None => Ok(Now::At(end)),
-                    Some(fault) => Err(Halt::Fault(fault)),
+                    Some(fault) if end.code == 0 => Err(Halt::Fault(fault)),
+                    _ => Ok(Now::At(end)),
                 }
             }
-            Some(command) => {
-                let command = command.share()?;
-                rest.skip();
+            reached => {
                 self.stack.push(Frame::Commands {
                     rest,
                     fault,
                     levels,
                 })?;
-                match command {
-                    Command::Ready(words) => {
-                        self.call_ready(alloc, host, variables, words.as_ref().as_slice(), limits)
-                    }
-                    Command::Made(words) => {
-                        let words = Left::all(words);
-                        self.next_word(alloc, host, variables, Seq::new(alloc), words, limits)
-                    }
-                }
+                self.go_on(alloc, host, variables, reached, limits)
             }
         }
     }
 
-    // Calls a command, whose words stand for themselves.
-    fn call_ready<H: Host>(
-        &mut self,
-        alloc: Global,
-        host: &mut H,
-        variables: &mut Vars,
-        words: &[Txt],
-        limits: &Limits,
-    ) -> Result<Now, Halt>
-        ensures same_place { H.place host.new ≡ H.place host.old }
-        ensures falls { Falls result 1 self.old self.new }
-        ensures goes { GoesSo H.meaning limits.now (resume H.meaning limits.now self.old.left self.old.stack (words_do H.meaning limits.now (evaluate H.meaning limits.now self.old.left) (ready_words words.now) [] (H.state host.old) variables.old self.old.fuel)) result self.new (H.state host.new) variables.new }
-    {
-        if !all_fit(words, limits) {
-            return Err(Halt::Stop(Stop::TooLarge));
-        }
-        self.call(alloc, host, variables, words, limits)
-    }
-
-    /// Calls a command, whose words are there.
+    /// Calls a command of the host, or a procedure, behind its step.
     pub fn call<H: Host>(
         &mut self,
         alloc: Global,
@@ -131,27 +139,20 @@ impl Machine {
         limits: &Limits,
     ) -> Result<Now, Halt>
         ensures same_place { H.place host.new ≡ H.place host.old }
-        ensures falls { Falls result 1 self.old self.new }
-        ensures goes { GoesSo H.meaning limits.now (resume H.meaning limits.now self.old.left self.old.stack (call H.meaning limits.now (evaluate H.meaning limits.now self.old.left) words.now (H.state host.old) variables.old self.old.fuel)) result self.new (H.state host.new) variables.new }
+        ensures spends { self.new.fuel ≤ self.old.fuel }
+        ensures goes { GoesSo H.meaning limits.now (resume H.meaning limits.now self.old.left self.old.stack (called H.meaning limits.now (evaluate H.meaning limits.now self.old.left) words.now (H.state host.old) variables.old self.old.fuel)) result self.new (H.state host.new) variables.new }
     {
         let Some((command, rest)) = words.split_first() else {
             return Ok(Now::At(Ending::silent(alloc)));
         };
-        self.take_step()?;
-        if let Some(control) = Control::named(command) {
-            return self.run_control(alloc, host, variables, control, command, rest, limits);
-        }
-        if let Some((code, text)) = plain(alloc, self.table.lists(), variables, words, limits)? {
-            return Ok(Now::At(Ending { code, text }));
-        }
         match host.call(variables, words)? {
             Some(plan) => self.run_plan(alloc, host, variables, plan, limits),
             None => self.run_procedure(alloc, host, variables, command, rest, limits),
         }
     }
 
-    // Runs a command that runs scripts.
-    fn run_control<H: Host>(
+    /// Runs a command that runs scripts, behind its step.
+    pub fn run_control<H: Host>(
         &mut self,
         alloc: Global,
         host: &H,

@@ -480,13 +480,11 @@ impl Machine {
             ValueFrame::Links(links) => self.next_link(alloc, host, variables, links, text, limits),
             ValueFrame::Right(operator, left, links) => {
                 let text = apply(alloc, operator, &left, &text)?;
-                self.stack.push(Frame::Value(ValueFrame::Links(links)))?;
-                Ok(Now::At(Ending { code: 0, text }))
+                self.before_links(host, variables, links, text, limits)
             }
             ValueFrame::Truth(links) => {
                 let text = truth_text(alloc, &text)?;
-                self.stack.push(Frame::Value(ValueFrame::Links(links)))?;
-                Ok(Now::At(Ending { code: 0, text }))
+                self.before_links(host, variables, links, text, limits)
             }
             ValueFrame::Signs(signs) => {
                 let text = apply_signs(alloc, signs, text)?;
@@ -504,6 +502,24 @@ impl Machine {
                 Ok(Now::At(Ending { code: 0, text }))
             }
         }
+    }
+
+    // Goes on with this text before the links of a chain, which wait where there are any.
+    fn before_links<H: Host>(
+        &mut self,
+        host: &H,
+        variables: &Vars,
+        links: Rest<Link>,
+        text: Txt,
+        limits: &Limits,
+    ) -> Result<Now, Halt>
+        ensures falls { Falls result (links_weight links + 1) self.old self.new }
+        ensures goes { GoesSo H.meaning limits.now (resume H.meaning limits.now self.old.left self.old.stack (links_do limits.now (evaluate H.meaning limits.now self.old.left) links (End 0 text (H.state host.now) variables.now self.old.fuel))) result self.new (H.state host.now) variables.now }
+    {
+        if !links.is_empty() {
+            self.stack.push(Frame::Value(ValueFrame::Links(links)))?;
+        }
+        Ok(Now::At(Ending { code: 0, text }))
     }
 
     // Goes on with the links of a chain, behind an operand that came to this text.
@@ -572,11 +588,7 @@ impl Machine {
             return self.open_operand(alloc, host, variables, &right, limits);
         };
         let text = apply(alloc, operator, &text, &value)?;
-        if links.is_empty() {
-            return Ok(Now::At(Ending { code: 0, text }));
-        }
-        self.stack.push(Frame::Value(ValueFrame::Links(links)))?;
-        Ok(Now::At(Ending { code: 0, text }))
+        self.before_links(host, variables, links, text, limits)
     }
 
     // Goes on with `&&`, whose left operand came to this text.

@@ -17,6 +17,7 @@ mod loops;
 mod machine;
 mod plans;
 mod procedures;
+mod reach;
 mod rest;
 mod table;
 mod words;

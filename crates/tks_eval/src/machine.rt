@@ -173,27 +173,8 @@ impl Machine {
         Ok(())
     }
 
-    // Opens a script, or runs it at once where that can be.
-    fn open<H: Host>(
-        &mut self,
-        alloc: Global,
-        host: &mut H,
-        variables: &mut Vars,
-        script: Script,
-        limits: &Limits,
-    ) -> Result<Now, Halt>
-        ensures same_place { H.place host.new ≡ H.place host.old }
-        ensures falls { Falls result (4 * script_size script + 2) self.old self.new }
-        ensures goes { GoesSo H.meaning limits.now (resume H.meaning limits.now self.old.left self.old.stack (evaluate H.meaning limits.now self.old.left script (H.state host.old) variables.old self.old.fuel)) result self.new (H.state host.new) variables.new }
-    {
-        match self.run_at_once(alloc, host, variables, &script, limits) {
-            Some(end) => Ok(Now::At(end)),
-            None => self.open_commands(alloc, host, variables, script, limits),
-        }
-    }
-
     // Opens a script.
-    fn open_commands<H: Host>(
+    fn open<H: Host>(
         &mut self,
         alloc: Global,
         host: &mut H,

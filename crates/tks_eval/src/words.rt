@@ -1,12 +1,12 @@
-ghost use Rattle.std.specs.Prelude.{◌≡◌, ◌+◌, ◌*◌, ◌∷◌, ◌++◌, IfOk, OnOk, OnErr, Ok, Some};
-ghost use Rattle.tks_parse.specs.Tree.{words_size, parts_size};
+ghost use Rattle.std.specs.Prelude.{◌≡◌, ◌≤◌, ◌+◌, ◌*◌, List, ℕ, ◌∷◌, ◌++◌, IfOk, IfErr, OnOk, OnErr, Ok, Some};
+ghost use Rattle.tks_parse.specs.Tree.{Parts, parts_size};
 ghost use Rattle.tks_parse.specs.View.{words_of, parts_of};
 ghost use Rattle.tks_eval.specs.Outcome.{End, appended};
-ghost use Rattle.tks_eval.specs.Evaluation.{evaluate, element_name, with_value, words_in, parts_do, words_do};
+ghost use Rattle.tks_eval.specs.Evaluation.{evaluate, element_name, with_value, words_in, parts_do};
 ghost use Rattle.tks_tcl.specs.Cause.{after};
 ghost use Rattle.tks_tcl.specs.Meets.{GivesSo};
 ghost use Rattle.tks_eval.specs.Filling.{filled, left_of, waits_for, runs, words_made, made_so_far};
-ghost use Rattle.tks_eval.specs.Machine.{resume, frame_weight, GoesSo, Falls};
+ghost use Rattle.tks_eval.specs.Machine.{resume, frame_weight, behind_script, GoesSo, Falls, FillsSo, FillFalls};
 ghost use Rattle.tks_eval.specs.declared.frame.Frame.TheVariants as frame;
 
 use crate::frame::{Ending, Frame, Now};
@@ -70,8 +70,13 @@ fn element_name(name: &Txt, index: &Txt) -> Result<Txt, AllocError>
     Ok(whole)
 }
 
-// Adds the words that a word's text stands for.
-fn add_words(alloc: Global, words: &mut Seq<Txt>, expand: bool, text: Txt) -> Result<(), Interrupt>
+/// Adds the words that a word's text stands for.
+pub fn add_words(
+    alloc: Global,
+    words: &mut Seq<Txt>,
+    expand: bool,
+    text: Txt,
+) -> Result<(), Interrupt>
     ensures { GivesSo (λ _. words.new) result (after (words_in expand text) (λ more. Ok (words.old ++ more))) }
 {
     if !expand {
@@ -182,9 +187,18 @@ pub fn make_words(
     Ok(None)
 }
 
+/// How far a word was made.
+#[derive(Drop)]
+pub enum Filled {
+    /// It ended: its text, with code 0, or the other end of a script in it.
+    Ended(Ending),
+    /// This has to be opened, behind the text so far and before these parts.
+    Waits(Txt, Inner, Left<Part>),
+}
+
 impl Machine {
-    // Goes on with what has to be run in a word.
-    fn open_inner(
+    /// Goes on with what has to be run in a word.
+    pub fn open_inner(
         &mut self,
         alloc: Global,
         inner: Inner,
@@ -207,6 +221,65 @@ impl Machine {
                 self.stack.push(Frame::Nested { made, parts })?;
                 Ok(Now::Open(script))
             }
+        }
+    }
+
+    // The end of what stands in a word, where that is run at once; else that itself.
+    fn run_inner<H: Host>(
+        &mut self,
+        alloc: Global,
+        host: &H,
+        variables: &mut Vars,
+        inner: Inner,
+        limits: &Limits,
+    ) -> Result<Ending, Inner>
+        ensures ok { IfOk result (λ end. (rest : Parts) → (made : List ℕ) → parts_do limits.now (evaluate H.meaning limits.now self.old.left) (left_of (Some inner) rest) made (H.state host.now) variables.old self.old.fuel ≡ behind_script limits.now (evaluate H.meaning limits.now self.old.left) rest made (End end.code end.text (H.state host.now) variables.new self.new.fuel)) }
+        ensures back { IfErr result (λ i. i ≡ inner) }
+        ensures err { OnErr result ((variables.new ≡ variables.old) × (self.new.fuel ≡ self.old.fuel)) }
+        ensures spends { self.new.fuel ≤ self.old.fuel }
+        ensures kept { self.new ≡ record self.old { fuel = self.new.fuel } }
+    {
+        let script = match inner {
+            Inner::Script(script) => script,
+            index => return Err(index),
+        };
+        match self.run_at_once(alloc, host, variables, &script, limits) {
+            Some(end) => Ok(end),
+            None => Err(Inner::Script(script)),
+        }
+    }
+
+    /// Makes a word, or an index, up to a script or an index in it that can't be run at once.
+    pub fn make_word<H: Host>(
+        &mut self,
+        alloc: Global,
+        host: &H,
+        variables: &mut Vars,
+        made: Txt,
+        parts: Left<Part>,
+        limits: &Limits,
+    ) -> Result<Filled, Halt>
+        ensures kept { self.new ≡ record self.old { fuel = self.new.fuel } }
+        ensures falls { FillFalls result (parts_size (parts_of parts)) self.old.fuel self.new.fuel }
+        ensures goes { FillsSo H.meaning limits.now self.old.left (parts_do limits.now (evaluate H.meaning limits.now self.old.left) (parts_of parts) made (H.state host.now) variables.old self.old.fuel) result (H.state host.now) variables.new self.new.fuel }
+    {
+        let mut made = made;
+        let mut parts = parts;
+        'inner: loop {
+            let Some(inner) = fill_up(&mut made, &mut parts, variables, limits)? else {
+                return Ok(Filled::Ended(Ending {
+                    code: 0,
+                    text: made,
+                }));
+            };
+            let end = match self.run_inner(alloc, host, variables, inner, limits) {
+                Ok(end) => end,
+                Err(inner) => return Ok(Filled::Waits(made, inner, parts)),
+            };
+            if end.code != 0 {
+                return Ok(Filled::Ended(end));
+            }
+            made = joined(made, end.text, limits)?;
         }
     }
 
@@ -285,68 +358,6 @@ impl Machine {
         self.fill(alloc, host, variables, made, parts, limits)
     }
 
-    /// Goes on with the words of a command.
-    #[tactic(auto, using(crate::proofs::Halts::given_halts, crate::proofs::Filling::words_do_made))]
-    pub fn next_word<H: Host>(
-        &mut self,
-        alloc: Global,
-        host: &mut H,
-        variables: &mut Vars,
-        words: Seq<Txt>,
-        rest: Left<Word>,
-        limits: &Limits,
-    ) -> Result<Now, Halt>
-        ensures same_place { H.place host.new ≡ H.place host.old }
-        ensures falls { Falls result (4 * words_size (words_of rest) + 1) self.old self.new }
-        ensures goes { GoesSo H.meaning limits.now (resume H.meaning limits.now self.old.left self.old.stack (words_do H.meaning limits.now (evaluate H.meaning limits.now self.old.left) (words_of rest) words (H.state host.old) variables.old self.old.fuel)) result self.new (H.state host.new) variables.new }
-    {
-        let mut words = words;
-        let mut rest = rest;
-        match make_words(alloc, &mut words, &mut rest, variables, limits)? {
-            None => {
-                let now = self.call(alloc, host, variables, words.as_slice(), limits)?;
-                Ok(now)
-            }
-            Some(begun) => {
-                let Begun {
-                    expand,
-                    made,
-                    inner,
-                    parts,
-                } = begun;
-                self.stack.push(Frame::Command {
-                    words,
-                    expand,
-                    rest,
-                })?;
-                self.go_into(alloc, host, variables, inner, made, parts, limits)
-            }
-        }
-    }
-
-    // Goes on with what has to be run in a word. A script is run at once where that can be.
-    fn go_into<H: Host>(
-        &mut self,
-        alloc: Global,
-        host: &H,
-        variables: &mut Vars,
-        inner: Inner,
-        made: Txt,
-        parts: Left<Part>,
-        limits: &Limits,
-    ) -> Result<Now, Halt>
-        ensures falls { Falls result (4 * parts_size (left_of (Some inner) (parts_of parts)) + 1) self.old self.new }
-        ensures goes { GoesSo H.meaning limits.now (resume H.meaning limits.now self.old.left self.old.stack (parts_do limits.now (evaluate H.meaning limits.now self.old.left) (left_of (Some inner) (parts_of parts)) made (H.state host.now) variables.old self.old.fuel)) result self.new (H.state host.now) variables.new }
-    {
-        if let Inner::Script(script) = &inner {
-            if let Some(end) = self.run_at_once(alloc, host, variables, script, limits) {
-                return self.after_nested(alloc, host, variables, made, parts, end, limits);
-            }
-        }
-        let now = self.open_inner(alloc, inner, made, parts)?;
-        Ok(now)
-    }
-
     /// Goes on with the words of a command behind one that was made.
     #[tactic(auto, using(crate::proofs::Halts::given_halts))]
     pub fn after_word<H: Host>(
@@ -369,6 +380,7 @@ impl Machine {
         }
         let mut words = words;
         add_words(alloc, &mut words, expand, end.text)?;
-        self.next_word(alloc, host, variables, words, rest, limits)
+        let reached = self.reach(alloc, host, variables, words, rest, limits)?;
+        self.go_on(alloc, host, variables, reached, limits)
     }
 }

@@ -1,6 +1,6 @@
-use Rattle.std.proofs.Common.{◌≡◌, [], Err, rules, sym, subst, ap, ◌∙◌}
+use Rattle.std.proofs.Common.{Err, rules, sym, subst}
 use Rattle.tks_expr.specs.Operation.{applied}
-use Rattle.tks_eval.specs.Outcome.{End, after}
+use Rattle.tks_eval.specs.Outcome.{after}
 use Rattle.tks_eval.specs.Evaluation.{evaluate}
 use Rattle.tks_eval.specs.Machine.{resume, GoesSo}
 use Rattle.tks_eval.specs.Meets.{halt_of_failure}
@@ -34,25 +34,14 @@ returns-in_err-text-clause-goes g c =
     (sym does) halts in
     search rules
 
-pub returns-then-is_empty-clause-goes : goal.returns-then-is_empty-clause-goes
-returns-then-is_empty-clause-goes g c =
-    let host = g.H.Host.meaning in
-    let limits = c.args.limits.now in
-    let m = c.args.self.now in
-    let level = evaluate host limits m.left in
-    let state = g.H.Host.state c.args.host.now in
-    let variables = c.args.variables.now in
-    let none : c.args.links ≡ [] = search rules in
-    let made = rw c.in-Some.is at c.in_ok-value.ensures in
-    let told = value_told limits variables level state m.fuel c.args.links c.args.right c.in-Some.value c.in_ok-text.text (applied c.args.operator c.args.text) made c.in_ok-text.ensures in
-    ap (resume host limits m.left m.stack) (told ∙ ap (λ links. links_do limits level links (End 0 c.in_ok-text.text state variables m.fuel)) none)
-
 pub returns-clause-goes : goal.returns-clause-goes
 returns-clause-goes g c =
     let host = g.H.Host.meaning in
     let limits = c.args.limits.now in
     let m = c.args.self.now in
     let level = evaluate host limits m.left in
+    let state = g.H.Host.state c.args.host.now in
+    let variables = c.args.variables.now in
     let made = rw c.in-Some.is at c.in_ok-value.ensures in
-    let told = value_told limits c.args.variables.now level (g.H.Host.state c.args.host.now) m.fuel c.args.links c.args.right c.in-Some.value c.in_ok-text.text (applied c.args.operator c.args.text) made c.in_ok-text.ensures in
-    rw c.in_ok-push-2.ensures.ok (ap (resume host limits m.left m.stack) told)
+    let told = value_told limits variables level state m.fuel c.args.links c.args.right c.in-Some.value c.in_ok-text.text (applied c.args.operator c.args.text) made c.in_ok-text.ensures in
+    subst (λ o. GoesSo host limits (resume host limits m.left m.stack o) c.before_links.result c.before_links.new.self state variables) (sym told) c.before_links.ensures.goes

@@ -3,7 +3,7 @@ use Rattle.tks_eval.specs.Outcome.{TooDeep}
 use Rattle.tks_eval.specs.Evaluation.{commands_do, evaluate}
 use Rattle.tks_eval.proofs.AtOnce.{opens}
 use Rattle.tks_eval.proofs.Halts.{resume_stopped}
-use Rattle.tks_eval.proofs.machine.Machine.open_commands.Goals as goal
+use Rattle.tks_eval.proofs.machine.Machine.open.Goals as goal
 
 pub returns-then-levels-eq0-clause-goes : goal.returns-then-levels-eq0-clause-goes
 returns-then-levels-eq0-clause-goes g c = rw c.if-levels-eq0.true (resume_stopped g.H.Host.meaning c.args.limits.now 0 c.args.self.now.stack TooDeep)

@@ -1,0 +1,189 @@
+-- How far words and commands come at once, and what goes on behind it.
+use Rattle.std.proofs.Common.{◌≡◌, ◌==◌, ◌≤◌, ◌<◌, ◌+◌, ◌*◌, ℕ, suc, false, List, [], ◌∷◌, ◌++◌, Option, Some, Result, Ok, Err, Bool, cond, refl, sym, subst, ap, ◌∙◌, arith}
+use Rattle.tks_text.specs.declared.limits.Limits.{Limits}
+use Rattle.tks_parse.specs.Tree.{Words, Parts, parts_size}
+use Rattle.tks_vars.specs.Variables.{Variables}
+use Rattle.tks_tcl.specs.Cause.{Cause, Fault, OverLimit}
+use Rattle.tks_tcl.specs.Cause as tcl
+use Rattle.tks_tcl.specs.Meets.{FailsSo}
+use Rattle.tks_tcl.specs.declared.interrupt.Interrupt.{Interrupt}
+use Rattle.tks_tcl.specs.declared.interrupt.Interrupt.TheVariants as interrupt
+use Rattle.tks_eval.specs.Outcome.{Outcome, End, Next, Level, Meaning, after, given, appended}
+use Rattle.tks_eval.specs.Meets.{halt_of_interrupt}
+use Rattle.tks_eval.specs.Evaluation.{evaluate, parts_do, words_in, words_do, commands_do}
+use Rattle.tks_eval.specs.Filling.{filled, left_of}
+use Rattle.tks_eval.specs.declared.words.Inner.{Inner}
+use Rattle.tks_eval.specs.declared.words.Inner.TheVariants as inner
+use Rattle.tks_eval.specs.Machine.{HaltsSo, FillsSo, GoesSo, ReachFalls, RunFalls, GoesOn, IsBegun, IsDone, resume, reached_does, result_weight, stack_weight, behind_script}
+use Rattle.tks_tcl.specs.declared.stop.Stop.TheVariants as stop
+use Rattle.tks_text.specs.declared.fault.ScriptFault.{ScriptFault}
+use Rattle.tks_parse.specs.View.{script_of_commands, words_of_command}
+use Rattle.tks_parse.specs.declared.tree.Command.{Command}
+use Rattle.tks_eval.specs.declared.frame.Ending.{Ending}
+use Rattle.tks_eval.specs.declared.halt.Halt.{Halt}
+use Rattle.tks_eval.specs.declared.halt.Halt.TheVariants as halt
+use Rattle.tks_eval.specs.declared.machine.Machine.{Machine}
+use Rattle.tks_eval.specs.declared.frame.Frame.{Frame}
+use Rattle.tks_eval.specs.declared.frame.Now.{Now}
+use Rattle.tks_eval.specs.declared.words.Filled.{Filled}
+use Rattle.tks_eval.specs.declared.reach.Reached.{Reached}
+use Rattle.tks_eval.specs.declared.reach.Reached.TheVariants as reached
+use Rattle.tks_eval.proofs.Filling.{parts_filled}
+use Rattle.tks_eval.proofs.Halts.{resume_stops}
+use Rattle.tks_eval.proofs.Values.{after_fails}
+
+module _ {S : Type 0} (host : Meaning S) (limits : Limits) (state : S) (variables : Variables) (fuel : ℕ) where
+  -- a value that isn't there
+  pub given_none : {X : Type 0} (value : Result X Cause) (next : X → Outcome S) (why : Interrupt) → FailsSo why value
+      → HaltsSo host limits (given limits value state variables fuel next) (halt_of_interrupt why) state variables fuel
+  given_none value next (interrupt.Script fault) h = ap (λ v. given limits v state variables fuel next) h
+  given_none value next interrupt.TooLarge h = ap (λ v. given limits v state variables fuel next) h
+  given_none value next interrupt.NoMemory h = tt
+
+  -- what follows on a value that was made of another
+  given_of : {X Y : Type 0} (value : Result X Cause) (f : X → Y) (next : Y → Outcome S)
+      → given limits (tcl.after value (λ x. Ok (f x))) state variables fuel next ≡ given limits value state variables fuel (λ x. next (f x))
+  given_of (Ok x) f next = refl
+  given_of (Err (Fault fault)) f next = refl
+  given_of (Err OverLimit) f next = refl
+
+  -- what follows on one that is there
+  pub given_one : {X Y : Type 0} (value : Result X Cause) (f : X → Y) (y : Y) (next : Y → Outcome S) → tcl.after value (λ x. Ok (f x)) ≡ Ok y
+      → given limits value state variables fuel (λ x. next (f x)) ≡ next y
+  given_one value f y next h = sym (given_of value f next) ∙ ap (λ r. given limits r state variables fuel next) h
+
+  -- and on one that isn't
+  pub given_none_of : {X Y : Type 0} (value : Result X Cause) (f : X → Y) (next : Y → Outcome S) (why : Interrupt) → FailsSo why (tcl.after value (λ x. Ok (f x)))
+      → HaltsSo host limits (given limits value state variables fuel (λ x. next (f x))) (halt_of_interrupt why) state variables fuel
+  given_none_of value f next why h =
+      subst (λ o. HaltsSo host limits o (halt_of_interrupt why) state variables fuel) (given_of value f next) (given_none (tcl.after value (λ x. Ok (f x))) next why h)
+
+  -- nothing follows where there is nothing to go on with
+  pub halts_after : (whole : Outcome S) (next : List ℕ → Next S) (why : Halt) → HaltsSo host limits whole why state variables fuel
+      → HaltsSo host limits (after whole next) why state variables fuel
+  halts_after whole next (halt.Fault fault) h = ap (λ o. after o next) h ∙ after_fails limits fault state variables fuel next
+  halts_after whole next (halt.Stop stop.Budget) h = ap (λ o. after o next) h
+  halts_after whole next (halt.Stop stop.Depth) h = ap (λ o. after o next) h
+  halts_after whole next (halt.Stop stop.TooLarge) h = ap (λ o. after o next) h
+  halts_after whole next (halt.Stop stop.NoMemory) h = tt
+
+module _ {S : Type 0} (host : Meaning S) (limits : Limits) (state : S) where
+  -- on top of a stack there is nothing to go on with
+  pub halts_below : (m : Machine) (variables : Variables) (whole : Outcome S) (why : Halt) → HaltsSo host limits whole why state variables m.fuel
+      → GoesSo host limits (resume host limits m.left m.stack whole) (Err why) m state variables
+  halts_below m variables whole (halt.Fault fault) h = ap (resume host limits m.left m.stack) h
+  halts_below m variables whole (halt.Stop why) h = resume_stops host limits m.left m.stack whole why h
+
+  -- commands behind one that ended well: the first of them, and those behind it
+  pub commands_then : (level : Level S) (rest behind : List Command) (command : Command) (fault : Option ScriptFault) (code : ℕ) (text : List ℕ) (variables : Variables) (fuel : ℕ)
+      → code ≡ 0 → rest ≡ command ∷ behind
+      → after (End code text state variables fuel) (commands_do host limits level (script_of_commands rest fault))
+      ≡ after (words_do host limits level (words_of_command command) [] state variables fuel) (commands_do host limits level (script_of_commands behind fault))
+  commands_then level rest behind command fault code text variables fuel zero here =
+      ap (λ k. after (End k text state variables fuel) (commands_do host limits level (script_of_commands rest fault))) zero
+      ∙ ap (λ cs. commands_do host limits level (script_of_commands cs fault) text state variables fuel) here
+
+  -- a command that goes on, where as many scripts may yet be opened in one another, and on the same stack
+  pub goes_on_from : (there left : ℕ) (here stack : List Frame) (r : Reached) (result : Result Now Halt) (new : Machine) (variables : Variables) (fuel : ℕ) (state' : S) (variables' : Variables)
+      → there ≡ left → here ≡ stack
+      → GoesSo host limits (resume host limits there here (reached_does host limits there r state variables fuel)) result new state' variables'
+      → GoesSo host limits (resume host limits left stack (reached_does host limits left r state variables fuel)) result new state' variables'
+  goes_on_from there left here stack r result new variables fuel state' variables' same_left same_stack h =
+      subst (λ k. GoesSo host limits (resume host limits k stack (reached_does host limits k r state variables fuel)) result new state' variables') same_left
+      (subst (λ st. GoesSo host limits (resume host limits there st (reached_does host limits there r state variables fuel)) result new state' variables') same_stack h)
+
+  -- a word that is the same, where as many scripts may yet be opened in one another
+  pub fills_from : (there left : ℕ) (here parts : Parts) (so_far made : List ℕ) (result : Result Filled Halt) (variables : Variables) (fuel : ℕ) (variables' : Variables) (fuel' : ℕ)
+      → there ≡ left → here ≡ parts → so_far ≡ made
+      → FillsSo host limits there (parts_do limits (evaluate host limits there) here so_far state variables fuel) result state variables' fuel'
+      → FillsSo host limits left (parts_do limits (evaluate host limits left) parts made state variables fuel) result state variables' fuel'
+  fills_from there left here parts so_far made result variables fuel variables' fuel' same_left same_parts same_made h =
+      subst (λ k. FillsSo host limits k (parts_do limits (evaluate host limits k) parts made state variables fuel) result state variables' fuel') same_left
+      (subst (λ ps. FillsSo host limits there (parts_do limits (evaluate host limits there) ps made state variables fuel) result state variables' fuel') same_parts
+      (subst (λ t. FillsSo host limits there (parts_do limits (evaluate host limits there) here t state variables fuel) result state variables' fuel') same_made h))
+
+  -- what follows on the text of a word
+  abbrev pub behind_word : Level S → Bool → Words → List (List ℕ) → List ℕ → Next S
+  behind_word level expand rest words text state variables fuel =
+      given limits (words_in expand text) state variables fuel (λ more. words_do host limits level rest (words ++ more) state variables fuel)
+
+-- a command that came so far, and how it goes on: a step was taken, or less is left than of words of this size
+pub falls_on : (r : Reached) (result : Result Now Halt) (size fuel : ℕ) (old new : Machine) → ReachFalls (Ok r) size fuel old.fuel → GoesOn r result old new
+    → (new.fuel ≤ fuel) × (new.fuel ≡ fuel → result_weight result + stack_weight new.stack < 4 * size + 1 + stack_weight old.stack)
+falls_on (reached.Ended end) result size fuel old new h k = (omega (arith, h, k.0), λ e. let less = k.1 (omega (arith, h, k.0, e)) in omega (arith, less))
+falls_on (reached.Opens script) result size fuel old new h k = (omega (arith, h, k), λ e. absurd (omega (arith, h, k, e)))
+falls_on (reached.Runs c given) result size fuel old new h k = (omega (arith, h, k), λ e. absurd (omega (arith, h, k, e)))
+falls_on (reached.Calls given) result size fuel old new h k = (omega (arith, h, k), λ e. absurd (omega (arith, h, k, e)))
+falls_on (reached.Waits w) result size fuel old new h k =
+    (omega (arith, h.0, k.0), λ e. let less = k.1 (omega (arith, h.0, k.0, e)) in let small = h.1 (omega (arith, h.0, k.0, e)) in omega (arith, less, small))
+
+-- a command that didn't end
+pub begun : (r : Reached) → ((e : Ending) → r ≡ reached.Ended e → ⊥) → IsBegun r
+begun (reached.Ended e) h = h e refl
+begun (reached.Opens script) h = tt
+begun (reached.Runs c given) h = tt
+begun (reached.Calls given) h = tt
+begun (reached.Waits w) h = tt
+
+pub begun_done : (r : Reached) (rest : List Command) → IsBegun r → IsDone (Ok r) rest
+begun_done (reached.Ended e) rest b = absurd b
+begun_done (reached.Opens script) rest b = tt
+begun_done (reached.Runs c given) rest b = tt
+begun_done (reached.Calls given) rest b = tt
+begun_done (reached.Waits w) rest b = tt
+
+-- the first of the commands of a script came so far
+pub run_falls : (r : Reached) (words size behind fuel here less : ℕ) → ReachFalls (Ok r) words here less → here ≤ fuel → 1 + words + behind ≤ size → IsBegun r
+    → RunFalls (Ok r) size behind fuel less
+run_falls (reached.Ended end) words size behind fuel here less h l s b = absurd b
+run_falls (reached.Opens script) words size behind fuel here less h l s b = omega (arith, h, l)
+run_falls (reached.Runs c given) words size behind fuel here less h l s b = omega (arith, h, l)
+run_falls (reached.Calls given) words size behind fuel here less h l s b = omega (arith, h, l)
+run_falls (reached.Waits w) words size behind fuel here less h l s b =
+    (omega (arith, h.0, l), λ e. let small = h.1 (omega (arith, h.0, l, e)) in omega (arith, small, s))
+
+-- commands take no steps back
+pub run_spends : (r : Result Reached Halt) (size behind fuel less : ℕ) → RunFalls r size behind fuel less → less ≤ fuel
+run_spends (Ok (reached.Ended e)) size behind fuel less h = h
+run_spends (Ok (reached.Opens script)) size behind fuel less h = omega (arith, h)
+run_spends (Ok (reached.Runs c given)) size behind fuel less h = omega (arith, h)
+run_spends (Ok (reached.Calls given)) size behind fuel less h = omega (arith, h)
+run_spends (Ok (reached.Waits w)) size behind fuel less h = h.0
+run_spends (Err why) size behind fuel less h = h
+
+-- the same of the commands of a script, with those behind them on the stack
+pub run_falls_on : (r : Reached) (result : Result Now Halt) (size behind fuel below : ℕ) (old new : Machine) → RunFalls (Ok r) size behind fuel old.fuel → GoesOn r result old new
+    → stack_weight old.stack ≡ 4 * behind + 1 + below → IsBegun r
+    → (new.fuel ≤ fuel) × (new.fuel ≡ fuel → result_weight result + stack_weight new.stack < 4 * size + 1 + below)
+run_falls_on (reached.Ended end) result size behind fuel below old new h k s b = absurd b
+run_falls_on (reached.Opens script) result size behind fuel below old new h k s b = (omega (arith, h, k), λ e. absurd (omega (arith, h, k, e)))
+run_falls_on (reached.Runs c given) result size behind fuel below old new h k s b = (omega (arith, h, k), λ e. absurd (omega (arith, h, k, e)))
+run_falls_on (reached.Calls given) result size behind fuel below old new h k s b = (omega (arith, h, k), λ e. absurd (omega (arith, h, k, e)))
+run_falls_on (reached.Waits w) result size behind fuel below old new h k s b =
+    (omega (arith, h.0, k.0), λ e. let less = k.1 (omega (arith, h.0, k.0, e)) in let small = h.1 (omega (arith, h.0, k.0, e)) in omega (arith, less, small, s))
+
+module _ {S : Type 0} (limits : Limits) (level : Level S) (state : S) (variables : Variables) (fuel : ℕ) where
+  -- a word goes on behind what was filled
+  pub filled_goes : (parts : Parts) (made : List ℕ) (x : Parts × List ℕ) → filled limits variables parts made ≡ Ok x
+      → parts_do limits level parts made state variables fuel ≡ parts_do limits level x.0 x.1 state variables fuel
+  filled_goes parts made x h =
+      parts_filled limits variables level state fuel parts made
+      ∙ ap (λ r. given limits r state variables fuel (λ x. parts_do limits level x.0 x.1 state variables fuel)) h
+
+  -- behind a script that went well
+  pub behind_zero : (code : ℕ) (text : List ℕ) (parts : Parts) (made : List ℕ) → code ≡ 0
+      → behind_script limits level parts made (End code text state variables fuel)
+      ≡ given limits (appended limits made text) state variables fuel (λ made. parts_do limits level parts made state variables fuel)
+  behind_zero code text parts made h = ap (λ k. behind_script limits level parts made (End k text state variables fuel)) h
+
+  -- behind a script that ended otherwise
+  pub behind_other : (code : ℕ) (text : List ℕ) (parts : Parts) (made : List ℕ) → (code == 0) ≡ false
+      → behind_script limits level parts made (End code text state variables fuel) ≡ End code text state variables fuel
+  behind_other code text parts made h =
+      ap (λ b. cond b (given limits (appended limits made text) state variables fuel (λ made. parts_do limits level parts made state variables fuel))
+      (End code text state variables fuel)) h
+
+-- what stands in a word is more than nothing
+pub inner_smaller : (i : Inner) (rest : Parts) → suc (parts_size rest) ≤ parts_size (left_of (Some i) rest)
+inner_smaller (inner.Index name index) rest = omega arith
+inner_smaller (inner.Script script) rest = omega arith

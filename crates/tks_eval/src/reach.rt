@@ -1,0 +1,323 @@
+//! How far commands come at once: without a frame, and without a script being opened.
+ghost use Rattle.std.specs.Prelude.{◌≡◌, ◌≤◌, suc, [], IfSome, IfNone, Ok, option_copied};
+ghost use Rattle.tks_parse.specs.Tree.{words_size};
+ghost use Rattle.tks_parse.specs.View.{words_of, words_of_command};
+ghost use Rattle.tks_eval.specs.Evaluation.{evaluate, call, words_do, if_does, control_does, script_does};
+ghost use Rattle.tks_eval.specs.Machine.{resume, control_of, given_words, reached_does, waiting_weight, ReachesSo, ReachFalls, GoesOn, GoesSo, Falls};
+ghost use Rattle.tks_eval.specs.declared.reach.Reached.TheVariants as reached;
+
+use crate::branches::one_test;
+use crate::commands::all_fit;
+use crate::control::Control;
+use crate::expressions::holds_at_once;
+use crate::frame::{Ending, Frame, Now};
+use crate::halt::Halt;
+use crate::host::Host;
+use crate::machine::Machine;
+use crate::words::{Filled, Inner, add_words};
+use std::alloc::Global;
+use std::rc::Rc;
+use tks_parse::{Command, Left, Part, Script, Word};
+use tks_tcl::{Stop, plain};
+use tks_text::{Limits, Seq, Txt};
+use tks_vars::Vars;
+
+/// The words of a command.
+#[derive(Drop)]
+pub enum Given {
+    /// Those that stand for themselves, as they lie in the tree.
+    Ready(Rc<Vec<Txt>>),
+    /// Those that were made.
+    Made(Seq<Txt>),
+}
+
+impl Given {
+    // The words.
+    fn as_slice(&self) -> &[Txt]
+        ensures { result.now ≡ given_words self.now }
+    {
+        match self {
+            Given::Ready(words) => words.as_ref().as_slice(),
+            Given::Made(words) => words.as_slice(),
+        }
+    }
+}
+
+/// A command, one of whose words waits for what has to be opened.
+#[derive(Drop)]
+pub struct Waiting {
+    /// The words before it.
+    pub words: Seq<Txt>,
+    pub expand: bool,
+    /// The words behind it.
+    pub rest: Left<Word>,
+    pub made: Txt,
+    pub inner: Inner,
+    pub parts: Left<Part>,
+}
+
+/// How far a command came.
+#[derive(Drop)]
+pub enum Reached {
+    /// It ended.
+    Ended(Ending),
+    /// It ends as this script does.
+    Opens(Script),
+    /// Its step is taken, and it is one that runs scripts.
+    Runs(Control, Given),
+    /// Its step is taken, and it is the host's or a procedure.
+    Calls(Given),
+    /// One of its words waits.
+    Waits(Waiting),
+}
+
+impl Machine {
+    /// Makes the words of a command, and calls it, as far as that goes at once.
+    pub fn reach_command<H: Host>(
+        &mut self,
+        alloc: Global,
+        host: &H,
+        variables: &mut Vars,
+        command: &Command,
+        limits: &Limits,
+    ) -> Result<Reached, Halt>
+        ensures kept { self.new ≡ record self.old { fuel = self.new.fuel } }
+        ensures falls { ReachFalls result (words_size (words_of_command command.now)) self.old.fuel self.new.fuel }
+        ensures goes { ReachesSo H.meaning limits.now self.old.left (words_do H.meaning limits.now (evaluate H.meaning limits.now self.old.left) (words_of_command command.now) [] (H.state host.now) variables.old self.old.fuel) result (H.state host.now) variables.new self.new.fuel }
+    {
+        match command {
+            Command::Ready(words) => {
+                if !all_fit(words.as_ref().as_slice(), limits) {
+                    return Err(Halt::Stop(Stop::TooLarge));
+                }
+                let words = Given::Ready(words.clone()?);
+                self.begin(alloc, host, variables, words, limits)
+            }
+            Command::Made(words) => {
+                let words = Left::all(words.clone()?);
+                self.reach(alloc, host, variables, Seq::new(alloc), words, limits)
+            }
+        }
+    }
+
+    /// Makes the words that are left of a command, and calls it, as far as that goes at once.
+    pub fn reach<H: Host>(
+        &mut self,
+        alloc: Global,
+        host: &H,
+        variables: &mut Vars,
+        words: Seq<Txt>,
+        rest: Left<Word>,
+        limits: &Limits,
+    ) -> Result<Reached, Halt>
+        ensures kept { self.new ≡ record self.old { fuel = self.new.fuel } }
+        ensures falls { ReachFalls result (words_size (words_of rest)) self.old.fuel self.new.fuel }
+        ensures goes { ReachesSo H.meaning limits.now self.old.left (words_do H.meaning limits.now (evaluate H.meaning limits.now self.old.left) (words_of rest) words (H.state host.now) variables.old self.old.fuel) result (H.state host.now) variables.new self.new.fuel }
+    {
+        let mut words = words;
+        let mut rest = rest;
+        'word: while let Some(word) = rest.first() {
+            let expand = word.expand;
+            let parts = word.parts.left()?;
+            rest.skip();
+            match self.make_word(alloc, host, variables, Txt::new(alloc), parts, limits)? {
+                Filled::Ended(end) => {
+                    if end.code != 0 {
+                        return Ok(Reached::Ended(end));
+                    }
+                    add_words(alloc, &mut words, expand, end.text)?;
+                }
+                Filled::Waits(made, inner, parts) => {
+                    return Ok(Reached::Waits(Waiting {
+                        words,
+                        expand,
+                        rest,
+                        made,
+                        inner,
+                        parts,
+                    }));
+                }
+            }
+        }
+        self.begin(alloc, host, variables, Given::Made(words), limits)
+    }
+
+    // Takes the step of a command, whose words are there, and calls it where that can be done at once.
+    fn begin<H: Host>(
+        &mut self,
+        alloc: Global,
+        host: &H,
+        variables: &mut Vars,
+        words: Given,
+        limits: &Limits,
+    ) -> Result<Reached, Halt>
+        ensures kept { self.new ≡ record self.old { fuel = self.new.fuel } }
+        ensures falls { ReachFalls result 0 self.old.fuel self.new.fuel }
+        ensures goes { ReachesSo H.meaning limits.now self.old.left (call H.meaning limits.now (evaluate H.meaning limits.now self.old.left) (given_words words) (H.state host.now) variables.old self.old.fuel) result (H.state host.now) variables.new self.new.fuel }
+    {
+        let given = words.as_slice();
+        let Some((command, rest)) = given.split_first() else {
+            return Ok(Reached::Ended(Ending::silent(alloc)));
+        };
+        self.take_step()?;
+        if let Some(control) = Control::named(command) {
+            return match self.control_at_once(
+                alloc, host, variables, control, command, rest, limits,
+            ) {
+                Some(reached) => Ok(reached),
+                None => Ok(Reached::Runs(control, words)),
+            };
+        }
+        match plain(alloc, self.table.lists(), variables, given, limits)? {
+            Some((code, text)) => Ok(Reached::Ended(Ending { code, text })),
+            None => Ok(Reached::Calls(words)),
+        }
+    }
+
+    // A command that runs scripts, as far as it comes at once.
+    fn control_at_once<H: Host>(
+        &mut self,
+        alloc: Global,
+        host: &H,
+        variables: &mut Vars,
+        control: Control,
+        command: &Txt,
+        words: &[Txt],
+        limits: &Limits,
+    ) -> Option<Reached>
+        ensures kept { self.new ≡ record self.old { fuel = self.new.fuel } }
+        ensures spends { self.new.fuel ≤ self.old.fuel }
+        ensures none { IfNone result ((variables.new ≡ variables.old) × (self.new.fuel ≡ self.old.fuel)) }
+        ensures short { IfSome result (λ reached. ReachFalls (Ok reached) 0 (suc self.old.fuel) self.new.fuel) }
+        ensures some { IfSome result (λ reached. control_does H.meaning limits.now (evaluate H.meaning limits.now self.old.left) (control_of control) command.now words.now (H.state host.now) variables.old self.old.fuel ≡ reached_does H.meaning limits.now self.old.left reached (H.state host.now) variables.new self.new.fuel) }
+    {
+        match control {
+            Control::Expr => {
+                let end = self.expr_at_once(alloc, host, variables, command, words, limits)?;
+                Some(Reached::Ended(end))
+            }
+            Control::If => self.if_at_once(alloc, host, variables, command, words, limits),
+            _ => None,
+        }
+    }
+
+    // An `if` with one condition that is decided at once.
+    fn if_at_once<H: Host>(
+        &mut self,
+        alloc: Global,
+        host: &H,
+        variables: &mut Vars,
+        command: &Txt,
+        words: &[Txt],
+        limits: &Limits,
+    ) -> Option<Reached>
+        ensures kept { self.new ≡ record self.old { fuel = self.new.fuel } }
+        ensures spends { self.new.fuel ≤ self.old.fuel }
+        ensures none { IfNone result ((variables.new ≡ variables.old) × (self.new.fuel ≡ self.old.fuel)) }
+        ensures short { IfSome result (λ reached. ReachFalls (Ok reached) 0 (suc self.old.fuel) self.new.fuel) }
+        ensures some { IfSome result (λ reached. if_does limits.now (evaluate H.meaning limits.now self.old.left) command.now words.now (H.state host.now) variables.old self.old.fuel ≡ reached_does H.meaning limits.now self.old.left reached (H.state host.now) variables.new self.new.fuel) }
+    {
+        let (condition, body, otherwise) = one_test(words)?;
+        if self.fuel == 0 {
+            return None;
+        }
+        let Ok(expr) = self.table.expr(alloc, condition) else {
+            return None;
+        };
+        let Ok(Some(holds)) = holds_at_once(alloc, &expr, variables, limits) else {
+            return None;
+        };
+        let chosen = if holds { Some(body) } else { otherwise };
+        self.fuel -= 1;
+        match self.script_at_once(alloc, host, variables, chosen, limits) {
+            Some(reached) => Some(reached),
+            None => {
+                self.fuel += 1;
+                None
+            }
+        }
+    }
+
+    // The script of a text that may be left out, as far as it comes at once. None only for want of memory.
+    fn script_at_once<H: Host>(
+        &mut self,
+        alloc: Global,
+        host: &H,
+        variables: &mut Vars,
+        text: Option<&Txt>,
+        limits: &Limits,
+    ) -> Option<Reached>
+        ensures kept { self.new ≡ record self.old { fuel = self.new.fuel } }
+        ensures spends { self.new.fuel ≤ self.old.fuel }
+        ensures none { IfNone result ((variables.new ≡ variables.old) × (self.new.fuel ≡ self.old.fuel)) }
+        ensures short { IfSome result (λ reached. ReachFalls (Ok reached) 0 (suc self.old.fuel) self.new.fuel) }
+        ensures some { IfSome result (λ reached. script_does (evaluate H.meaning limits.now self.old.left) (option_copied text.entry) (H.state host.now) variables.old self.old.fuel ≡ reached_does H.meaning limits.now self.old.left reached (H.state host.now) variables.new self.new.fuel) }
+    {
+        let Some(text) = text else {
+            return Some(Reached::Ended(Ending::silent(alloc)));
+        };
+        let Ok(script) = self.table.script(alloc, text) else {
+            return None;
+        };
+        match self.run_at_once(alloc, host, variables, &script, limits) {
+            Some(end) => Some(Reached::Ended(end)),
+            None => Some(Reached::Opens(script)),
+        }
+    }
+
+    /// Goes on with a command behind what went at once.
+    pub fn go_on<H: Host>(
+        &mut self,
+        alloc: Global,
+        host: &mut H,
+        variables: &mut Vars,
+        reached: Reached,
+        limits: &Limits,
+    ) -> Result<Now, Halt>
+        ensures same_place { H.place host.new ≡ H.place host.old }
+        ensures falls { GoesOn reached result self.old self.new }
+        ensures goes { GoesSo H.meaning limits.now (resume H.meaning limits.now self.old.left self.old.stack (reached_does H.meaning limits.now self.old.left reached (H.state host.old) variables.old self.old.fuel)) result self.new (H.state host.new) variables.new }
+    {
+        match reached {
+            Reached::Ended(end) => Ok(Now::At(end)),
+            Reached::Opens(script) => Ok(Now::Open(script)),
+            Reached::Runs(control, words) => {
+                let Some((command, rest)) = words.as_slice().split_first() else {
+                    return Ok(Now::At(Ending::silent(alloc)));
+                };
+                self.run_control(alloc, host, variables, control, command, rest, limits)
+            }
+            Reached::Calls(words) => self.call(alloc, host, variables, words.as_slice(), limits),
+            Reached::Waits(waiting) => self.wait(alloc, host, variables, waiting, limits),
+        }
+    }
+
+    // Puts a command that waits on the stack, and goes on with what it waits for.
+    fn wait<H: Host>(
+        &mut self,
+        alloc: Global,
+        host: &H,
+        variables: &Vars,
+        waiting: Waiting,
+        limits: &Limits,
+    ) -> Result<Now, Halt>
+        ensures falls { Falls result (waiting_weight waiting) self.old self.new }
+        ensures goes { GoesSo H.meaning limits.now (resume H.meaning limits.now self.old.left self.old.stack (reached_does H.meaning limits.now self.old.left (reached.Waits waiting) (H.state host.now) variables.now self.old.fuel)) result self.new (H.state host.now) variables.now }
+    {
+        let Waiting {
+            words,
+            expand,
+            rest,
+            made,
+            inner,
+            parts,
+        } = waiting;
+        self.stack.push(Frame::Command {
+            words,
+            expand,
+            rest,
+        })?;
+        let now = self.open_inner(alloc, inner, made, parts)?;
+        Ok(now)
+    }
+}
