@@ -4,3 +4,4 @@ pub mod Cuts
 pub mod Gives
 pub mod Quoting
 pub mod Growing
+pub mod Keeping

@@ -7,6 +7,7 @@ ghost use Rattle.tks_list.specs.Quoting.{joined, spaced};
 use crate::writing::push_quoted;
 use std::alloc::{AllocError, Global};
 use std::marker::Model;
+use tks_share::Copied;
 use tks_text::{Seq, Txt};
 
 /// Where bytes stand in a text: from a place on, and before another.
@@ -90,6 +91,16 @@ impl Elements {
         Ok(())
     }
 
+    // Adds the elements of another list at the end. Where memory is refused, some of them may be there.
+    pub(crate) fn append(&mut self, more: &Elements) -> Result<(), AllocError>
+        ensures { OnOk result (self.new ≡ self.old ++ more.now) }
+    {
+        for index in 0..more.len() {
+            self.push(more.at(index))?;
+        }
+        Ok(())
+    }
+
     /// The place of the first element with this value.
     pub fn position(&self, value: &Txt) -> Option<usize>
         ensures bound { IfSome result (λ n. n < length self.now) }
@@ -136,6 +147,14 @@ impl Elements {
             push_quoted(text, self.at(index))?;
         }
         Ok(())
+    }
+}
+
+impl Copied for Elements {
+    fn copied(&self, alloc: Global) -> Result<Elements, AllocError> {
+        let mut copy = Elements::with_room(alloc, self.bytes.len())?;
+        copy.append(self)?;
+        Ok(copy)
     }
 }
 

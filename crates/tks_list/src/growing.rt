@@ -1,12 +1,16 @@
-ghost use Rattle.std.specs.Prelude.{◌≡◌, ◌++◌, length, true, IfOk, OnOk, OnErr};
+ghost use Rattle.std.specs.Prelude.{◌≡◌, ◌++◌, length, true, IfOk, IfSome, OnOk, OnErr, Some, nat_le};
 ghost use Rattle.tks_text.specs.Text.{IsText};
 ghost use Rattle.tks_list.specs.Growing.{TakesElements};
+ghost use Rattle.tks_list.specs.Keeping.{GrowsSo};
 ghost use Rattle.tks_list.specs.Quoting.{joined, spaced};
+ghost use Rattle.tks_list.specs.Reading.{list_of};
 
+use crate::elements::Elements;
+use crate::kept::KeptList;
 use crate::writing::{join, push_spaced};
 use std::alloc::{AllocError, Global};
 use std::marker::Model;
-use tks_share::Copied;
+use tks_share::{Copied, Shared};
 use tks_text::Txt;
 
 /// What is put behind a text: it knows whether it is elements of a list, each with a space before it. Contracts see the text.
@@ -58,23 +62,39 @@ impl Suffix {
     }
 }
 
+// A text of fewer bytes is read as quickly as a list that is kept of it is found.
+const LEAST_LEN: usize = 32;
+
 /// A text that grows: it may know that it is a list with some elements, spelled as `join` spells lists, and then a further
-/// element joins it without the others being read. Contracts see the text.
-#[derive(Drop)]
+/// element joins it without the others being read. It may keep the list that it splits into, so that this is read once.
+/// Contracts see the text.
 pub struct ListText {
     text: Txt,
     is_spelled: bool,
+    list: Option<KeptList>,
+}
+
+// Written out, so that to let go of it is one step for whoever owns it.
+impl Drop for ListText {
+    fn drop(self) {
+        let ListText {
+            text: _,
+            is_spelled: _,
+            list: _,
+        } = self;
+    }
 }
 
 impl Model for ListText {
-    ghost use Rattle.std.specs.Prelude.{List, ℕ, ◌≡◌, true};
-    ghost use Rattle.tks_list.specs.Growing.{IsSpelled};
+    ghost use Rattle.std.specs.Prelude.{List, ℕ};
 
     ghost Value = { List ℕ };
 
+    ghost use Rattle.tks_list.specs.Keeping.{Knows};
+
     ghost view = { λ t. t.text };
 
-    ghost invariant = { λ t. t.is_spelled ≡ true → IsSpelled t.text };
+    ghost invariant = { λ t. Knows t.is_spelled t.list t.text };
 }
 
 impl ListText {
@@ -85,6 +105,7 @@ impl ListText {
         ListText {
             text,
             is_spelled: false,
+            list: None,
         }
     }
 
@@ -94,7 +115,11 @@ impl ListText {
     {
         let text = join(alloc, list)?;
         let is_spelled = !list.is_empty();
-        Ok(ListText { text, is_spelled })
+        Ok(ListText {
+            text,
+            is_spelled,
+            list: None,
+        })
     }
 
     /// The text.
@@ -133,7 +158,34 @@ impl ListText {
     {
         self.text.append(&more.text)?;
         self.is_spelled = self.is_spelled && more.is_elements;
+        self.list = longer(self.list.take(), self.is_spelled, &more.text);
         Ok(())
+    }
+
+    /// Whether the text has 32 bytes or more, so that it is worth while to keep its list.
+    pub fn is_long(&self) -> bool
+        ensures { result ≡ nat_le 32 (length self.now) }
+    {
+        self.text.len() >= LEAST_LEN
+    }
+
+    /// The list that the text splits into, where it is kept.
+    pub fn list(&self) -> Option<Shared<Elements>>
+        ensures { IfSome result (λ l. list_of self.now ≡ Some l) }
+    {
+        match &self.list {
+            Some(list) => list.share(),
+            None => None,
+        }
+    }
+
+    /// Reads the list that the text splits into, and keeps it, where that isn't done yet, there is one, and memory serves.
+    pub fn keep_list(&mut self, alloc: Global)
+        ensures { self.new ≡ self.old }
+    {
+        if self.list.is_none() {
+            self.list = KeptList::of(alloc, &self.text);
+        }
     }
 
     /// An equal text, of which as much is known.
@@ -143,7 +195,28 @@ impl ListText {
         Ok(ListText {
             text: self.text.try_clone()?,
             is_spelled: self.is_spelled,
+            list: kept_once_more(&self.list),
         })
+    }
+}
+
+// The same list, kept once more.
+fn kept_once_more(list: &Option<KeptList>) -> Option<KeptList>
+    ensures { IfSome result (λ l. list.now ≡ Some l) }
+{
+    match list {
+        Some(list) => list.keep(),
+        None => None,
+    }
+}
+
+// A list that is kept, with the elements of a text behind it, where they join it.
+fn longer(list: Option<KeptList>, joins: bool, more: &Txt) -> Option<KeptList>
+    ensures { IfSome result (λ l. GrowsSo list joins more.now l) }
+{
+    match list {
+        Some(list) if joins => list.with_more(more),
+        _ => None,
     }
 }
 

@@ -7,6 +7,7 @@ mod elements;
 mod ends;
 mod fault;
 mod growing;
+mod kept;
 mod laws;
 mod reading;
 mod writing;

@@ -5,6 +5,7 @@ use Rattle.std.specs.Cmp.Lexicographic.{slice_cmp, nat_list_cmp_total}
 use Rattle.std.specs.FinMap as fin
 use Rattle.std.specs.FinMap.Entries.{is_sorted}
 use Rattle.tks_vars.specs.Table.{Map}
+use Rattle.tks_vars.specs.Few.{put_behind}
 
 abbrev pub order : List ℕ → List ℕ → Ordering
 order = slice_cmp nat_cmp
@@ -29,11 +30,6 @@ module _ {V : Type 0} where
   map_of_entries m =
       fin.same_map nat_list_cmp_total (fin.slice_cmp-IsAntisymmetric fin.nat_cmp-IsAntisymmetric) _ _ (λ q.
       fin.get-from_entries nat_list_cmp_total (fin.entries m) q ∙ sym (fin.get-entries m q))
-
-  -- entries put in one after the other, the last one first
-  abbrev pub put_behind : Map V → List (List ℕ × V) → Map V
-  put_behind m [] = m
-  put_behind m (e ∷ es) = fin.insert (put_behind m es) e.0 e.1
 
   pub put_in_nothing : (es : List (List ℕ × V)) → put_behind fin.empty es ≡ fin.from_entries es
   put_in_nothing [] = refl

@@ -1,6 +1,6 @@
 -- Values that grow in place.
 use Rattle.std.proofs.Common.{◌≡◌, ℕ, true, false, if◌then◌else◌, List, ◌++◌, Option, Some, None, Result, Ok, Err, refl, sym, subst, ap, ◌∙◌}
-use Rattle.std.specs.Prelude.{OnErr, IfSome}
+use Rattle.std.specs.Prelude.{IfOk, OnErr, IfSome, IfNone}
 use mathlib.Core.Logic.{inl, inr}
 use Rattle.std.specs.FinMap as fin
 use Rattle.std.specs.Cmp.Lexicographic.{nat_list_cmp_total}
@@ -41,6 +41,14 @@ module _ {V : Type 0} where
   -- a change that leaves the value leaves the map
   stays : (old new : Map V) (name : List ℕ) (before after : V) → fin.get old name ≡ Some before → after ≡ before → new ≡ fin.insert old name after → new ≡ old
   stays old new name before after at same is = is ∙ ap (fin.insert old name) same ∙ put_same old name before at
+
+  -- and so does a change of which nothing is known but that
+  pub unchanged : {A E : Type 0} (name : List ℕ) (old new : Map V) (r : Result (Option A) E)
+      → IfOk r (λ o. IfSome o (λ answer. IsChangedIn (λ before after _. after ≡ before) name old new answer))
+      → IfOk r (λ o. IfNone o ((new ≡ old) × (fin.get old name ≡ None))) → OnErr r (new ≡ old) → new ≡ old
+  unchanged name old new (Ok (Some answer)) some none err = stays old new name some.before some.after some.found some.given some.now
+  unchanged name old new (Ok None) some none err = none.0
+  unchanged name old new (Err why) some none err = err
 
   -- a change by what is given makes of the map what putting that makes of it
   module _ (text : List ℕ) (given : V → Result V ErrorNumber) (name : List ℕ) (old new : Map V) where

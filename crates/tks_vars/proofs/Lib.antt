@@ -8,3 +8,4 @@ pub mod Linking
 pub mod Spelled
 pub mod Framing
 pub mod Growing
+pub mod Firsts

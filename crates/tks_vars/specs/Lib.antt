@@ -7,3 +7,4 @@ pub mod View
 pub mod Meets
 pub mod Growth
 pub mod Setting
+pub mod Few

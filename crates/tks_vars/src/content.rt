@@ -7,6 +7,7 @@ ghost use Rattle.tks_vars.specs.Table.{IsName};
 ghost use Rattle.tks_vars.specs.Variables.{about, value_in, updated, taken, is_there, grown_inside};
 
 use crate::growth::lengthen_element;
+use crate::reading::keep_element;
 use crate::table::Table;
 use std::alloc::{AllocError, Global};
 use tks_list::{ListText, Suffix};
@@ -103,6 +104,17 @@ impl Content {
                 Ok(())
             }
             _ => Err(Failure::about(ErrorNumber::WrongKindOfVariable, name)),
+        }
+    }
+
+    /// Has the value of the whole variable, or of an element, keep the list that it splits into, where memory serves.
+    pub fn keep_list(&mut self, alloc: Global, index: Option<&[u8]>)
+        ensures { self.new ≡ self.old }
+    {
+        match (self, index) {
+            (Content::Scalar(value), None) => value.keep_list(alloc),
+            (Content::Array(elements), Some(index)) => keep_element(alloc, elements, index),
+            _ => {}
         }
     }
 

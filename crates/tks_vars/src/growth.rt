@@ -7,6 +7,7 @@ ghost use Rattle.tks_vars.specs.Variables.{about, is_link};
 ghost use Rattle.tks_vars.specs.Growth.{lengthen_global, lengthen_local, lengthen_element};
 
 use crate::content::{Content, Local};
+use crate::frame::Frame;
 use crate::name::Name;
 use crate::table::Table;
 use std::alloc::AllocError;
@@ -111,7 +112,7 @@ pub fn lengthen_global(
 
 /// The same of a procedure's own variable.
 pub fn lengthen_local(
-    frame: &mut Table<Local>,
+    frame: &mut Frame,
     name: &Txt,
     part: Name<'_>,
     more: &Suffix,

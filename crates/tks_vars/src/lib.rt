@@ -2,10 +2,13 @@
 #![tactic(auto)]
 
 mod content;
+mod few;
+mod frame;
 mod growth;
 mod laws;
 mod name;
 mod procedure;
+mod reading;
 mod setting;
 mod table;
 mod vars;

@@ -1,20 +1,24 @@
-ghost use Rattle.std.specs.Prelude.{◌≡◌, length, reverse, true, false, IfOk, OnOk, OnErr, IsOk, option_copied};
+ghost use Rattle.std.specs.Prelude.{◌≡◌, length, reverse, true, false, Some, IfOk, IfSome, OnOk, OnErr, IsOk, option_copied};
 ghost use Rattle.std.specs.FinMap as map;
 ghost use Rattle.tks_text.specs.Fault.{Gives};
 ghost use Rattle.tks_list.specs.Growing.{TakesElements};
+ghost use Rattle.tks_list.specs.Reading.{list_of};
 ghost use Rattle.tks_vars.specs.Growth.{with_more};
 ghost use Rattle.tks_vars.specs.Meets.{AnswersSo, IsValue};
 ghost use Rattle.tks_vars.specs.Variables.{no_variables, at_global_level, innermost, content_of, is_global, value_at, value_of, with_value, global_value_at, global_value_of, with_global_value, without, exists, with_global_link, pushed, pushed_global, frame_of, pushed_with, frame_size, popped, with_procedure, size_in, grown_by_value, grown_by_global_value, grown_by_link};
 
 use crate::content::{Content, Local};
+use crate::frame::Frame;
 use crate::growth::{lengthen_global, lengthen_local};
 use crate::name::named;
 use crate::procedure::{Argument, Procedure};
+use crate::reading::{keep_global, keep_local};
 use crate::table::Table;
 use crate::writing::{link, take_global, take_local, write_global, write_local};
 use std::alloc::{AllocError, Global};
 use std::marker::Model;
-use tks_list::{ListText, Suffix};
+use tks_list::{Elements, ListText, Suffix};
+use tks_share::Shared;
 use tks_text::{ErrorNumber, Failure, Txt};
 
 /// The variables of scripts, and the procedures. Calls speak of the present frame: that of the innermost
@@ -22,7 +26,7 @@ use tks_text::{ErrorNumber, Failure, Txt};
 pub struct Vars {
     alloc: Global,
     globals: Table<Content>,
-    locals: Vec<Option<Table<Local>>>,
+    locals: Vec<Option<Frame>>,
     procedures: Table<Procedure>,
 }
 
@@ -50,7 +54,7 @@ impl Model for Vars {
 }
 
 // The present frame, or none where that is the globals.
-fn innermost(locals: &[Option<Table<Local>>]) -> Option<&Table<Local>>
+fn innermost(locals: &[Option<Frame>]) -> Option<&Frame>
     ensures { option_copied result ≡ innermost (reverse locals.now) }
 {
     match locals.last() {
@@ -202,6 +206,58 @@ impl Vars {
         }
     }
 
+    // The list that is kept beside the value of a variable or an element.
+    fn kept_list(&self, name: &Txt) -> Option<Shared<Elements>>
+        ensures { IfSome result (λ l. IsValue (λ v. list_of v ≡ Some l) (value_of self.now name.now)) }
+    {
+        let value = self.value(name.as_bytes());
+        match value {
+            Ok(value) => value.list(),
+            Err(_) => None,
+        }
+    }
+
+    // Whether the value of a variable or an element is long enough for its list to be worth keeping.
+    fn is_long(&self, name: &Txt) -> bool {
+        let value = self.value(name.as_bytes());
+        match value {
+            Ok(value) => value.is_long(),
+            Err(_) => false,
+        }
+    }
+
+    // Has the value of a variable or an element keep its list.
+    fn keep_list(&mut self, name: &Txt)
+        ensures { self.new ≡ self.old }
+    {
+        let Some(part) = named(name.as_bytes()) else {
+            return;
+        };
+        if self.is_global(part.variable) {
+            keep_global(self.alloc, &mut self.globals, part.variable, part.index);
+            return;
+        }
+        let top = self.locals.len() - 1;
+        let Some(frame) = &mut self.locals[top] else {
+            return;
+        };
+        keep_local(self.alloc, frame, part.variable, part.index);
+    }
+
+    /// The list that the value of a variable or an element splits into, which is kept beside it, and read where it wasn't yet.
+    /// None where there is no value or it splits into none, where it has fewer than 32 bytes, or where memory is refused.
+    pub fn list(&mut self, name: &Txt) -> Option<Shared<Elements>>
+        ensures list { IfSome result (λ l. IsValue (λ v. list_of v ≡ Some l) (value_of self.old name.now)) }
+        ensures same { self.new ≡ self.old }
+    {
+        let kept = self.kept_list(name);
+        if kept.is_some() || !self.is_long(name) {
+            return kept;
+        }
+        self.keep_list(name);
+        self.kept_list(name)
+    }
+
     /// Gives a variable or an element a value, and makes what is missing of it.
     pub fn set(&mut self, name: &Txt, value: &Txt) -> Result<(), Failure>
         ensures value { Gives (λ _. self.new) result (with_value self.old name.now value.now) }
@@ -290,7 +346,8 @@ impl Vars {
         ensures ok { OnOk result (self.new ≡ pushed self.old) }
         ensures err { OnErr result (self.new ≡ self.old) }
     {
-        self.locals.push(Some(Table::new(self.alloc)))?;
+        let frame = Frame::new(self.alloc)?;
+        self.locals.push(Some(frame))?;
         Ok(())
     }
 
@@ -432,20 +489,20 @@ impl Vars {
 }
 
 // The frame of a call.
-fn frame_of(alloc: Global, arguments: Vec<Argument>) -> Result<Table<Local>, AllocError>
+fn frame_of(alloc: Global, arguments: Vec<Argument>) -> Result<Frame, AllocError>
     ensures { IfOk result (λ frame. frame ≡ frame_of arguments.items) }
 {
-    let mut frame = Table::new(alloc);
+    let mut frame = Frame::new(alloc)?;
     let mut arguments = arguments;
     while let Some(Argument { name, value }) = arguments.pop() {
         let value = Content::Scalar(ListText::of(value));
-        frame.insert(name.as_bytes(), Local::Own(value))?;
+        frame.insert_text(name, Local::Own(value))?;
     }
     Ok(frame)
 }
 
 // An equal frame.
-fn share_frame(frame: &Option<Table<Local>>) -> Result<Option<Table<Local>>, AllocError>
+fn share_frame(frame: &Option<Frame>) -> Result<Option<Frame>, AllocError>
     ensures { IfOk result (λ copy. copy ≡ frame.now) }
 {
     match frame {
@@ -455,10 +512,7 @@ fn share_frame(frame: &Option<Table<Local>>) -> Result<Option<Table<Local>>, All
 }
 
 // Equal frames.
-fn share_frames(
-    alloc: Global,
-    frames: &[Option<Table<Local>>],
-) -> Result<Vec<Option<Table<Local>>>, AllocError>
+fn share_frames(alloc: Global, frames: &[Option<Frame>]) -> Result<Vec<Option<Frame>>, AllocError>
     ensures { IfOk result (λ copy. copy.items ≡ frames.now) }
 {
     let mut copy = Vec::new(alloc);

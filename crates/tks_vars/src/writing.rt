@@ -8,6 +8,7 @@ ghost use Rattle.tks_vars.specs.Names.{element, IsSpelled};
 ghost use Rattle.tks_vars.specs.Table.{IsName};
 
 use crate::content::{Content, Local};
+use crate::frame::Frame;
 use crate::name::{Name, named};
 use crate::setting::Setting;
 use crate::table::Table;
@@ -45,7 +46,7 @@ pub fn write_global(
 /// The same of a procedure's own variable.
 pub fn write_local(
     alloc: Global,
-    frame: &mut Table<Local>,
+    frame: &mut Frame,
     name: &Txt,
     part: Name<'_>,
     value: ListText,
@@ -83,7 +84,7 @@ pub fn take_global(globals: &mut Table<Content>, name: &Txt, part: Name<'_>) -> 
 }
 
 /// The same of a procedure's own variable.
-pub fn take_local(frame: &mut Table<Local>, name: &Txt, part: Name<'_>) -> Result<(), Failure>
+pub fn take_local(frame: &mut Frame, name: &Txt, part: Name<'_>) -> Result<(), Failure>
     requires own { is_link (map.get frame.old part.variable.now) ≡ false }
     requires spelled { IsSpelled (name_seen part) }
     ensures value { Gives (λ _. frame.new) result (about name.now (take_local frame.old (name_seen part.entry))) }
@@ -91,19 +92,31 @@ pub fn take_local(frame: &mut Table<Local>, name: &Txt, part: Name<'_>) -> Resul
 {
     match part.index {
         Some(index) => take_local_element(frame, name, part.variable, index),
-        None => take_whole(frame, name, part.variable),
+        None => take_own(frame, name, part.variable),
     }
 }
 
-// Takes a name out with all that stands under it.
-fn take_whole<V: Drop>(table: &mut Table<V>, name: &Txt, variable: &[u8]) -> Result<(), Failure>
-    ensures value { Gives (λ _. table.new) result (about name.now (without_name table.old variable.now)) }
-    ensures err { OnErr result (table.new ≡ table.old) }
+// Takes a global out, with all its elements.
+fn take_whole(globals: &mut Table<Content>, name: &Txt, variable: &[u8]) -> Result<(), Failure>
+    ensures value { Gives (λ _. globals.new) result (about name.now (without_name globals.old variable.now)) }
+    ensures err { OnErr result (globals.new ≡ globals.old) }
 {
-    if !table.contains(variable) {
+    if !globals.contains(variable) {
         return Err(Failure::about(ErrorNumber::NoSuchVariable, name));
     }
-    table.remove(variable)?;
+    globals.remove(variable)?;
+    Ok(())
+}
+
+// The same of a procedure's own variable.
+fn take_own(frame: &mut Frame, name: &Txt, variable: &[u8]) -> Result<(), Failure>
+    ensures value { Gives (λ _. frame.new) result (about name.now (without_name frame.old variable.now)) }
+    ensures err { OnErr result (frame.new ≡ frame.old) }
+{
+    if !frame.contains(variable) {
+        return Err(Failure::about(ErrorNumber::NoSuchVariable, name));
+    }
+    frame.remove(variable)?;
     Ok(())
 }
 
@@ -130,7 +143,7 @@ fn take_global_element(
 
 // The same of a procedure's own variable.
 fn take_local_element(
-    frame: &mut Table<Local>,
+    frame: &mut Frame,
     name: &Txt,
     variable: &[u8],
     index: &[u8],
@@ -151,7 +164,7 @@ fn take_local_element(
 }
 
 /// Makes a name of a procedure's frame a link.
-pub fn link(frame: &mut Table<Local>, name: &Txt) -> Result<(), Failure>
+pub fn link(frame: &mut Frame, name: &Txt) -> Result<(), Failure>
     ensures value { Gives (λ _. frame.new) result (about name.now (with_link frame.old name.now)) }
     ensures err { OnErr result (frame.new ≡ frame.old) }
 {

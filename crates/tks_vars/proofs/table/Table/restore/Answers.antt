@@ -1,6 +1,7 @@
 use Rattle.std.proofs.Common.{ap, sym, ◌∙◌}
 use Rattle.std.specs.FinMap as fin
-use Rattle.tks_vars.proofs.Entries.{put_behind, put_in_nothing, put_last}
+use Rattle.tks_vars.specs.Few.{put_behind}
+use Rattle.tks_vars.proofs.Entries.{put_in_nothing, put_last}
 use Rattle.tks_vars.proofs.table.Table.restore.Goals as goal
 
 pub loop-name-init : goal.loop-name-init

@@ -1,6 +1,6 @@
 use Rattle.std.proofs.Common.{◌≡◌, length}
 use Rattle.std.specs.FinMap as fin
-use Rattle.tks_vars.proofs.Entries.{put_behind}
+use Rattle.tks_vars.specs.Few.{put_behind}
 use Rattle.tks_vars.proofs.table.Table.restore.Given as goal
 
 -- those that are left, put in behind those that are in already, are all

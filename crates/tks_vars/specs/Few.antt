@@ -1,0 +1,34 @@
+-- Names with what stands under them, in a list.
+use Rattle.std.specs.Prelude.{◌≡◌, ◌≢◌, ℕ, List, [], ◌∷◌, Some, slice_get, slice_set}
+use Rattle.std.specs.Coded.{Coded, coded×, coded_list, coded_ℕ}
+use Rattle.std.specs.FinMap as fin
+use Rattle.tks_vars.specs.Table.{Map}
+use Rattle.tks_vars.specs.declared.content.Local.{Local}
+use Rattle.tks_vars.specs.contracts.content.Local as local
+
+-- a name, and what stands under it
+abbrev pub Entry : Type 0
+Entry = List ℕ × Local
+
+abbrev pub entries_code : Coded (List Entry)
+entries_code = coded_list (coded× (coded_list coded_ℕ) local.the_row.coded)
+
+module _ {V : Type 0} where
+  -- entries put in one after the other, the last one first
+  abbrev pub put_behind : Map V → List (List ℕ × V) → Map V
+  put_behind m [] = m
+  put_behind m (e ∷ es) = fin.insert (put_behind m es) e.0 e.1
+
+  -- no entry has the name
+  abbrev pub Lacks : List ℕ → List (List ℕ × V) → Type 0
+  Lacks name [] = Unit {0}
+  Lacks name (e ∷ es) = (e.0 ≢ name) × Lacks name es
+
+  -- what stands at a place was changed, the change gave this answer, and nothing else is new
+  pub record IsChangedAt {A : Type 0} (gives : V → V → A → Type 0) (place : ℕ) (old new : List (List ℕ × V)) (answer : A) : Type 0 where
+    pub name : List ℕ
+    pub before : V
+    pub after : V
+    pub found : slice_get old place ≡ Some (name, before)
+    pub given : gives before after answer
+    pub now : new ≡ slice_set old place (name, after)

@@ -1,0 +1,238 @@
+//! The variables of a procedure's call.
+ghost use Rattle.std.specs.Prelude.{◌≡◌, IfOk, IfSome, IfNone, None, OnOk, OnErr, option_copied};
+ghost use Rattle.std.specs.FinMap as map;
+ghost use Rattle.tks_share.specs.Maps.{IsChangedIn};
+ghost use Rattle.tks_vars.specs.Few.{put_behind, Lacks};
+ghost use Rattle.tks_vars.specs.Table.{IsName};
+ghost use Rattle.tks_vars.specs.declared.content.Local.{Local as Value};
+
+use crate::content::Local;
+use crate::few::Few;
+use crate::table::Table;
+use std::alloc::{AllocError, Global};
+use std::marker::Model;
+use tks_share::{Change, Shared};
+use tks_text::Txt;
+
+/// The most names that are looked through one by one.
+const FEW: usize = 8;
+
+/// What stands under the names of a procedure's call. The first few names are looked through one by one, so that a call with
+/// few variables takes little memory; the others are in a table. Of a name that is in both, the first ones' counts. Contracts
+/// see the map.
+pub struct Frame {
+    alloc: Global,
+    len: usize,
+    first: Shared<Few>,
+    rest: Table<Local>,
+}
+
+// Written out, so that to let go of it is one step for whoever owns it.
+impl Drop for Frame {
+    fn drop(self) {
+        let Frame {
+            alloc: _,
+            len: _,
+            first: _,
+            rest: _,
+        } = self;
+    }
+}
+
+impl Model for Frame {
+    ghost use Rattle.std.specs.Prelude.{◌≡◌};
+    ghost use Rattle.std.specs.FinMap as map;
+    ghost use Rattle.tks_vars.specs.Variables as variables;
+    ghost use Rattle.tks_vars.specs.contracts.content.Local as local;
+    ghost use Rattle.tks_vars.specs.Few.{put_behind};
+
+    ghost Value = { variables.Frame };
+
+    ghost coded = { variables.map_code local.the_row.coded };
+
+    ghost view = { λ f. put_behind f.rest f.first };
+
+    ghost invariant = { λ f. f.len ≡ map.len (put_behind f.rest f.first) };
+}
+
+impl Frame {
+    /// No names.
+    pub fn new(alloc: Global) -> Result<Frame, AllocError>
+        ensures { IfOk result (λ f. f ≡ map.empty) }
+    {
+        let few = Few::with_room(alloc, FEW)?;
+        Ok(Frame {
+            alloc,
+            len: 0,
+            first: Shared::new(alloc, few)?,
+            rest: Table::new(alloc),
+        })
+    }
+
+    /// An equal frame. Nothing of it is copied.
+    pub fn share(&self) -> Result<Frame, AllocError>
+        ensures { IfOk result (λ f. f ≡ self.now) }
+    {
+        Ok(Frame {
+            alloc: self.alloc,
+            len: self.len,
+            first: self.first.share()?,
+            rest: self.rest.share()?,
+        })
+    }
+
+    /// How many names there are.
+    pub fn len(&self) -> usize
+        ensures { result ≡ map.len self.now }
+    {
+        self.len
+    }
+
+    /// Whether something stands under a name.
+    pub fn contains(&self, name: &[u8]) -> bool
+        ensures { result ≡ map.contains_key self.now name.now }
+    {
+        self.get(name).is_some()
+    }
+
+    /// What stands under a name.
+    pub fn get(&self, name: &[u8]) -> Option<&Local>
+        ensures { option_copied result ≡ map.get self.now name.now }
+    {
+        let first = self.first.get();
+        match first.place(name) {
+            Some(place) => Some(&first.at(place).1),
+            None => self.rest.get(name),
+        }
+    }
+
+    // How many names there are with this one.
+    fn len_with(&self, name: &[u8]) -> Result<usize, AllocError>
+        ensures { IfOk result (λ len. (value : Value) → len ≡ map.len (map.insert self.now name.now value)) }
+    {
+        if self.contains(name) {
+            return Ok(self.len);
+        }
+        match self.len.checked_add(1) {
+            Some(len) => Ok(len),
+            None => Err(AllocError),
+        }
+    }
+
+    /// Puts a value under a name, in the place of the one that is there.
+    pub fn insert(&mut self, name: &[u8], value: Local) -> Result<(), AllocError>
+        requires { IsName name.now }
+        ensures ok { OnOk result (self.new ≡ map.insert self.old name.now value) }
+        ensures err { OnErr result (self.new ≡ self.old) }
+    {
+        let name = Txt::from_text(self.alloc, name)?;
+        self.insert_text(name, value)?;
+        Ok(())
+    }
+
+    /// The same as `insert`, with a name that needs no copy.
+    pub fn insert_text(&mut self, name: Txt, value: Local) -> Result<(), AllocError>
+        ensures ok { OnOk result (self.new ≡ map.insert self.old name value) }
+        ensures err { OnErr result (self.new ≡ self.old) }
+    {
+        let len = self.len_with(name.as_bytes())?;
+        put(self.alloc, &mut self.first, &mut self.rest, name, value)?;
+        self.len = len;
+        Ok(())
+    }
+
+    /// Takes a name out.
+    pub fn remove(&mut self, name: &[u8]) -> Result<(), AllocError>
+        ensures ok { OnOk result (self.new ≡ map.remove self.old name.now) }
+        ensures err { OnErr result (self.new ≡ self.old) }
+    {
+        if !self.contains(name) {
+            return Ok(());
+        }
+        take(self.alloc, &mut self.first, &mut self.rest, name)?;
+        self.len = self.len.saturating_sub(1);
+        Ok(())
+    }
+
+    /// Changes the value under a name where it stands, if there is one.
+    pub fn change<C: Change<Local>>(
+        &mut self,
+        name: &[u8],
+        change: &mut C,
+    ) -> Result<Option<C::Answer>, AllocError>
+        ensures some { IfOk result (λ o. IfSome o (λ answer. IsChangedIn (C.gives change.old) name.now self.old self.new answer)) }
+        ensures none { IfOk result (λ o. IfNone o ((self.new ≡ self.old) × (map.get self.old name.now ≡ None))) }
+        ensures unused { IfOk result (λ o. IfNone o (change.new ≡ change.old)) }
+        ensures err { OnErr result (self.new ≡ self.old) }
+    {
+        match self.first.get().place(name) {
+            Some(place) => {
+                let answer = self.first.get_mut(self.alloc)?.change(place, change);
+                Ok(Some(answer))
+            }
+            None => {
+                let answer = self.rest.change(name, change)?;
+                Ok(answer)
+            }
+        }
+    }
+}
+
+// Puts a value under a name, among the first ones or the rest.
+fn put(
+    alloc: Global,
+    first: &mut Shared<Few>,
+    rest: &mut Table<Local>,
+    name: Txt,
+    value: Local,
+) -> Result<(), AllocError>
+    ensures ok { OnOk result (put_behind rest.new first.new ≡ map.insert (put_behind rest.old first.old) name value) }
+    ensures err { OnErr result ((first.new ≡ first.old) × (rest.new ≡ rest.old)) }
+{
+    match first.get().place(name.as_bytes()) {
+        Some(place) => {
+            first.get_mut(alloc)?.set(place, name, value);
+            Ok(())
+        }
+        None => {
+            add(alloc, first, rest, name, value)?;
+            Ok(())
+        }
+    }
+}
+
+// The same of a name that isn't among the first ones.
+fn add(
+    alloc: Global,
+    first: &mut Shared<Few>,
+    rest: &mut Table<Local>,
+    name: Txt,
+    value: Local,
+) -> Result<(), AllocError>
+    requires { Lacks name first.old }
+    ensures ok { OnOk result (put_behind rest.new first.new ≡ map.insert (put_behind rest.old first.old) name value) }
+    ensures err { OnErr result ((first.new ≡ first.old) × (rest.new ≡ rest.old)) }
+{
+    if first.get().len() < FEW {
+        first.get_mut(alloc)?.push(name, value)?;
+        return Ok(());
+    }
+    rest.insert(name.as_bytes(), value)?;
+    Ok(())
+}
+
+// Takes a name out of the first and the rest.
+fn take(
+    alloc: Global,
+    first: &mut Shared<Few>,
+    rest: &mut Table<Local>,
+    name: &[u8],
+) -> Result<(), AllocError>
+    ensures ok { OnOk result (put_behind rest.new first.new ≡ map.remove (put_behind rest.old first.old) name.now) }
+    ensures err { OnErr result ((first.new ≡ first.old) × (rest.new ≡ rest.old)) }
+{
+    let few = first.get_mut(alloc)?;
+    rest.remove(name)?;
+    few.remove(name);
+    Ok(())
+}
