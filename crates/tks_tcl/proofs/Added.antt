@@ -6,27 +6,17 @@ use Rattle.tks_text.specs.declared.limits.Limits.{Limits}
 use Rattle.tks_list.specs.Growing.{TakesElements, grown}
 use Rattle.tks_list.specs.Quoting.{spaced, joined}
 use Rattle.tks_list.specs.Reading.{list_of}
-use Rattle.tks_vars.specs.Growth.{and_then, with_more}
 use Rattle.tks_vars.specs.Meets.{IsValue}
 use Rattle.tks_vars.specs.Variables.{Variables, value_of, with_value, grown_by_value}
 use Rattle.tks_tcl.specs.Cause.{Cause, OverLimit, after, value_or_fault, fits}
 use Rattle.tks_tcl.specs.declared.interrupt.Interrupt.{Interrupt}
 use Rattle.tks_tcl.specs.declared.interrupt.Interrupt.TheVariants as interrupt
 use Rattle.tks_tcl.specs.Meets.{FailsSo}
-use Rattle.tks_tcl.specs.Growing.{lengthened, lengthens, list_with, adds_elements}
+use Rattle.tks_tcl.specs.Growing.{lengthens, list_with, adds_elements}
 use Rattle.tks_tcl.specs.Room.{room_of}
 use Rattle.tks_tcl.specs.Variables.{with_default, value_or, may_grow, stores}
 use Rattle.tks_tcl.specs.Words.{list_read, list_in}
 use Rattle.tks_tcl.proofs.Lengths.{spaced_len, joined_len, room_of_both}
-
--- with the value that was made of it, a name is given just this value
-with_it : {X : Type 0} (r : Result (List ℕ) ScriptFault) (more value : List ℕ) (next : List ℕ → Result X ScriptFault)
-    → after (value_or_fault r) (λ x. Ok (x ++ more)) ≡ Ok value → and_then r (λ x. next (x ++ more)) ≡ next value
-with_it (Ok x) more value next e = ap next (cc)
-with_it (Err fault) more value next e = absurd cc
-
-pub given_more : (v : Variables) (name more value : List ℕ) → lengthened v name more ≡ Ok value → with_more v name more ≡ with_value v name value
-given_more v name more value e = with_it (value_of v name) more value (with_value v name) e
 
 -- ---- lists
 
@@ -43,11 +33,6 @@ taken_by (Err fault) elements takes = absurd takes
 pub elements_taken : (limits : Limits) (v : Variables) (name : List ℕ) (elements : List (List ℕ)) → IsValue TakesElements (value_of v name)
     → adds_elements limits name elements v ≡ lengthens limits name (spaced elements) v
 elements_taken limits v name elements takes = ap (λ r. after r (stores limits name v)) (taken_by (value_of v name) elements takes)
-
-pub elements_err : (limits : Limits) (v : Variables) (name more : List ℕ) (elements : List (List ℕ)) → IsValue TakesElements (value_of v name) → more ≡ spaced elements
-    → (why : Interrupt) → FailsSo why (lengthens limits name more v) → FailsSo why (adds_elements limits name elements v)
-elements_err limits v name more elements takes is why e =
-    subst (FailsSo why) (ap (λ t. lengthens limits name t v) is ∙ sym (elements_taken limits v name elements takes)) e
 
 -- ---- elements that pass a limit by themselves
 

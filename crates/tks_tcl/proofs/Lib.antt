@@ -7,3 +7,6 @@ pub mod Listing
 pub mod Erring
 pub mod Framing
 pub mod Added
+pub mod Leaving
+pub mod Integers
+pub mod Answering

@@ -1,5 +1,5 @@
 -- Texts that are put behind values (append(n), lappend(n)), in the parts that the code has.
-use Rattle.std.specs.Prelude.{ℕ, Bool, true, false, if◌then◌else◌, List, [], ◌++◌, ◌+◌, nat_le, Result, Ok, Err}
+use Rattle.std.specs.Prelude.{ℕ, if◌then◌else◌, List, [], ◌++◌, length, ◌+◌, nat_le, Option, Some, None, Result, Ok, Err}
 use Rattle.tks_text.specs.declared.fault.ScriptFault.{ScriptFault}
 use Rattle.tks_text.specs.declared.limits.Limits.{Limits}
 use Rattle.tks_list.specs.Quoting.{joined}
@@ -9,13 +9,14 @@ use Rattle.tks_tcl.specs.Room.{room_of}
 use Rattle.tks_tcl.specs.Words.{list_in}
 use Rattle.tks_tcl.specs.Variables.{Changed, value_in, value_or, is_missing, appended, list_appended, stores}
 
--- whether there is a value; an error where it isn't just missing
-abbrev pub is_told : Result (List ℕ) ScriptFault → Result Bool Cause
-is_told (Ok value) = Ok true
-is_told (Err fault) = if is_missing fault.number then Ok false else Err (Fault fault)
+-- how long a value is, or none where it is missing; an error where it isn't just missing
+abbrev pub len_told : Result (List ℕ) ScriptFault → Result (Option ℕ) Cause
+len_told (Ok value) = Ok (Some (length value))
+len_told (Err fault) = if is_missing fault.number then Ok None else Err (Fault fault)
 
-abbrev pub has_value : Variables → List ℕ → Result Bool Cause
-has_value variables name = is_told (value_of variables name)
+-- how long the value of a variable or an element is, or none where it is missing
+abbrev pub value_len : Variables → List ℕ → Result (Option ℕ) Cause
+value_len variables name = len_told (value_of variables name)
 
 -- the value of a variable, which must be there, and a text behind it
 abbrev pub lengthened : Variables → List ℕ → List ℕ → Result (List ℕ) Cause

@@ -85,9 +85,13 @@ abbrev pub llength_does : List ℕ → List (List ℕ) → Result (List ℕ) Cau
 llength_does command (list ∷ []) = after (list_in list) (λ l. Ok (decimal (length l)))
 llength_does command words = wrong_words command
 
+-- the member of a list at the index that a text spells
+abbrev pub indexed : List (List ℕ) → List ℕ → Result (List ℕ) Cause
+indexed l i = after (index_in i) (λ index. Ok (first_or_empty (range index index l)))
+
 -- lindex l i
 abbrev pub lindex_does : List ℕ → List (List ℕ) → Result (List ℕ) Cause
-lindex_does command (list ∷ i ∷ []) = after (list_in list) (λ l. after (index_in i) (λ index. Ok (first_or_empty (range index index l))))
+lindex_does command (list ∷ i ∷ []) = after (list_in list) (λ l. indexed l i)
 lindex_does command words = wrong_words command
 
 -- lrange l a b

@@ -1,5 +1,5 @@
 -- What the code's answers say of the definitions.
-use Rattle.std.specs.Prelude.{◌≡◌, ℕ, true, false, List, Option, Some, None, Result, Ok, Err}
+use Rattle.std.specs.Prelude.{◌≡◌, ℕ, true, false, List, [], Option, Some, None, Result, Ok, Err}
 use Rattle.tks_text.specs.Fault.{fault_text}
 use Rattle.tks_text.specs.declared.fault.ScriptFault.{ScriptFault}
 use Rattle.tks_text.specs.declared.limits.Limits.{Limits}
@@ -7,9 +7,12 @@ use Rattle.tks_text.specs.declared.fault.Failure.{Failure}
 use Rattle.tks_text.specs.declared.fault.Failure.TheVariants as failure
 use Rattle.tks_vars.specs.Variables.{Variables}
 use Rattle.tks_tcl.specs.Cause.{Cause, Fault, OverLimit, fits}
-use Rattle.tks_tcl.specs.Plain.{Answer, Answers, PassesLimit}
+use Rattle.tks_tcl.specs.Growing.{lengthens, adds_elements}
+use Rattle.tks_tcl.specs.Plain.{Answer, Answers, PassesLimit, Ending}
 use Rattle.tks_tcl.specs.declared.interrupt.Interrupt.{Interrupt}
 use Rattle.tks_tcl.specs.declared.interrupt.Interrupt.TheVariants as interrupt
+use Rattle.tks_tcl.specs.declared.quiet.Quiet.{Quiet}
+use Rattle.tks_tcl.specs.declared.quiet.Quiet.TheVariants as quiet
 use Rattle.tks_tcl.specs.declared.stop.Stop.{Stop}
 use Rattle.tks_tcl.specs.declared.stop.Stop.TheVariants as stop
 
@@ -37,6 +40,11 @@ ErrsSo limits fault (Err stop.TooLarge) = fits limits (fault_text fault) ≡ fal
 ErrsSo limits fault (Err stop.NoMemory) = Unit {0}
 ErrsSo limits fault (Err why) = ⊥
 
+-- the text that an answer tells
+abbrev pub text_of : Option Answer → List ℕ
+text_of (Some (Answers code text new)) = text
+text_of answer = []
+
 -- what was answered, from old variables to new ones, is the definition's; want of memory may come anywhere
 abbrev pub AnswersSo : Result (Option (ℕ × List ℕ)) Stop → Variables → Variables → Option Answer → Type 0
 AnswersSo (Ok None) old new answer = (answer ≡ None) × (new ≡ old)
@@ -44,6 +52,30 @@ AnswersSo (Ok (Some x)) old new answer = answer ≡ Some (Answers x.0 x.1 new)
 AnswersSo (Err stop.TooLarge) old new answer = (answer ≡ Some PassesLimit) × (new ≡ old)
 AnswersSo (Err stop.NoMemory) old new answer = new ≡ old
 AnswersSo (Err why) old new answer = ⊥
+
+-- the same, where the text of an end by code 0 needn't be told
+abbrev pub QuietlySo : Result (Option Quiet) Stop → Variables → Variables → Option Answer → Type 0
+QuietlySo (Ok None) old new answer = AnswersSo (Ok None) old new answer
+QuietlySo (Ok (Some quiet.Done)) old new answer = answer ≡ Some (Answers 0 (text_of answer) new)
+QuietlySo (Ok (Some (quiet.Ended code text))) old new answer = AnswersSo (Ok (Some (code, text))) old new answer
+QuietlySo (Err why) old new answer = AnswersSo (Err why) old new answer
+
+-- to put this text behind the value of a variable is to put these elements behind its list; none where that isn't known
+abbrev pub JoinsSo : Result (Option (List ℕ)) Interrupt → Limits → List ℕ → List (List ℕ) → Variables → Type 0
+JoinsSo (Ok None) limits name elements variables = Unit {0}
+JoinsSo (Ok (Some more)) limits name elements variables = adds_elements limits name elements variables ≡ lengthens limits name more variables
+JoinsSo (Err why) limits name elements variables = FailsSo why (adds_elements limits name elements variables)
+
+-- the text that a command ended with
+abbrev pub ended_text : Result Ending Cause → List ℕ
+ended_text (Ok x) = x.0.1
+ended_text (Err cause) = []
+
+-- what a command came to, from whatever variables to these new ones, where the text of an end by code 0 needn't be told
+abbrev pub EndsSo : Result Quiet Interrupt → Variables → Result Ending Cause → Type 0
+EndsSo (Ok quiet.Done) new given = given ≡ Ok ((0, ended_text given), new)
+EndsSo (Ok (quiet.Ended code text)) new given = given ≡ Ok ((code, text), new)
+EndsSo (Err why) new given = FailsSo why given
 
 -- the interrupt that a failure comes to
 abbrev pub interrupt_of : Failure → Interrupt

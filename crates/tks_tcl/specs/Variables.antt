@@ -1,5 +1,5 @@
 -- The commands on variables (set(n), unset(n), incr(n), append(n), lappend(n), global(n), info(n)).
-use Rattle.std.specs.Prelude.{ℕ, Bool, true, false, ◌&&◌, nat_lt, if◌then◌else◌, List, [], ◌∷◌, ◌++◌, codes, ℤ, ◌+ℤ◌, Option, Some, None, Result, Ok, Err}
+use Rattle.std.specs.Prelude.{ℕ, Bool, true, false, ◌&&◌, nat_lt, if◌then◌else◌, List, [], ◌∷◌, ◌++◌, codes, ℤ, pos, ◌+ℤ◌, Option, Some, None, Result, Ok, Err}
 use Rattle.std.specs.Fmt.{signed_decimal}
 use Rattle.tks_text.specs.Text.{same_text}
 use Rattle.tks_text.specs.Integer.{fits_i64}
@@ -31,6 +31,20 @@ with_default default (Err fault) = if is_missing fault.number then Ok default el
 -- the value of a variable, and a default of it where it is missing
 abbrev pub value_or : List ℕ → Variables → List ℕ → Result (List ℕ) Cause
 value_or default variables name = with_default default (value_of variables name)
+
+-- the integer in a value, or none where it is missing
+abbrev pub integer_told : Result (List ℕ) ScriptFault → Result (Option ℤ) Cause
+integer_told (Ok value) = after (integer_in value) (λ z. Ok (Some z))
+integer_told (Err fault) = if is_missing fault.number then Ok None else Err (Fault fault)
+
+-- the integer in a variable, or none where it is missing
+abbrev pub integer_there : Variables → List ℕ → Result (Option ℤ) Cause
+integer_there variables name = integer_told (value_of variables name)
+
+-- an integer, or 0 where it is missing
+abbrev pub or_zero : Option ℤ → ℤ
+or_zero None = pos 0
+or_zero (Some z) = z
 
 -- the integer in a variable, or 0 where it is missing
 abbrev pub integer_or_zero : Variables → List ℕ → Result ℤ Cause
@@ -68,6 +82,10 @@ without_all (name ∷ names) variables = after (value_or_fault (without variable
 -- what a command answers, and the variables that it leaves
 abbrev pub Changed : Type 0
 Changed = List ℕ × Variables
+
+-- the variables that a command leaves, whatever it answers
+abbrev pub left : Result Changed Cause → Result Variables Cause
+left changed = after changed (λ x. Ok x.1)
 
 -- an empty answer
 abbrev pub silent : Variables → Result Changed Cause

@@ -12,8 +12,8 @@ use std::alloc::Global;
 use tks_text::{Limits, ScriptFault, Txt};
 use tks_vars::Vars;
 
-// What a command comes to, given its first word and the others.
-fn run_command(
+/// What a command comes to, given its first word and the others.
+pub(crate) fn run_command(
     alloc: Global,
     lists: &mut ListTable,
     command: Command,
@@ -45,8 +45,8 @@ fn run_command(
     }
 }
 
-// The end by an error.
-fn err(alloc: Global, fault: &ScriptFault, limits: &Limits) -> Result<(u8, Txt), Stop>
+/// The end by an error.
+pub(crate) fn err(alloc: Global, fault: &ScriptFault, limits: &Limits) -> Result<(u8, Txt), Stop>
     ensures { ErrsSo limits.now fault.now result }
 {
     let text = fault.text(alloc)?;

@@ -1,4 +1,4 @@
-ghost use Rattle.std.specs.Prelude.{◌≡◌, option_map};
+ghost use Rattle.std.specs.Prelude.{◌≡◌, if◌then◌else◌, Some, None, option_map};
 ghost use Rattle.tks_text.specs.Text.{same_text};
 ghost use Rattle.tks_tcl.specs.Codes.{code_named};
 ghost use Rattle.tks_tcl.specs.Lists.{list_named};
@@ -31,20 +31,30 @@ pub fn is_word(name: &[u8], word: &[u8]) -> bool
     }
 }
 
+// What a word stands for, where a name is this word.
+fn if_word<T: Drop>(name: &[u8], word: &[u8], meant: T) -> Option<T>
+    ensures { result ≡ (if same_text name.now word.now then Some meant else None) }
+{
+    if is_word(name, word) {
+        Some(meant)
+    } else {
+        None
+    }
+}
+
 // The command with a code of its own, of this name.
 fn code_named(name: &[u8]) -> Option<CodeCommand>
     ensures { option_map code_command_of result ≡ code_named name.now }
 {
-    if is_word(name, b"break") {
-        Some(CodeCommand::Break)
-    } else if is_word(name, b"continue") {
-        Some(CodeCommand::Continue)
-    } else if is_word(name, b"error") {
-        Some(CodeCommand::Error)
-    } else if is_word(name, b"return") {
-        Some(CodeCommand::Return)
-    } else {
-        None
+    let [first, ..] = name else {
+        return None;
+    };
+    match *first {
+        b'b' => if_word(name, b"break", CodeCommand::Break),
+        b'c' => if_word(name, b"continue", CodeCommand::Continue),
+        b'e' => if_word(name, b"error", CodeCommand::Error),
+        b'r' => if_word(name, b"return", CodeCommand::Return),
+        _ => None,
     }
 }
 
@@ -52,24 +62,27 @@ fn code_named(name: &[u8]) -> Option<CodeCommand>
 fn list_named(name: &[u8]) -> Option<ListCommand>
     ensures { option_map list_command_of result ≡ list_named name.now }
 {
-    if is_word(name, b"concat") {
-        Some(ListCommand::Concat)
-    } else if is_word(name, b"join") {
-        Some(ListCommand::Join)
-    } else if is_word(name, b"lindex") {
-        Some(ListCommand::Lindex)
-    } else if is_word(name, b"list") {
-        Some(ListCommand::List)
-    } else if is_word(name, b"llength") {
-        Some(ListCommand::Llength)
-    } else if is_word(name, b"lrange") {
-        Some(ListCommand::Lrange)
-    } else if is_word(name, b"lsearch") {
-        Some(ListCommand::Lsearch)
-    } else if is_word(name, b"split") {
-        Some(ListCommand::Split)
-    } else {
-        None
+    let [first, ..] = name else {
+        return None;
+    };
+    match *first {
+        b'c' => if_word(name, b"concat", ListCommand::Concat),
+        b'j' => if_word(name, b"join", ListCommand::Join),
+        b'l' => {
+            if is_word(name, b"lindex") {
+                Some(ListCommand::Lindex)
+            } else if is_word(name, b"llength") {
+                Some(ListCommand::Llength)
+            } else if is_word(name, b"list") {
+                Some(ListCommand::List)
+            } else if is_word(name, b"lrange") {
+                Some(ListCommand::Lrange)
+            } else {
+                if_word(name, b"lsearch", ListCommand::Lsearch)
+            }
+        }
+        b's' => if_word(name, b"split", ListCommand::Split),
+        _ => None,
     }
 }
 
@@ -77,27 +90,28 @@ fn list_named(name: &[u8]) -> Option<ListCommand>
 fn variable_named(name: &[u8]) -> Option<VariableCommand>
     ensures { option_map variable_command_of result ≡ variable_named name.now }
 {
-    if is_word(name, b"append") {
-        Some(VariableCommand::Append)
-    } else if is_word(name, b"global") {
-        Some(VariableCommand::Global)
-    } else if is_word(name, b"incr") {
-        Some(VariableCommand::Incr)
-    } else if is_word(name, b"info") {
-        Some(VariableCommand::Info)
-    } else if is_word(name, b"lappend") {
-        Some(VariableCommand::Lappend)
-    } else if is_word(name, b"set") {
-        Some(VariableCommand::Set)
-    } else if is_word(name, b"unset") {
-        Some(VariableCommand::Unset)
-    } else {
-        None
+    let [first, ..] = name else {
+        return None;
+    };
+    match *first {
+        b'a' => if_word(name, b"append", VariableCommand::Append),
+        b'g' => if_word(name, b"global", VariableCommand::Global),
+        b'i' => {
+            if is_word(name, b"incr") {
+                Some(VariableCommand::Incr)
+            } else {
+                if_word(name, b"info", VariableCommand::Info)
+            }
+        }
+        b'l' => if_word(name, b"lappend", VariableCommand::Lappend),
+        b's' => if_word(name, b"set", VariableCommand::Set),
+        b'u' => if_word(name, b"unset", VariableCommand::Unset),
+        _ => None,
     }
 }
 
 impl Command {
-    /// The command of this name that runs no script.
+    /// The command of this name that runs no script. The first byte of a name leaves few words that it may be.
     pub fn named(name: &Txt) -> Option<Command>
         ensures { option_map command_of result ≡ command_named name.now }
     {

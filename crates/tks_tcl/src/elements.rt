@@ -1,22 +1,31 @@
 //! What commands make of the elements of a list that was read.
-ghost use Rattle.std.specs.Prelude.{◌≡◌, ◌++◌, drop, nat_le, IfOk, OnOk};
+ghost use Rattle.std.specs.Prelude.{◌≡◌, ◌++◌, drop, length, nat_le, IfOk, OnOk};
+ghost use Rattle.std.specs.Fmt.{decimal};
 ghost use Rattle.tks_list.specs.Quoting.{joined};
 ghost use Rattle.tks_tcl.specs.Cause.{fits, within};
 ghost use Rattle.tks_tcl.specs.Index.{range};
-ghost use Rattle.tks_tcl.specs.Lists.{first_or_empty, separated, joined_by};
+ghost use Rattle.tks_tcl.specs.Lists.{first_or_empty, indexed, separated, joined_by};
 ghost use Rattle.tks_tcl.specs.Meets.{GivesSo};
 ghost use Rattle.tks_tcl.specs.Room.{room_of};
 ghost use Rattle.tks_tcl.specs.View.{index_of};
 
-use crate::index::{Index, bounds};
+use crate::index::{Index, bounds, index_in};
 use crate::interrupt::Interrupt;
 use crate::room::room_behind;
+use crate::words::count_text;
 use std::alloc::{AllocError, Global};
 use tks_list::Elements;
 use tks_text::{Limits, Txt};
 
-/// The element at an index, or the empty text where there is none.
-pub fn element_at(alloc: Global, list: &Elements, index: Index) -> Result<Txt, AllocError>
+/// How many elements there are: what `llength` answers of a text that splits into this list.
+pub fn llength_of(alloc: Global, list: &Elements) -> Result<Txt, AllocError>
+    ensures { IfOk result (λ t. t ≡ decimal (length list.now)) }
+{
+    count_text(alloc, list.len())
+}
+
+// The element at an index, or the empty text where there is none.
+fn element_at(alloc: Global, list: &Elements, index: Index) -> Result<Txt, AllocError>
     ensures { IfOk result (λ t. t ≡ first_or_empty (range (index_of index) (index_of index) list.now)) }
 {
     let (front, behind) = bounds(list.len(), index, index);
@@ -24,6 +33,14 @@ pub fn element_at(alloc: Global, list: &Elements, index: Index) -> Result<Txt, A
         return Ok(Txt::new(alloc));
     }
     Txt::from_text(alloc, list.at(front))
+}
+
+/// What `lindex` answers of a text that splits into this list, and this index.
+pub fn lindex_of(alloc: Global, list: &Elements, index: &Txt) -> Result<Txt, Interrupt>
+    ensures { GivesSo (λ t. t) result (indexed list.now index.now) }
+{
+    let index = index_in(alloc, index)?;
+    Ok(element_at(alloc, list, index)?)
 }
 
 /// The text of a list of those from one index to another.

@@ -1,28 +1,30 @@
 //! Values that grow: texts and elements are put behind them.
-ghost use Rattle.std.specs.Prelude.{◌≡◌, ◌++◌, IfOk, OnOk, OnErr};
+ghost use Rattle.std.specs.Prelude.{◌≡◌, ◌++◌, length, IfOk, OnOk, OnErr};
+ghost use Rattle.tks_vars.specs.Meets.{IsValue};
+ghost use Rattle.tks_vars.specs.Variables.{value_of};
 ghost use Rattle.tks_tcl.specs.Cause.{within};
-ghost use Rattle.tks_tcl.specs.Meets.{GivesSo};
-ghost use Rattle.tks_tcl.specs.Variables.{flat};
-ghost use Rattle.tks_tcl.specs.Growing.{has_value, lengthened, lengthens, adds_texts, list_with, adds_elements};
+ghost use Rattle.tks_tcl.specs.Meets.{GivesSo, JoinsSo};
+ghost use Rattle.tks_tcl.specs.Variables.{flat, left};
+ghost use Rattle.tks_tcl.specs.Growing.{value_len, lengthened, lengthens, adds_texts, list_with, adds_elements};
 
 use crate::interrupt::{Interrupt, fits};
-use crate::room::have_room;
-use crate::variables::{is_missing, may_grow, store, store_list, value_in, value_or};
+use crate::room::{have_room, room_behind};
+use crate::variables::{is_missing, store, store_list, store_quietly, value_in, value_or};
 use crate::words::list_in;
 use std::alloc::{AllocError, Global};
 use tks_list::{ListText, Suffix};
 use tks_text::{Failure, Limits, Seq, Txt};
 use tks_vars::Vars;
 
-// Whether a variable or an element has a value.
-fn has_value(variables: &Vars, name: &Txt) -> Result<bool, Interrupt>
-    ensures { GivesSo (λ b. b) result (has_value variables.now name.now) }
+// How long the value of a variable or an element is, where it isn't missing.
+fn value_len(variables: &Vars, name: &Txt) -> Result<Option<usize>, Interrupt>
+    ensures { GivesSo (λ n. n) result (value_len variables.now name.now) }
 {
     match variables.get(name) {
-        Ok(_) => Ok(true),
+        Ok(value) => Ok(Some(value.len())),
         Err(Failure::Script(fault)) => {
             if is_missing(fault.number) {
-                Ok(false)
+                Ok(None)
             } else {
                 Err(Interrupt::Script(fault))
             }
@@ -40,7 +42,41 @@ fn lengthened(variables: &Vars, name: &Txt, more: &Suffix) -> Result<Txt, Interr
     Ok(value)
 }
 
-// Puts a text behind the value of a variable or an element. The new value is answered.
+// Puts a text behind the value of a variable or an element, which has so many bytes.
+fn put_behind(
+    variables: &mut Vars,
+    name: &Txt,
+    len: usize,
+    more: &Suffix,
+    limits: &Limits,
+) -> Result<(), Interrupt>
+    requires { IsValue (λ value. length value ≡ len) (value_of variables.old name.now) }
+    ensures value { GivesSo (λ _. variables.new) result (left (lengthens limits.now name.now more.now variables.old)) }
+    ensures err { OnErr result (variables.new ≡ variables.old) }
+{
+    if room_behind(limits.text as usize, len, more.as_text().len()).is_none() {
+        return Err(Interrupt::TooLarge);
+    }
+    variables.append(name, more)?;
+    Ok(())
+}
+
+// Puts a text behind the value of a variable or an element.
+fn lengthen_quietly(
+    variables: &mut Vars,
+    name: &Txt,
+    more: &Suffix,
+    limits: &Limits,
+) -> Result<(), Interrupt>
+    ensures value { GivesSo (λ _. variables.new) result (left (lengthens limits.now name.now more.now variables.old)) }
+    ensures err { OnErr result (variables.new ≡ variables.old) }
+{
+    let len = variables.get(name)?.len();
+    put_behind(variables, name, len, more, limits)?;
+    Ok(())
+}
+
+// The same. The new value is answered.
 fn lengthen(
     variables: &mut Vars,
     name: &Txt,
@@ -52,9 +88,6 @@ fn lengthen(
 {
     let value = lengthened(variables, name, more)?;
     if !fits(&value, limits) {
-        return Err(Interrupt::TooLarge);
-    }
-    if !may_grow(variables.grown_by_value(name), limits) {
         return Err(Interrupt::TooLarge);
     }
     variables.append(name, more)?;
@@ -102,15 +135,35 @@ pub fn add_texts(
     ensures value { GivesSo (λ t. (t, variables.new)) result (adds_texts limits.now name.now texts.now variables.old) }
     ensures err { OnErr result (variables.new ≡ variables.old) }
 {
-    let is_there = has_value(variables, name)?;
+    let len = value_len(variables, name)?;
     let more = flat_within(alloc, texts, limits)?;
-    if is_there {
+    if len.is_some() {
         let more = Suffix::of(more);
         let value = lengthen(variables, name, &more, limits)?;
         return Ok(value);
     }
     let value = store(variables, name, more, limits)?;
     Ok(value)
+}
+
+/// The same, where nobody asks for the answer.
+pub fn add_texts_quietly(
+    alloc: Global,
+    variables: &mut Vars,
+    name: &Txt,
+    texts: &[Txt],
+    limits: &Limits,
+) -> Result<(), Interrupt>
+    ensures value { GivesSo (λ _. variables.new) result (left (adds_texts limits.now name.now texts.now variables.old)) }
+    ensures err { OnErr result (variables.new ≡ variables.old) }
+{
+    let len = value_len(variables, name)?;
+    let more = flat_within(alloc, texts, limits)?;
+    match len {
+        Some(len) => put_behind(variables, name, len, &Suffix::of(more), limits)?,
+        None => store_quietly(variables, name, ListText::of(more), limits)?,
+    }
+    Ok(())
 }
 
 // Adds elements at the end of a list.
@@ -141,6 +194,26 @@ fn list_with(
     Ok(ListText::of_list(alloc, list.as_slice())?)
 }
 
+// Elements as they are put behind a value that is known to take them so, where they alone pass no limit.
+fn spaced_for(
+    alloc: Global,
+    variables: &Vars,
+    name: &Txt,
+    elements: &[Txt],
+    limits: &Limits,
+) -> Result<Option<Suffix>, Interrupt>
+    ensures { JoinsSo result limits.now name.now elements.now variables.now }
+{
+    if !variables.takes_elements(name) {
+        return Ok(None);
+    }
+    if !have_room(elements, 1, limits.text as usize) {
+        return Err(Interrupt::TooLarge);
+    }
+    let more = Suffix::of_elements(alloc, elements)?;
+    Ok(Some(more))
+}
+
 /// Puts elements behind the list in a variable or an element, where a missing one counts as empty. The new value is answered.
 pub fn add_elements(
     alloc: Global,
@@ -152,15 +225,31 @@ pub fn add_elements(
     ensures value { GivesSo (λ t. (t, variables.new)) result (adds_elements limits.now name.now elements.now variables.old) }
     ensures err { OnErr result (variables.new ≡ variables.old) }
 {
-    if variables.takes_elements(name) {
-        if !have_room(elements, 1, limits.text as usize) {
-            return Err(Interrupt::TooLarge);
-        }
-        let more = Suffix::of_elements(alloc, elements)?;
-        let value = lengthen(variables, name, &more, limits)?;
+    let Some(more) = spaced_for(alloc, variables, name, elements, limits)? else {
+        let list = list_with(alloc, variables, name, elements, limits)?;
+        let value = store_list(variables, name, list, limits)?;
         return Ok(value);
-    }
-    let list = list_with(alloc, variables, name, elements, limits)?;
-    let value = store_list(variables, name, list, limits)?;
+    };
+    let value = lengthen(variables, name, &more, limits)?;
     Ok(value)
+}
+
+/// The same, where nobody asks for the answer.
+pub fn add_elements_quietly(
+    alloc: Global,
+    variables: &mut Vars,
+    name: &Txt,
+    elements: &[Txt],
+    limits: &Limits,
+) -> Result<(), Interrupt>
+    ensures value { GivesSo (λ _. variables.new) result (left (adds_elements limits.now name.now elements.now variables.old)) }
+    ensures err { OnErr result (variables.new ≡ variables.old) }
+{
+    let Some(more) = spaced_for(alloc, variables, name, elements, limits)? else {
+        let list = list_with(alloc, variables, name, elements, limits)?;
+        store_quietly(variables, name, list, limits)?;
+        return Ok(());
+    };
+    lengthen_quietly(variables, name, &more, limits)?;
+    Ok(())
 }

@@ -1,6 +1,7 @@
 //! The commands of scripts that run no script.
 #![tactic(auto)]
 
+mod answers;
 mod calls;
 mod codes;
 mod command;
@@ -10,6 +11,7 @@ mod index;
 mod interrupt;
 mod laws;
 mod lists;
+mod quiet;
 mod room;
 mod stop;
 mod strings;
@@ -17,6 +19,7 @@ mod table;
 mod variables;
 mod words;
 
+pub use answers::{lindex_answer, llength_answer};
 pub use calls::plain;
 pub use command::{is_built_in, is_word};
 pub use interrupt::{Interrupt, error_about, fits, within, wrong_words};
@@ -25,6 +28,7 @@ pub use laws::{
     errors_change_nothing, fields_join_back, wider_limits_keep_answers,
 };
 pub use lists::{concatenated, concatenated_within, joined_within};
+pub use quiet::{Quiet, plain_quietly};
 pub use stop::Stop;
 pub use table::ListTable;
 pub use variables::{is_missing, store, store_global};

@@ -8,7 +8,7 @@ ghost use Rattle.tks_list.specs.Quoting.{joined};
 ghost use Rattle.tks_tcl.specs.Lists.{place_text, separated, joined_by, without_end, trimmed, concatenated, is_among, fields, split_at, llength_does, lindex_does, lrange_does, searched, lsearch_does, join_does, split_does};
 ghost use Rattle.tks_tcl.specs.View.{list_command_of};
 
-use crate::elements::{element_at, elements_joined, joined_range};
+use crate::elements::{elements_joined, joined_range, lindex_of, llength_of};
 use crate::index::index_in;
 use crate::interrupt::{Interrupt, error_about, within, wrong_words};
 use crate::room::have_room;
@@ -79,7 +79,7 @@ fn run_llength(
     match words {
         [list] => {
             let list = lists.list(alloc, list)?;
-            Ok(count_text(alloc, list.get().len())?)
+            Ok(llength_of(alloc, list.get())?)
         }
         _ => Err(wrong_words(command)),
     }
@@ -98,8 +98,7 @@ fn run_lindex(
     match words {
         [list, index] => {
             let list = lists.list(alloc, list)?;
-            let index = index_in(alloc, index)?;
-            Ok(element_at(alloc, list.get(), index)?)
+            lindex_of(alloc, list.get(), index)
         }
         _ => Err(wrong_words(command)),
     }

@@ -1,6 +1,8 @@
-ghost use Rattle.std.specs.Prelude.{◌≡◌, ◌+ℤ◌, codes, OnErr};
+ghost use Rattle.std.specs.Prelude.{◌≡◌, ◌+ℤ◌, codes, Ok, IsOk, OnErr};
+ghost use Rattle.tks_vars.specs.Variables.{value_of};
+ghost use Rattle.tks_tcl.specs.Cause.{after};
 ghost use Rattle.tks_tcl.specs.Meets.{GivesSo};
-ghost use Rattle.tks_tcl.specs.Variables.{value_in, is_missing, value_or, integer_or_zero, decimal_within, increased, without_all, may_grow, stores, stores_global, link_within, with_global_links, set_does, unset_does, incr_does, append_does, lappend_does, global_does, info_does};
+ghost use Rattle.tks_tcl.specs.Variables.{value_in, is_missing, value_or, integer_there, or_zero, integer_or_zero, decimal_within, increased, without_all, may_grow, stores, stores_global, link_within, with_global_links, left, set_does, unset_does, incr_does, append_does, lappend_does, global_does, info_does};
 ghost use Rattle.tks_tcl.specs.View.{variable_command_of};
 
 use crate::growing::{add_elements, add_texts};
@@ -106,6 +108,7 @@ pub fn store(
 }
 
 /// The same, with a text that may be known to be spelled as lists are.
+#[tactic(auto, using(crate::proofs::Leaving::stored))]
 pub(crate) fn store_list(
     variables: &mut Vars,
     name: &Txt,
@@ -115,15 +118,47 @@ pub(crate) fn store_list(
     ensures value { GivesSo (λ t. (t, variables.new)) result (stores limits.now name.now variables.old value) }
     ensures err { OnErr result (variables.new ≡ variables.old) }
 {
+    let answer = value.as_text().try_clone()?;
+    store_quietly(variables, name, value, limits)?;
+    Ok(answer)
+}
+
+/// The same, where nobody asks for the answer.
+pub(crate) fn store_quietly(
+    variables: &mut Vars,
+    name: &Txt,
+    value: ListText,
+    limits: &Limits,
+) -> Result<(), Interrupt>
+    ensures value { GivesSo (λ _. variables.new) result (left (stores limits.now name.now variables.old value)) }
+    ensures err { OnErr result (variables.new ≡ variables.old) }
+{
     if !fits(value.as_text(), limits) {
         return Err(Interrupt::TooLarge);
     }
     if !may_grow(variables.grown_by_value(name), limits) {
         return Err(Interrupt::TooLarge);
     }
-    let answer = value.as_text().try_clone()?;
     variables.set_list(name, value)?;
-    Ok(answer)
+    Ok(())
+}
+
+// Gives a name that has a value another one.
+fn replace_quietly(
+    variables: &mut Vars,
+    name: &Txt,
+    value: Txt,
+    limits: &Limits,
+) -> Result<(), Interrupt>
+    requires { IsOk (value_of variables.old name.now) }
+    ensures value { GivesSo (λ _. variables.new) result (left (stores limits.now name.now variables.old value)) }
+    ensures err { OnErr result (variables.new ≡ variables.old) }
+{
+    if !fits(&value, limits) {
+        return Err(Interrupt::TooLarge);
+    }
+    variables.set_list(name, ListText::of(value))?;
+    Ok(())
 }
 
 /// The same as `store`, of a global, whatever the present frame is.
@@ -213,20 +248,30 @@ fn run_unset(
     Ok(Txt::new(alloc))
 }
 
-// The integer in a variable, or 0 where it is missing.
-fn integer_or_zero(variables: &Vars, name: &Txt) -> Result<i64, Interrupt>
-    ensures { GivesSo (λ z. z) result (integer_or_zero variables.now name.now) }
+// The integer in a variable, where it isn't missing.
+fn integer_there(variables: &Vars, name: &Txt) -> Result<Option<i64>, Interrupt>
+    ensures { GivesSo (λ z. z) result (integer_there variables.now name.now) }
 {
     match variables.get(name) {
-        Ok(value) => integer_in(value),
+        Ok(value) => Ok(Some(integer_in(value)?)),
         Err(Failure::Script(fault)) => {
             if is_missing(fault.number) {
-                Ok(0)
+                Ok(None)
             } else {
                 Err(Interrupt::Script(fault))
             }
         }
         Err(Failure::NoMemory) => Err(Interrupt::NoMemory),
+    }
+}
+
+// The integer in a variable, or 0 where it is missing.
+fn integer_or_zero(variables: &Vars, name: &Txt) -> Result<i64, Interrupt>
+    ensures { GivesSo (λ z. z) result (integer_or_zero variables.now name.now) }
+{
+    match integer_there(variables, name)? {
+        Some(integer) => Ok(integer),
+        None => Ok(0),
     }
 }
 
@@ -255,6 +300,64 @@ fn sum(alloc: Global, a: i64, b: i64) -> Result<Txt, Interrupt>
         Some(sum) => Ok(decimal_of(alloc, sum)?),
         None => Err(error(ErrorNumber::OutOfRange)),
     }
+}
+
+// Gives a name the sum of the integer that it has, 0 where it is missing, and another.
+fn store_sum_quietly(
+    alloc: Global,
+    variables: &mut Vars,
+    name: &Txt,
+    integer: Option<i64>,
+    amount: i64,
+    limits: &Limits,
+) -> Result<(), Interrupt>
+    requires { integer_there variables.old name.now ≡ Ok integer }
+    ensures value { GivesSo (λ _. variables.new) result (left (after (decimal_within (or_zero integer +ℤ amount)) (stores limits.now name.now variables.old))) }
+    ensures err { OnErr result (variables.new ≡ variables.old) }
+{
+    match integer {
+        Some(integer) => {
+            let value = sum(alloc, integer, amount)?;
+            replace_quietly(variables, name, value, limits)?;
+        }
+        None => {
+            let value = sum(alloc, 0, amount)?;
+            store_quietly(variables, name, ListText::of(value), limits)?;
+        }
+    }
+    Ok(())
+}
+
+/// Adds 1 to the integer in a variable, where a missing one counts as 0. Nobody asks for the answer.
+pub(crate) fn increase_quietly(
+    alloc: Global,
+    variables: &mut Vars,
+    name: &Txt,
+    limits: &Limits,
+) -> Result<(), Interrupt>
+    ensures value { GivesSo (λ _. variables.new) result (left (after (increased variables.old name.now (codes "1")) (stores limits.now name.now variables.old))) }
+    ensures err { OnErr result (variables.new ≡ variables.old) }
+{
+    let integer = integer_there(variables, name)?;
+    store_sum_quietly(alloc, variables, name, integer, 1, limits)?;
+    Ok(())
+}
+
+/// The same of any amount.
+pub(crate) fn increase_by_quietly(
+    alloc: Global,
+    variables: &mut Vars,
+    name: &Txt,
+    amount: &Txt,
+    limits: &Limits,
+) -> Result<(), Interrupt>
+    ensures value { GivesSo (λ _. variables.new) result (left (after (increased variables.old name.now amount.now) (stores limits.now name.now variables.old))) }
+    ensures err { OnErr result (variables.new ≡ variables.old) }
+{
+    let integer = integer_there(variables, name)?;
+    let amount = integer_in(amount)?;
+    store_sum_quietly(alloc, variables, name, integer, amount, limits)?;
+    Ok(())
 }
 
 // incr name ?n?
