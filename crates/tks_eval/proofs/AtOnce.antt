@@ -1,11 +1,12 @@
 -- What is run at once comes to what evaluation says of it.
-use Rattle.std.proofs.Common.{◌≡◌, ◌==◌, ◌<◌, ◌-◌, ◌⊎◌, inl, inr, ℕ, zero, suc, false, List, [], ◌∷◌, Option, None, Some, IfSome, Result, Err, cond, rules, refl, sym, subst, ap, ◌∙◌, arith}
+use Rattle.std.proofs.Common.{◌≡◌, ◌==◌, ◌<◌, ◌-◌, ◌⊎◌, inl, inr, ℕ, Bool, zero, suc, true, false, List, [], ◌∷◌, Option, None, Some, IfSome, IfNone, Result, Ok, Err, cond, rules, refl, sym, subst, ap, ◌∙◌, arith}
 use Rattle.tks_text.specs.declared.limits.Limits.{Limits}
 use Rattle.tks_parse.specs.Tree.{Script, Words, no_command, command}
+use Rattle.tks_parse.specs.Reading.{script_of}
 use Rattle.tks_vars.specs.Variables.{Variables}
-use Rattle.tks_eval.specs.Outcome.{Outcome, End, Meaning, Next, Level, after, after_body}
+use Rattle.tks_eval.specs.Outcome.{Outcome, End, Meaning, Next, Level, Stopped, after, after_body, after_next}
 use Rattle.tks_eval.specs.Evaluation.{Loop, loop_does, each, words_do, commands_do, evaluate}
-use Rattle.tks_eval.specs.Machine.{resume, GoesSo, TurnsSo, TakesElement}
+use Rattle.tks_eval.specs.Machine.{text_told, EndsAs, resume, GoesSo, TurnsSo, TakesElement}
 use Rattle.tks_eval.specs.declared.frame.Ending.{Ending}
 use Rattle.tks_eval.specs.declared.loops.Turn.{Turn}
 use Rattle.tks_eval.specs.declared.halt.Halt.{Halt}
@@ -22,11 +23,61 @@ module _ {S : Type 0} where
       let some : (suc code == 0) ≡ false = search rules in
       ap (λ b. cond b (End 0 text state variables fuel) (End (suc code) text state variables fuel)) some
 
+  -- an outcome where nothing more follows
+  after_same : (outcome : Outcome S) → after outcome (λ text state variables fuel. End 0 text state variables fuel) ≡ outcome
+  after_same (Stopped why) = refl
+  after_same (End code text state variables fuel) = after_end code text state variables fuel
+
   -- behind a body that went well or was continued
   pub again : (code : ℕ) (text : List ℕ) (state : S) (variables : Variables) (fuel : ℕ) (next : Next S) → (code ≡ 0) ⊎ (code ≡ 4)
       → after_body (End code text state variables fuel) next ≡ next state variables fuel
   again code text state variables fuel next (inl h) = ap (λ k. after_body (End k text state variables fuel) next) h
   again code text state variables fuel next (inr h) = ap (λ k. after_body (End k text state variables fuel) next) h
+
+  -- what a loop does behind an end doesn't ask for the text of one by code 0
+  body_heard : (code : ℕ) (told text : List ℕ) (state : S) (variables : Variables) (fuel : ℕ) (next : Next S) → ((code ≡ 0 → ⊥) → told ≡ text)
+      → after_body (End code told state variables fuel) next ≡ after_body (End code text state variables fuel) next
+  body_heard zero told text state variables fuel next h = refl
+  body_heard (suc code) told text state variables fuel next h =
+      ap (λ t. after_body (End (suc code) t state variables fuel) next) (h (λ e. absurd (omega (arith, e))))
+
+  next_heard : (code : ℕ) (told text : List ℕ) (state : S) (variables : Variables) (fuel : ℕ) (next : Next S) → ((code ≡ 0 → ⊥) → told ≡ text)
+      → after_next (End code told state variables fuel) next ≡ after_next (End code text state variables fuel) next
+  next_heard zero told text state variables fuel next h = refl
+  next_heard (suc code) told text state variables fuel next h =
+      ap (λ t. after_next (End (suc code) t state variables fuel) next) (h (λ e. absurd (omega (arith, e))))
+
+  -- so it is the same whether that was asked for
+  pub body_ended : (asked : Bool) (whole : Outcome S) (end : Ending) (state : S) (variables : Variables) (fuel : ℕ) (next : Next S) → EndsAs asked whole end state variables fuel
+      → after_body whole next ≡ after_body (End end.code end.text state variables fuel) next
+  body_ended true whole end state variables fuel next h = ap (λ o. after_body o next) h
+  body_ended false whole end state variables fuel next h =
+      ap (λ o. after_body o next) h.0 ∙ body_heard end.code (text_told whole) end.text state variables fuel next h.1
+
+  pub next_ended : (asked : Bool) (whole : Outcome S) (end : Ending) (state : S) (variables : Variables) (fuel : ℕ) (next : Next S) → EndsAs asked whole end state variables fuel
+      → after_next whole next ≡ after_next (End end.code end.text state variables fuel) next
+  next_ended true whole end state variables fuel next h = ap (λ o. after_next o next) h
+  next_ended false whole end state variables fuel next h =
+      ap (λ o. after_next o next) h.0 ∙ next_heard end.code (text_told whole) end.text state variables fuel next h.1
+
+  -- an end that is told whole, whether that was asked for
+  pub ends_as : (asked : Bool) (whole : Outcome S) (end : Ending) (state : S) (variables : Variables) (fuel : ℕ) → whole ≡ End end.code end.text state variables fuel
+      → EndsAs asked whole end state variables fuel
+  ends_as true whole end state variables fuel h = h
+  ends_as false whole end state variables fuel h =
+      let same : text_told whole ≡ end.text = ap text_told h in
+      (h ∙ ap (λ t. End end.code t state variables fuel) (sym same), λ other. same)
+
+  -- what a turn of a `foreach` took, whether the text of its body's end was asked for
+  pub element_ran : (asked : Bool) (inner : Level S) (limits : Limits) (script : Script) (name text : List ℕ) (items : List (List ℕ)) (result : Option Ending) (state : S) (variables : Variables) (fuel : ℕ) (variables' : Variables) (fuel' : ℕ)
+      → script_of text ≡ script
+      → IfSome result (λ end. EndsAs asked (inner script state variables fuel) end state variables' fuel') → IfNone result ((variables' ≡ variables) × (fuel' ≡ fuel))
+      → TakesElement inner name text items limits (after_body (inner (script_of text) state variables fuel) (each limits inner name text items)) (Ok result) state variables' fuel'
+  element_ran asked inner limits script name text items None state variables fuel variables' fuel' is some none =
+      rw (none.0, none.1) refl
+  element_ran asked inner limits script name text items (Some end) state variables fuel variables' fuel' is some none =
+      ap (λ s. after_body (inner s state variables fuel) (each limits inner name text items)) is
+      ∙ body_ended asked (inner script state variables fuel) end state variables' fuel' (each limits inner name text items) some
 
 module _ {S : Type 0} (host : Meaning S) (limits : Limits) where
   -- a script that may be opened is its commands
@@ -37,22 +88,13 @@ module _ {S : Type 0} (host : Meaning S) (limits : Limits) where
       let less : n ≡ suc n - 1 = omega arith in
       ap (λ k. commands_do host limits (evaluate host limits k) script [] state variables fuel) less
 
-  -- the end of a script's only command is the script's
-  pub only_command : (left : ℕ) (words : Words) (state : S) (variables : Variables) (fuel : ℕ) (code : ℕ) (text : List ℕ) (state' : S) (variables' : Variables) (fuel' : ℕ) → 0 < left
-      → words_do host limits (evaluate host limits (left - 1)) words [] state variables fuel ≡ End code text state' variables' fuel'
-      → evaluate host limits left (command words no_command) state variables fuel ≡ End code text state' variables' fuel'
-  only_command left words state variables fuel code text state' variables' fuel' some h =
-      opens left (command words no_command) state variables fuel some
-      ∙ ap (λ o. after o (λ text state variables fuel. End 0 text state variables fuel)) h
-      ∙ after_end code text state' variables' fuel'
-
-  -- the same, where it has one
-  pub only_command_some : (left : ℕ) (script : Script) (words : Words) (end : Option Ending) (state : S) (variables : Variables) (fuel : ℕ) (variables' : Variables) (fuel' : ℕ) → 0 < left → script ≡ command words no_command
-      → IfSome end (λ e. words_do host limits (evaluate host limits (left - 1)) words [] state variables fuel ≡ End e.code e.text state variables' fuel')
-      → IfSome end (λ e. evaluate host limits left script state variables fuel ≡ End e.code e.text state variables' fuel')
-  only_command_some left script words None state variables fuel variables' fuel' some is h = h
-  only_command_some left script words (Some e) state variables fuel variables' fuel' some is h =
-      ap (λ s. evaluate host limits left s state variables fuel) is ∙ only_command left words state variables fuel e.code e.text state variables' fuel' some h
+  -- a script's only command is the script
+  pub only_command : (left : ℕ) (script : Script) (words : Words) (state : S) (variables : Variables) (fuel : ℕ) → 0 < left → script ≡ command words no_command
+      → evaluate host limits left script state variables fuel ≡ words_do host limits (evaluate host limits (left - 1)) words [] state variables fuel
+  only_command left script words state variables fuel some is =
+      ap (λ s. evaluate host limits left s state variables fuel) is
+      ∙ opens left (command words no_command) state variables fuel some
+      ∙ after_same (words_do host limits (evaluate host limits (left - 1)) words [] state variables fuel)
 
   -- where there is nothing to go on with in a turn
   pub turn_halts : (left fuel : ℕ) (loop : Loop) (whole : Outcome S) (why : Halt) (state : S) (variables : Variables)

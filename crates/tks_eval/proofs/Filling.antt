@@ -42,11 +42,11 @@ module _ (limits : Limits) (variables : Variables) where
       ] refl
 
   -- a text as the first of a word
-  appended_first : (t : List ℕ) → appended limits [] t ≡ cond (fits limits t) (Ok t) (Err OverLimit)
+  pub appended_first : (t : List ℕ) → appended limits [] t ≡ cond (fits limits t) (Ok t) (Err OverLimit)
   appended_first [] = ap (λ b. cond b (Ok []) (Err OverLimit)) (sym (le-leb 0 limits.text (omega arith)))
   appended_first (c ∷ t) = appended_some limits [] c t
 
-  filled_text : (t : List ℕ) → filled limits variables (chars t no_part) [] ≡ tcl.after (cond (fits limits t) (Ok t) (Err OverLimit)) (λ made. Ok (no_part, made))
+  pub filled_text : (t : List ℕ) → filled limits variables (chars t no_part) [] ≡ tcl.after (cond (fits limits t) (Ok t) (Err OverLimit)) (λ made. Ok (no_part, made))
   filled_text t = filled_chars t [] no_part ∙ ap (λ v. tcl.after v (λ made. filled limits variables no_part made)) (appended_first t)
 
   -- what follows on the text of a word, with words behind it that stand for themselves

@@ -12,3 +12,4 @@ pub mod Filling
 pub mod Operands
 pub mod AtOnce
 pub mod Reaching
+pub mod Lent

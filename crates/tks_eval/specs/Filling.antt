@@ -1,5 +1,5 @@
 -- How far words are made at once: up to a script or an index, which has to be run first.
-use Rattle.std.specs.Prelude.{ℕ, Bool, List, [], ◌∷◌, ◌++◌, Option, Some, None, Result, Ok}
+use Rattle.std.specs.Prelude.{◌≡◌, ℕ, Bool, false, List, [], ◌∷◌, ◌++◌, Option, Some, None, Result, Ok, Err}
 use Rattle.tks_text.specs.declared.limits.Limits.{Limits}
 use Rattle.tks_parse.specs.Tree.{Words, no_word, word, Parts, no_part, char, variable, element, nested}
 use Rattle.tks_parse.specs.View.{parts_of}
@@ -15,6 +15,8 @@ use Rattle.tks_eval.specs.declared.frame.Frame.TheVariants as frame
 use Rattle.tks_eval.specs.declared.frame.Now.{Now}
 use Rattle.tks_eval.specs.declared.frame.Now.TheVariants as now
 use Rattle.tks_parse.specs.declared.tree.Part.{Part}
+use Rattle.tks_parse.specs.declared.tree.Word.{Word}
+use Rattle.tks_list.specs.Reading.{list_of}
 use Rattle.tks_expr.specs.Tree.{Expr, Literal, Made, One, Two, Both, Either, Conditional}
 use Rattle.tks_expr.specs.Operation.{applied, truth_of}
 use Rattle.tks_expr.specs.declared.operator.Binary.{Binary}
@@ -70,6 +72,21 @@ words_made limits variables (word expand parts rest) words =
 abbrev pub made_so_far : Option Begun → List (List ℕ) → Words → Stand
 made_so_far None words rest = All words
 made_so_far (Some b) words rest = Upto words b.expand (left_of (Some b.inner) (parts_of b.parts)) b.made rest
+
+-- a word that is one text, which is this one
+abbrev pub IsWord : Limits → Variables → Word → List ℕ → Type 0
+IsWord limits variables w text = (w.expand ≡ false) × (filled limits variables w.parts [] ≡ Ok (no_part, text))
+
+-- the text that was filled, if there is one
+abbrev pub text_filled : Result (Parts × List ℕ) Cause → List ℕ
+text_filled (Ok x) = x.1
+text_filled (Err why) = []
+
+-- a word that is one text, which splits into this list
+abbrev pub IsListWord : Limits → Variables → Word → List (List ℕ) → Type 0
+IsListWord limits variables w list =
+    IsWord limits variables w (text_filled (filled limits variables w.parts []))
+    × (list_of (text_filled (filled limits variables w.parts [])) ≡ Some list)
 
 -- ---- expressions
 

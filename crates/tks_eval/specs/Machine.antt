@@ -1,18 +1,22 @@
 -- What a stack of frames means: each frame is one sequencing of the evaluation, read backwards.
-use Rattle.std.specs.Prelude.{◌≡◌, ℕ, ◌+◌, ◌*◌, ◌≤◌, ◌<◌, List, [], ◌∷◌, ◌++◌, Option, Some, None, Result, Ok, Err}
+use Rattle.std.specs.Prelude.{◌≡◌, ℕ, Bool, true, false, not, is_some, ◌+◌, ◌*◌, ◌≤◌, ◌<◌, List, [], ◌∷◌, ◌++◌, Option, Some, None, Result, Ok, Err}
 use Rattle.tks_text.specs.declared.limits.Limits.{Limits}
-use Rattle.tks_parse.specs.Tree.{Parts, script_size, words_size, parts_size}
+use Rattle.tks_parse.specs.Tree.{Words, Parts, script_size, words_size, parts_size}
 use Rattle.tks_parse.specs.Reading.{script_of}
 use Rattle.tks_parse.specs.View.{parts_of, words_of, script_of_commands}
 use Rattle.tks_parse.specs.declared.tree.Command.{Command}
 use Rattle.tks_text.specs.declared.fault.ScriptFault.{ScriptFault}
 use Rattle.tks_vars.specs.Variables.{Variables}
-use Rattle.tks_eval.specs.Outcome.{Outcome, End, Meaning, Next, Level, after, after_body, caught, appended, fails, given}
+use Rattle.tks_tcl.specs.Plain as commands
+use Rattle.tks_tcl.specs.Plain.{plain}
+use Rattle.tks_tcl.specs.Cause.{Cause}
+use Rattle.tks_tcl.specs.Meets.{text_of}
+use Rattle.tks_eval.specs.Outcome.{Outcome, End, Stopped, Meaning, Next, Level, after, after_body, caught, appended, fails, given}
 use Rattle.tks_expr.specs.Tree.{Expr, Literal, Made, One, Two, Both, Either, Conditional}
 use Rattle.tks_expr.specs.declared.tree.Link.{Link}
 use Rattle.tks_eval.specs.Evaluation.{Loop, loop_does, element_name, with_value, parts_do, words_in, words_do, commands_do, evaluate, control_does, host_does, value_does, after_truth, branches_do, catch_ends, each, settled, without_frame, returned, after_script, scripts_do}
-use Rattle.tks_eval.specs.Filling.{left_of}
-use Rattle.tks_eval.specs.Names.{Control}
+use Rattle.tks_eval.specs.Filling.{left_of, Stand, All, Upto, words_made}
+use Rattle.tks_eval.specs.Names.{Control, control_named}
 use Rattle.tks_eval.specs.Names as control
 use Rattle.tks_eval.specs.Values.{after_value}
 use Rattle.tks_eval.specs.Loops.{after_stage}
@@ -56,6 +60,41 @@ control_of coded.While = control.While
 abbrev pub given_words : Given → List (List ℕ)
 given_words (words.Ready texts) = texts.value.items
 given_words (words.Made made) = made
+
+-- the text that an outcome tells
+abbrev pub text_told : {S : Type 0} → Outcome S → List ℕ
+text_told (End code text state variables fuel) = text
+text_told (Stopped why) = []
+
+-- how a script or a command ended; where its text isn't asked for, another one may stand for that of an end by code 0
+abbrev pub EndsAs : {S : Type 0} → Bool → Outcome S → Ending → S → Variables → ℕ → Type 0
+EndsAs true whole end state variables fuel = whole ≡ End end.code end.text state variables fuel
+EndsAs false whole end state variables fuel =
+    (whole ≡ End end.code (text_told whole) state variables fuel) × ((end.code ≡ 0 → ⊥) → text_told whole ≡ end.text)
+
+-- the words that were made, where all are
+abbrev pub words_filled : Result Stand Cause → List (List ℕ)
+words_filled (Ok (All words)) = words
+words_filled (Ok (Upto words expand parts made rest)) = words
+words_filled (Err why) = []
+
+-- whether words are a command's that runs no script
+abbrev pub runs_none : List (List ℕ) → Bool
+runs_none [] = false
+runs_none (first ∷ words) = not (is_some (control_named first))
+
+-- the same of a command that runs no script
+abbrev pub AnswersAs : Bool → Option commands.Answer → Ending → Variables → Type 0
+AnswersAs true answer end variables = answer ≡ Some (commands.Answers end.code end.text variables)
+AnswersAs false answer end variables =
+    (answer ≡ Some (commands.Answers end.code (text_of answer) variables)) × ((end.code ≡ 0 → ⊥) → text_of answer ≡ end.text)
+
+-- words that are all made are those of a command that runs no script, and answers this
+abbrev pub AnswersWords : Limits → Variables → Words → List ℕ → Type 0
+AnswersWords limits variables words text =
+    (words_made limits variables words [] ≡ Ok (All (words_filled (words_made limits variables words []))))
+    × (runs_none (words_filled (words_made limits variables words [])) ≡ true)
+    × (plain limits (words_filled (words_made limits variables words [])) variables ≡ Some (commands.Answers 0 text variables))
 
 -- what follows on a script in a word
 abbrev pub behind_script : {S : Type 0} → Limits → Level S → Parts → List ℕ → Outcome S → Outcome S

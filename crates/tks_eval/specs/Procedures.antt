@@ -6,6 +6,8 @@ use Rattle.tks_text.specs.Text.{same_text}
 use Rattle.tks_text.specs.declared.fault.ErrorNumber.TheVariants.{BadName, NoSuchCommand}
 use Rattle.tks_text.specs.declared.limits.Limits.{Limits}
 use Rattle.tks_list.specs.Quoting.{joined}
+use Rattle.tks_parse.specs.Tree.{Script}
+use Rattle.tks_parse.specs.Reading.{script_of}
 use Rattle.tks_vars.specs.Names.{named, is_whole}
 use Rattle.tks_vars.specs.Variables.{Variables, frame_of, pushed_with, with_procedure}
 use Rattle.tks_vars.specs.declared.procedure.Argument.{Argument}
@@ -81,6 +83,10 @@ abbrev pub entered : Limits → List ℕ → List (List ℕ) → Variables → O
 entered limits first words variables None = Err (Fault (about NoSuchCommand first))
 entered limits first words variables (Some procedure) =
     after (given_arguments first (arguments [] procedure.params words)) (λ given. after (with_arguments limits given variables) (λ inside. Ok (procedure.body, inside)))
+
+-- a call's body as the script that it spells
+abbrev pub script_in : List ℕ × Variables → Script × Variables
+script_in x = (script_of x.0, x.1)
 
 -- the variables with a procedure, where these pass no limit
 abbrev pub with_room : Limits → List ℕ → Procedure → Variables → Result Variables Cause

@@ -1,13 +1,15 @@
 //! Scripts of one command that runs no script. They are run where they stand, without a frame.
-ghost use Rattle.std.specs.Prelude.{◌≡◌, ◌<◌, ◌≤◌, ◌-◌, suc, [], IfSome, IfNone, Ok, Some};
+ghost use Rattle.std.specs.Prelude.{◌≡◌, ◌<◌, ◌≤◌, ◌-◌, suc, true, [], IfSome, IfNone, Ok};
 ghost use Rattle.tks_parse.specs.View.{words_of, words_of_command};
 ghost use Rattle.tks_eval.specs.Outcome.{End};
 ghost use Rattle.tks_eval.specs.Evaluation.{evaluate, words_do, call, expr_does, expression_does, result_told};
-ghost use Rattle.tks_eval.specs.Filling.{All, words_made};
+ghost use Rattle.tks_eval.specs.Filling.{All, words_made, IsWord, IsListWord};
+ghost use Rattle.tks_eval.specs.Machine.{EndsAs, AnswersAs, AnswersWords};
+ghost use Rattle.tks_tcl.specs.Plain.{plain};
 
 use crate::commands::all_fit;
 use crate::control::Control;
-use crate::expressions::value_at_once;
+use crate::expressions::{scalar, value_at_once};
 use crate::frame::Ending;
 use crate::host::Host;
 use crate::machine::Machine;
@@ -15,8 +17,12 @@ use crate::words::{make_words, stands};
 use std::alloc::Global;
 use std::rc::Rc;
 use tks_expr::result_of;
-use tks_parse::{Command, Left, Script, Word};
-use tks_tcl::{fits, plain};
+use tks_list::Elements;
+use tks_parse::{Command, Left, Part, Script, Word};
+use tks_share::Shared;
+use tks_tcl::{
+    ListTable, Quiet, fits, is_word, lindex_answer, llength_answer, plain, plain_quietly,
+};
 use tks_text::{Limits, Seq, Txt};
 use tks_vars::Vars;
 
@@ -39,6 +45,132 @@ fn words_at_once(
     let mut made = Seq::new(alloc);
     match make_words(alloc, &mut made, &mut rest, variables, limits) {
         Ok(None) => Some(made),
+        _ => None,
+    }
+}
+
+// The text that a word is, where it lies: its characters, or a variable's value.
+#[tactic(auto, using(crate::proofs::Lent::filled_one))]
+fn lent<'a>(word: &'a Word, variables: &'a Vars, limits: &Limits) -> Option<&'a Txt>
+    ensures { IfSome result (λ t. IsWord limits.now variables.now word.now t.now) }
+{
+    if word.expand {
+        return None;
+    }
+    let [part] = word.parts.as_slice() else {
+        return None;
+    };
+    match part {
+        Part::Text(text) if fits(text, limits) => Some(text),
+        Part::Variable(name, None) => match scalar(name, variables, limits) {
+            Ok(value) => Some(value),
+            Err(_) => None,
+        },
+        _ => None,
+    }
+}
+
+// The list that a word splits into, where that is kept beside a variable's value.
+fn lent_list(word: &Word, variables: &mut Vars, limits: &Limits) -> Option<Shared<Elements>>
+    ensures some { IfSome result (λ l. IsListWord limits.now variables.old word.now l) }
+    ensures same { variables.new ≡ variables.old }
+{
+    let [Part::Variable(name, None)] = word.parts.as_slice() else {
+        return None;
+    };
+    lent(word, variables, limits)?;
+    variables.list(name)
+}
+
+// Whether a word is this one.
+fn is_lent(word: &Word, variables: &Vars, name: &[u8], limits: &Limits) -> bool
+    ensures { result ≡ true → IsWord limits.now variables.now word.now name.now }
+{
+    match lent(word, variables, limits) {
+        Some(text) => is_word(text.as_bytes(), name),
+        None => false,
+    }
+}
+
+// The answer of a `lindex` of a variable's list, which isn't copied as a word.
+fn lindex_at_once(
+    alloc: Global,
+    words: &[Word],
+    variables: &mut Vars,
+    limits: &Limits,
+) -> Option<Txt>
+    ensures some { IfSome result (λ t. AnswersWords limits.now variables.old (words_of words.now) t) }
+    ensures same { variables.new ≡ variables.old }
+{
+    let [command, list, index] = words else {
+        return None;
+    };
+    if !is_lent(command, variables, b"lindex", limits) {
+        return None;
+    }
+    let list = lent_list(list, variables, limits)?;
+    let index = lent(index, variables, limits)?;
+    lindex_answer(alloc, list.get(), index, limits)
+}
+
+// The same of a `llength`.
+fn llength_at_once(
+    alloc: Global,
+    words: &[Word],
+    variables: &mut Vars,
+    limits: &Limits,
+) -> Option<Txt>
+    ensures some { IfSome result (λ t. AnswersWords limits.now variables.old (words_of words.now) t) }
+    ensures same { variables.new ≡ variables.old }
+{
+    let [command, list] = words else {
+        return None;
+    };
+    if !is_lent(command, variables, b"llength", limits) {
+        return None;
+    }
+    let list = lent_list(list, variables, limits)?;
+    llength_answer(alloc, list.get(), limits)
+}
+
+/// The answer of a command that reads a variable's list, which isn't copied as a word.
+pub fn answer_at_once(
+    alloc: Global,
+    words: &[Word],
+    variables: &mut Vars,
+    limits: &Limits,
+) -> Option<Txt>
+    ensures some { IfSome result (λ t. AnswersWords limits.now variables.old (words_of words.now) t) }
+    ensures same { variables.new ≡ variables.old }
+{
+    match words {
+        [_, _, _] => lindex_at_once(alloc, words, variables, limits),
+        [_, _] => llength_at_once(alloc, words, variables, limits),
+        _ => None,
+    }
+}
+
+// The end of a command of these words that runs no script. Nothing where something refuses.
+fn plain_at_once(
+    alloc: Global,
+    lists: &mut ListTable,
+    variables: &mut Vars,
+    words: &[Txt],
+    asked: bool,
+    limits: &Limits,
+) -> Option<Ending>
+    ensures some { IfSome result (λ end. AnswersAs asked (plain limits.now words.now variables.old) end variables.new) }
+    ensures none { IfNone result (variables.new ≡ variables.old) }
+{
+    if asked {
+        return match plain(alloc, lists, variables, words, limits) {
+            Ok(Some((code, text))) => Some(Ending { code, text }),
+            _ => None,
+        };
+    }
+    match plain_quietly(alloc, lists, variables, words, limits) {
+        Ok(Some(Quiet::Done)) => Some(Ending::silent(alloc)),
+        Ok(Some(Quiet::Ended(code, text))) => Some(Ending { code, text }),
         _ => None,
     }
 }
@@ -97,9 +229,10 @@ impl Machine {
         host: &H,
         variables: &mut Vars,
         words: &[Txt],
+        asked: bool,
         limits: &Limits,
     ) -> Option<Ending>
-        ensures some { IfSome result (λ end. call H.meaning limits.now (evaluate H.meaning limits.now self.old.left) words.now (H.state host.now) variables.old (suc self.old.fuel) ≡ End end.code end.text (H.state host.now) variables.new self.old.fuel) }
+        ensures some { IfSome result (λ end. EndsAs asked (call H.meaning limits.now (evaluate H.meaning limits.now self.old.left) words.now (H.state host.now) variables.old (suc self.old.fuel)) end (H.state host.now) variables.new self.old.fuel) }
         ensures none { IfNone result (variables.new ≡ variables.old) }
         ensures kept { self.new ≡ self.old }
     {
@@ -107,10 +240,7 @@ impl Machine {
         match Control::named(command) {
             Some(Control::Expr) => self.expr_at_once(alloc, host, variables, command, rest, limits),
             Some(_) => None,
-            None => match plain(alloc, self.table.lists(), variables, words, limits) {
-                Ok(Some((code, text))) => Some(Ending { code, text }),
-                _ => None,
-            },
+            None => plain_at_once(alloc, self.table.lists(), variables, words, asked, limits),
         }
     }
 
@@ -121,9 +251,10 @@ impl Machine {
         host: &H,
         variables: &mut Vars,
         command: &Command,
+        asked: bool,
         limits: &Limits,
     ) -> Option<Ending>
-        ensures some { IfSome result (λ end. words_do H.meaning limits.now (evaluate H.meaning limits.now self.old.left) (words_of_command command.now) [] (H.state host.now) variables.old (suc self.old.fuel) ≡ End end.code end.text (H.state host.now) variables.new self.old.fuel) }
+        ensures some { IfSome result (λ end. EndsAs asked (words_do H.meaning limits.now (evaluate H.meaning limits.now self.old.left) (words_of_command command.now) [] (H.state host.now) variables.old (suc self.old.fuel)) end (H.state host.now) variables.new self.old.fuel) }
         ensures none { IfNone result (variables.new ≡ variables.old) }
         ensures kept { self.new ≡ self.old }
     {
@@ -133,26 +264,32 @@ impl Machine {
                 if !all_fit(words, limits) {
                     return None;
                 }
-                self.command_at_once(alloc, host, variables, words, limits)
+                self.command_at_once(alloc, host, variables, words, asked, limits)
             }
             Command::Made(words) => {
+                let given = words.as_ref().as_slice();
+                if let Some(text) = answer_at_once(alloc, given, variables, limits) {
+                    return Some(Ending { code: 0, text });
+                }
                 let words = words_at_once(alloc, words, variables, limits)?;
-                self.command_at_once(alloc, host, variables, words.as_slice(), limits)
+                self.command_at_once(alloc, host, variables, words.as_slice(), asked, limits)
             }
         }
     }
 
     /// Runs a script at once, where it has one command, which runs no script. None where that can't be, or where something
-    /// refuses: nothing is changed then, and the script is to be opened.
+    /// refuses: nothing is changed then, and the script is to be opened. Where the text of an end by code 0 isn't asked for,
+    /// it may be another than the script's.
     pub fn run_at_once<H: Host>(
         &mut self,
         alloc: Global,
         host: &H,
         variables: &mut Vars,
         script: &Script,
+        asked: bool,
         limits: &Limits,
     ) -> Option<Ending>
-        ensures some { IfSome result (λ end. evaluate H.meaning limits.now self.old.left script.now (H.state host.now) variables.old self.old.fuel ≡ End end.code end.text (H.state host.now) variables.new self.new.fuel) }
+        ensures some { IfSome result (λ end. EndsAs asked (evaluate H.meaning limits.now self.old.left script.now (H.state host.now) variables.old self.old.fuel) end (H.state host.now) variables.new self.new.fuel) }
         ensures none { IfNone result ((variables.new ≡ variables.old) × (self.new.fuel ≡ self.old.fuel)) }
         ensures spends { self.new.fuel ≤ self.old.fuel }
         ensures kept { self.new ≡ record self.old { fuel = self.new.fuel } }
@@ -162,7 +299,9 @@ impl Machine {
         }
         match script.contents() {
             ([], None) => Some(Ending::silent(alloc)),
-            ([command], None) => self.run_only_command(alloc, host, variables, command, limits),
+            ([command], None) => {
+                self.run_only_command(alloc, host, variables, command, asked, limits)
+            }
             _ => None,
         }
     }
@@ -174,10 +313,11 @@ impl Machine {
         host: &H,
         variables: &mut Vars,
         command: &Command,
+        asked: bool,
         limits: &Limits,
     ) -> Option<Ending>
         requires { 0 < self.now.left }
-        ensures some { IfSome result (λ end. words_do H.meaning limits.now (evaluate H.meaning limits.now (self.old.left - 1)) (words_of_command command.now) [] (H.state host.now) variables.old self.old.fuel ≡ End end.code end.text (H.state host.now) variables.new self.new.fuel) }
+        ensures some { IfSome result (λ end. EndsAs asked (words_do H.meaning limits.now (evaluate H.meaning limits.now (self.old.left - 1)) (words_of_command command.now) [] (H.state host.now) variables.old self.old.fuel) end (H.state host.now) variables.new self.new.fuel) }
         ensures none { IfNone result ((variables.new ≡ variables.old) × (self.new.fuel ≡ self.old.fuel)) }
         ensures spends { self.new.fuel ≤ self.old.fuel }
         ensures kept { self.new ≡ record self.old { fuel = self.new.fuel } }
@@ -187,7 +327,7 @@ impl Machine {
         }
         self.left -= 1;
         self.fuel -= 1;
-        let end = self.only_command_at_once(alloc, host, variables, command, limits);
+        let end = self.only_command_at_once(alloc, host, variables, command, asked, limits);
         self.left += 1;
         if end.is_none() {
             self.fuel += 1;

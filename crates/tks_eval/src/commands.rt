@@ -278,7 +278,7 @@ impl Machine {
     {
         self.take_step()?;
         store(variables, name, element, limits)?;
-        Ok(self.run_at_once(alloc, host, variables, body, limits))
+        Ok(self.run_at_once(alloc, host, variables, body, false, limits))
     }
 
     // Goes on with the elements of a `foreach`, and with those behind them whose body is run at once.
@@ -372,8 +372,7 @@ impl Machine {
         ensures spends { self.new.fuel ≤ self.old.fuel }
         ensures goes { GoesSo H.meaning limits.now (resume H.meaning limits.now self.old.left self.old.stack (procedure_does limits.now (evaluate H.meaning limits.now self.old.left) command.now words.now (map.get variables.old.procedures command.now) (H.state host.now) variables.old self.old.fuel)) result self.new (H.state host.now) variables.new }
     {
-        let body = enter(alloc, variables, command, words, limits)?;
-        let script = self.table.script(alloc, &body)?;
+        let script = enter(alloc, &mut self.table, variables, command, words, limits)?;
         self.stack.push(Frame::Procedure)?;
         Ok(Now::Open(script))
     }

@@ -92,8 +92,8 @@ fn operand(
     }
 }
 
-// The value of a variable that alone is a text.
-fn scalar<'a>(name: &Txt, variables: &'a Vars, limits: &Limits) -> Result<&'a Txt, Interrupt>
+/// The value of a variable that alone is a text.
+pub fn scalar<'a>(name: &Txt, variables: &'a Vars, limits: &Limits) -> Result<&'a Txt, Interrupt>
     ensures { GivesSo (λ t. t.now) result (with_value limits.now variables.now name.now []) }
 {
     let value = variables.get(name)?;

@@ -228,7 +228,7 @@ impl Machine {
         ensures goes { TurnsSo H.meaning limits.now self.old.left turns.now (turn_does (evaluate H.meaning limits.now self.old.left) turns.now (loop_does limits.now (evaluate H.meaning limits.now self.old.left) turns.now) (H.state host.now) variables.old self.old.fuel) result (H.state host.now) variables.new self.new.fuel }
     {
         let body = turns.body().script();
-        let Some(end) = self.run_at_once(alloc, host, variables, body, limits) else {
+        let Some(end) = self.run_at_once(alloc, host, variables, body, false, limits) else {
             return Ok(Turn::Waits(Stage::Body, Now::Open(body.share()?)));
         };
         match end.code {
@@ -255,7 +255,7 @@ impl Machine {
             return Ok(Turn::Again);
         };
         let next = next.script();
-        let Some(end) = self.run_at_once(alloc, host, variables, next, limits) else {
+        let Some(end) = self.run_at_once(alloc, host, variables, next, false, limits) else {
             return Ok(Turn::Waits(Stage::Next, Now::Open(next.share()?)));
         };
         match end.code {

@@ -1,13 +1,15 @@
-ghost use Rattle.std.specs.Prelude.{◌≡◌, ◌||◌, [], is_some, nat_lt, IfOk, OnErr};
+ghost use Rattle.std.specs.Prelude.{◌≡◌, ◌||◌, [], is_some, nat_lt, Ok, IfOk, OnErr};
 ghost use Rattle.std.specs.FinMap as map;
 ghost use Rattle.std.specs.List.{list_all};
-ghost use Rattle.tks_tcl.specs.Cause.{fits};
+ghost use Rattle.tks_tcl.specs.Cause.{after, fits};
 ghost use Rattle.tks_tcl.specs.Meets.{GivesSo};
-ghost use Rattle.tks_eval.specs.Procedures.{parameter_named, parameter, parameters_in, argument_for, takes_rest, arguments, with_arguments, entered, defined, is_taken, proc_form};
+ghost use Rattle.tks_eval.specs.Procedures.{parameter_named, parameter, parameters_in, argument_for, takes_rest, arguments, with_arguments, entered, script_in, defined, is_taken, proc_form};
 
 use crate::host::Host;
+use crate::table::ParseTable;
 use std::alloc::{AllocError, Global};
 use tks_list::join;
+use tks_parse::Script;
 use tks_tcl::{Interrupt, error_about, fits, is_built_in, list_in, wrong_words};
 use tks_text::{ErrorNumber, Limits, Seq, Txt};
 use tks_vars::{Argument, Parameter, Procedure, Vars, names_whole};
@@ -137,18 +139,19 @@ fn all_fit(arguments: &[Argument], limits: &Limits) -> bool
         .all(|argument| fits(&argument.value, limits))
 }
 
-/// Begins a call of the procedure of this name, and gives its body. An error leaves the variables as they
-/// were.
+/// Begins a call of the procedure of this name, and gives the script that its body spells. An error leaves the variables as
+/// they were.
 #[tactic(auto, using(tks_tcl::proofs::Causes::tells))]
 pub fn enter(
     alloc: Global,
+    table: &mut ParseTable,
     variables: &mut Vars,
     command: &Txt,
     words: &[Txt],
     limits: &Limits,
-) -> Result<Txt, Interrupt>
+) -> Result<Script, Interrupt>
     ensures err { OnErr result (variables.new ≡ variables.old) }
-    ensures value { GivesSo (λ body. (body, variables.new)) result (entered limits.now command.now words.now variables.old (map.get variables.old.procedures command.now)) }
+    ensures value { GivesSo (λ script. (script, variables.new)) result (after (entered limits.now command.now words.now variables.old (map.get variables.old.procedures command.now)) (λ x. Ok (script_in x))) }
 {
     let Some(procedure) = variables.procedure(command) else {
         return Err(error_about(ErrorNumber::NoSuchCommand, command));
@@ -156,9 +159,9 @@ pub fn enter(
     let Some(arguments) = arguments(alloc, procedure.params.as_slice(), words)? else {
         return Err(error_about(ErrorNumber::WrongWords, command));
     };
-    let body = procedure.body.try_clone()?;
+    let script = table.script(alloc, &procedure.body)?;
     push_frame(variables, arguments, limits)?;
-    Ok(body)
+    Ok(script)
 }
 
 // Whether a procedure of this name may be defined.

@@ -2,10 +2,12 @@
 ghost use Rattle.std.specs.Prelude.{◌≡◌, ◌≤◌, suc, [], IfSome, IfNone, Ok, option_copied};
 ghost use Rattle.tks_parse.specs.Tree.{words_size};
 ghost use Rattle.tks_parse.specs.View.{words_of, words_of_command};
+ghost use Rattle.tks_eval.specs.Outcome.{End};
 ghost use Rattle.tks_eval.specs.Evaluation.{evaluate, call, words_do, if_does, control_does, script_does};
 ghost use Rattle.tks_eval.specs.Machine.{resume, control_of, given_words, reached_does, waiting_weight, ReachesSo, ReachFalls, GoesOn, GoesSo, Falls};
 ghost use Rattle.tks_eval.specs.declared.reach.Reached.TheVariants as reached;
 
+use crate::at_once::answer_at_once;
 use crate::branches::one_test;
 use crate::commands::all_fit;
 use crate::control::Control;
@@ -94,10 +96,37 @@ impl Machine {
                 self.begin(alloc, host, variables, words, limits)
             }
             Command::Made(words) => {
+                let given = words.as_ref().as_slice();
+                if let Some(end) = self.answer(alloc, host, variables, given, limits) {
+                    return Ok(Reached::Ended(end));
+                }
                 let words = Left::all(words.clone()?);
                 self.reach(alloc, host, variables, Seq::new(alloc), words, limits)
             }
         }
+    }
+
+    // The end of a command that reads a variable's list, with its step.
+    fn answer<H: Host>(
+        &mut self,
+        alloc: Global,
+        host: &H,
+        variables: &mut Vars,
+        words: &[Word],
+        limits: &Limits,
+    ) -> Option<Ending>
+        ensures some { IfSome result (λ end. words_do H.meaning limits.now (evaluate H.meaning limits.now self.old.left) (words_of words.now) [] (H.state host.now) variables.old self.old.fuel ≡ End end.code end.text (H.state host.now) variables.old self.new.fuel) }
+        ensures none { IfNone result (self.new.fuel ≡ self.old.fuel) }
+        ensures spends { self.new.fuel ≤ self.old.fuel }
+        ensures same { variables.new ≡ variables.old }
+        ensures kept { self.new ≡ record self.old { fuel = self.new.fuel } }
+    {
+        if self.fuel == 0 {
+            return None;
+        }
+        let text = answer_at_once(alloc, words, variables, limits)?;
+        self.fuel -= 1;
+        Some(Ending { code: 0, text })
     }
 
     /// Makes the words that are left of a command, and calls it, as far as that goes at once.
@@ -259,7 +288,7 @@ impl Machine {
         let Ok(script) = self.table.script(alloc, text) else {
             return None;
         };
-        match self.run_at_once(alloc, host, variables, &script, limits) {
+        match self.run_at_once(alloc, host, variables, &script, true, limits) {
             Some(end) => Some(Reached::Ended(end)),
             None => Some(Reached::Opens(script)),
         }

@@ -243,7 +243,7 @@ impl Machine {
             Inner::Script(script) => script,
             index => return Err(index),
         };
-        match self.run_at_once(alloc, host, variables, &script, limits) {
+        match self.run_at_once(alloc, host, variables, &script, true, limits) {
             Some(end) => Ok(end),
             None => Err(Inner::Script(script)),
         }

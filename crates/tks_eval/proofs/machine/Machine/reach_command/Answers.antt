@@ -1,6 +1,6 @@
 use Rattle.std.proofs.Common.{◌≡◌, true, false, cond, [], rules, sym, subst, ap, ◌∙◌}
 use Rattle.std.specs.List.{list_all}
-use Rattle.tks_parse.specs.View.{words_of_command}
+use Rattle.tks_parse.specs.View.{words_of, words_of_command}
 use Rattle.tks_tcl.specs.Cause.{fits}
 use Rattle.tks_eval.specs.Outcome.{Stopped, TooLarge}
 use Rattle.tks_eval.specs.Evaluation.{evaluate, call, words_do}
@@ -38,3 +38,18 @@ returns-in_ok-clone-in-Ready-clause-goes g c =
     ∙ ap (λ b. cond b (call host limits level words state variables m.fuel) (Stopped TooLarge)) fit
     ∙ ap (λ ws. call host limits level ws state variables m.fuel) (sym same) in
     subst (λ o. ReachesSo host limits m.left o c.begin.result state c.begin.new.variables c.begin.new.self.fuel) (sym does) c.begin.ensures.goes
+
+pub returns-in_ok-clone-in-Made-clause-goes : goal.returns-in_ok-clone-in-Made-clause-goes
+returns-in_ok-clone-in-Made-clause-goes g c =
+    let host = g.H.Host.meaning in
+    let limits = c.args.limits.now in
+    let m = c.args.self.now in
+    let level = evaluate host limits m.left in
+    let state = g.H.Host.state c.args.host.now in
+    let variables = c.args.variables.now in
+    let words : c.all-words.result ≡ c.in-Made.words.value.items = search rules in
+    let does = ap (λ k. words_do host limits level (words_of_command k) [] state variables m.fuel) c.in-Made.is
+    ∙ ap (λ ws. words_do host limits level (words_of ws) [] state variables m.fuel) (sym words)
+    ∙ ap (λ made. words_do host limits level (words_of c.all-words.result) made state variables m.fuel) (sym c.new.ensures) in
+    let goes = rw (c.answer.ensures.kept, c.answer.ensures.same, c.in_default.ensures.none) at c.reach.ensures.goes in
+    subst (λ o. ReachesSo host limits m.left o c.reach.result state c.reach.new.variables c.reach.new.self.fuel) (sym does) goes
