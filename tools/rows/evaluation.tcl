@@ -117,6 +117,39 @@ rows::ask_fresh "branches and loops" {
     {set l {3 1 2}; foreach x $l {set i 0; while {$i < [llength $l] && [lindex $l $i] < $x} {incr i}; lappend r $i}; set r}
 }
 
+rows::ask_fresh "lists in variables, and what runs where it stands" {
+    {set l "one two {three four} five six seven eight"; list [lindex $l 2] [llength $l] [lindex $l end] [lindex $l 9]}
+    {set l "one two {three four} five six seven eight"; for {set i 0} {$i < 8} {incr i} {lappend r [lindex $l $i]}; set r}
+    {set l "one two {three four} five six seven eight"; for {set i 0} {$i < 3} {incr i} {lindex $l $i}; lappend l nine; list [lindex $l end] [llength $l]}
+    {set l "one two {three four} five six seven eight"; lindex $l 0; append l " nine"; list [lindex $l end] [llength $l]}
+    {set l "one two {three four} five six seven eight"; llength $l; append l een; list [lindex $l end] [llength $l]}
+    {set l "one two {three four} five six seven eight"; llength $l; set l "a b c d e f g h i j k l m n o p q r"; list [llength $l] [lindex $l 3]}
+    {set l "one two {three four} five six seven eight"; set m $l; llength $m; lappend m nine; list [llength $l] [llength $m] [lindex $l end] [lindex $m end]}
+    {set a(x) "one two {three four} five six seven eight"; set n [llength $a(x)]; lappend a(x) nine; list $n [lindex $a(x) end] [llength $a(x)]}
+    {set l "one two {three four} five six seven eight"; proc f {} {global l; list [lindex $l 1] [llength $l]}; proc g {} {global l; lappend l nine; lindex $l end}; list [f] [g] [f] [llength $l]}
+    {proc f {l} {set n 0; while {$n < [llength $l]} {append r <[lindex $l $n]>; incr n}; set r}; f "one two {three four} five six seven eight"}
+    {set l "a {b c} \"d e\" f\\ g {} h i j k l m n o p q r s t"; list [llength $l] [lindex $l 1] [lindex $l 2] [lindex $l 3] [lindex $l 4]}
+    {set l {}; for {set i 0} {$i < 12} {incr i} {lappend l "e $i"}; list [llength $l] [lindex $l 7] [lindex $l end]}
+    {set l "one two three four five six seven { }"; for {set i 0} {$i < 3} {incr i} {lappend l $i; llength $l; lindex $l end}; set l}
+    {set l "one two three four five six seven eight"; foreach i {0 1 2} {set n [llength $l]; lappend l [lindex $l $i]$n}; set l}
+    {set l " one  two\tthree four five six seven eight "; list [llength $l] [lindex $l 0] [lindex $l 2] [lindex $l end]}
+    {set i 4; set l "one two three four five six seven eight"; list [lindex $l $i] [lindex $l [expr {$i + 1}]] [lindex $l end-$i]}
+    {proc f {a b c d e f g h i {j 10} args} {set k 11; unset c; set c 3; list $a $b $c $d $e $f $g $h $i $j $k $args}; f 1 2 0 4 5 6 7 8 9}
+    {proc f {a b c d e f g h i j} {set a x; set j y; foreach v {k l m} {set $v $v}; list $a $j $k $l $m [info exists b] [info exists z]}; f 1 2 3 4 5 6 7 8 9 10}
+    {proc f {a b c d e f g h i j} {unset a j; set a 1; incr j; list $a $b $i $j}; f 0 2 3 4 5 6 7 8 9 10}
+    {proc f {n} {if {$n == 0} {return end}; set x $n; set y [f [expr {$n - 1}]]; list $x $y}; f 5}
+    {foreach x {1 2 3} {if {$x == 2} {set y two; lappend r $y} else {lappend r $x}}; set r}
+    {set x 1; set y [incr x]a[incr x]; list $x $y}
+    {set x 0; list [incr x] [incr x 5] $x [set x] [append x 0]}
+    {foreach i {1 2 3} {append s "<$i>"}; set s}
+    {for {set i 0} {$i < 3} {incr i} {set x $i}; list $x $i}
+    {for {set i 0} {$i < 3} {incr i} {continue}; set i}
+    {for {set i 0} {$i < 5} {set i [expr {$i + 2}]} {lappend r $i}; set r}
+    {set i 0; while {$i < 3} {incr i; if {$i == 2} {set j $i}}; list $i $j}
+    {set i 0; while {$i < 3} {set s [expr {$i * 2}]; incr i}; list $i $s}
+    {if {[set n 3] > 2} {set r [incr n]}; list $n $r}
+}
+
 session "evaluation: wrong words, and bad names of procedures"
 foreach {script answer} {
     foo {E09 foo}  {list [set q]} {E11 q}  {set a(1) x; set b $a} {E12 a}  catch {E10 catch}  {catch a b c} {E10 catch}
