@@ -9,7 +9,6 @@ use Rattle.tks_eval.specs.Outcome.{appended}
 use Rattle.tks_eval.specs.Evaluation.{with_value, words_in}
 use Rattle.tks_eval.specs.declared.words.Inner.{Inner}
 use Rattle.tks_eval.specs.declared.words.Inner.TheVariants as inner
-use Rattle.tks_eval.specs.declared.words.Begun.{Begun}
 use Rattle.tks_eval.specs.declared.frame.Frame.{Frame}
 use Rattle.tks_eval.specs.declared.frame.Frame.TheVariants as frame
 use Rattle.tks_eval.specs.declared.frame.Now.{Now}
@@ -67,11 +66,6 @@ words_made limits variables no_word words = Ok (All words)
 words_made limits variables (word expand parts rest) words =
     after (filled limits variables parts []) (λ x. made_or x.0 (Upto words expand x.0 x.1 rest)
     (after (words_in expand x.1) (λ more. words_made limits variables rest (words ++ more))))
-
--- how far the code came
-abbrev pub made_so_far : Option Begun → List (List ℕ) → Words → Stand
-made_so_far None words rest = All words
-made_so_far (Some b) words rest = Upto words b.expand (left_of (Some b.inner) (parts_of b.parts)) b.made rest
 
 -- a word that is one text, which is this one
 abbrev pub IsWord : Limits → Variables → Word → List ℕ → Type 0

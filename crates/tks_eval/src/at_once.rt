@@ -1,5 +1,6 @@
 //! Scripts of one command that runs no script. They are run where they stand, without a frame.
 ghost use Rattle.std.specs.Prelude.{◌≡◌, ◌<◌, ◌≤◌, ◌-◌, suc, true, [], IfSome, IfNone, Ok};
+ghost use Rattle.tks_parse.specs.Tree as tree;
 ghost use Rattle.tks_parse.specs.View.{words_of, words_of_command};
 ghost use Rattle.tks_eval.specs.Outcome.{End};
 ghost use Rattle.tks_eval.specs.Evaluation.{evaluate, words_do, call, expr_does, expression_does, result_told};
@@ -13,12 +14,11 @@ use crate::expressions::{scalar, value_at_once};
 use crate::frame::Ending;
 use crate::host::Host;
 use crate::machine::Machine;
-use crate::words::{make_words, stands};
+use crate::words::{add_words, fill_up, stands};
 use std::alloc::Global;
-use std::rc::Rc;
 use tks_expr::result_of;
 use tks_list::Elements;
-use tks_parse::{Command, Left, Part, Script, Word};
+use tks_parse::{Command, Part, Script, Word};
 use tks_share::Shared;
 use tks_tcl::{
     ListTable, Quiet, fits, is_word, lindex_answer, llength_answer, plain, plain_quietly,
@@ -26,27 +26,48 @@ use tks_tcl::{
 use tks_text::{Limits, Seq, Txt};
 use tks_vars::Vars;
 
+// Adds what a word stands for, where nothing in it has to be run. Where something refuses, some of it may be there.
+fn add_word(
+    alloc: Global,
+    words: &mut Seq<Txt>,
+    word: &Word,
+    variables: &Vars,
+    limits: &Limits,
+) -> Option<()>
+    ensures { IfSome result (λ _. (rest : tree.Words) → words_made limits.now variables.now (tree.word word.now.expand word.now.parts rest) words.old ≡ words_made limits.now variables.now rest words.new) }
+{
+    let Ok(mut parts) = word.parts.left() else {
+        return None;
+    };
+    let mut text = Txt::new(alloc);
+    let Ok(None) = fill_up(&mut text, &mut parts, variables, limits) else {
+        return None;
+    };
+    let Ok(()) = add_words(alloc, words, word.expand, text) else {
+        return None;
+    };
+    Some(())
+}
+
 // The words of a command, where all are made at once.
 fn words_at_once(
     alloc: Global,
-    words: &Rc<Vec<Word>>,
+    words: &[Word],
     variables: &Vars,
     limits: &Limits,
 ) -> Option<Seq<Txt>>
-    ensures { IfSome result (λ made. words_made limits.now variables.now (words_of words.now.value.items) [] ≡ Ok (All made)) }
+    ensures { IfSome result (λ made. words_made limits.now variables.now (words_of words.now) [] ≡ Ok (All made)) }
 {
-    if !words.as_ref().iter().all(|word| stands(&word.parts)) {
+    if !words.iter().all(|word| stands(&word.parts)) {
         return None;
     }
-    let Ok(words) = words.clone() else {
-        return None;
-    };
-    let mut rest = Left::all(words);
     let mut made = Seq::new(alloc);
-    match make_words(alloc, &mut made, &mut rest, variables, limits) {
-        Ok(None) => Some(made),
-        _ => None,
+    let mut rest = words;
+    'word: while let Some((word, behind)) = rest.split_first() {
+        add_word(alloc, &mut made, word, variables, limits)?;
+        rest = behind;
     }
+    Some(made)
 }
 
 // The text that a word is, where it lies: its characters, or a variable's value.
@@ -271,7 +292,7 @@ impl Machine {
                 if let Some(text) = answer_at_once(alloc, given, variables, limits) {
                     return Some(Ending { code: 0, text });
                 }
-                let words = words_at_once(alloc, words, variables, limits)?;
+                let words = words_at_once(alloc, given, variables, limits)?;
                 self.command_at_once(alloc, host, variables, words.as_slice(), asked, limits)
             }
         }

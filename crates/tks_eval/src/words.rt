@@ -5,7 +5,7 @@ ghost use Rattle.tks_eval.specs.Outcome.{End, appended};
 ghost use Rattle.tks_eval.specs.Evaluation.{evaluate, element_name, with_value, words_in, parts_do};
 ghost use Rattle.tks_tcl.specs.Cause.{after};
 ghost use Rattle.tks_tcl.specs.Meets.{GivesSo};
-ghost use Rattle.tks_eval.specs.Filling.{filled, left_of, waits_for, runs, words_made, made_so_far};
+ghost use Rattle.tks_eval.specs.Filling.{filled, left_of, waits_for, runs};
 ghost use Rattle.tks_eval.specs.Machine.{resume, frame_weight, behind_script, GoesSo, Falls, FillsSo, FillFalls};
 ghost use Rattle.tks_eval.specs.declared.frame.Frame.TheVariants as frame;
 
@@ -142,45 +142,6 @@ pub fn fill_up(
                 let script = script.share()?;
                 parts.skip();
                 return Ok(Some(Inner::Script(script)));
-            }
-        }
-    }
-    Ok(None)
-}
-
-/// A word that was begun, up to what has to be run in it.
-#[derive(Drop)]
-pub struct Begun {
-    pub expand: bool,
-    pub made: Txt,
-    pub inner: Inner,
-    pub parts: Left<Part>,
-}
-
-/// Makes the words that come first and have nothing in them that has to be run, and begins the one behind them.
-pub fn make_words(
-    alloc: Global,
-    words: &mut Seq<Txt>,
-    rest: &mut Left<Word>,
-    variables: &Vars,
-    limits: &Limits,
-) -> Result<Option<Begun>, Interrupt>
-    ensures { GivesSo (λ begun. made_so_far begun words.new (words_of rest.new)) result (words_made limits.now variables.now (words_of rest.old) words.old) }
-{
-    while let Some(word) = rest.first() {
-        let expand = word.expand;
-        let mut parts = word.parts.left()?;
-        rest.skip();
-        let mut made = Txt::new(alloc);
-        match fill_up(&mut made, &mut parts, variables, limits)? {
-            None => add_words(alloc, words, expand, made)?,
-            Some(inner) => {
-                return Ok(Some(Begun {
-                    expand,
-                    made,
-                    inner,
-                    parts,
-                }));
             }
         }
     }

@@ -1,9 +1,10 @@
-use Rattle.std.proofs.Common.{◌≡◌, suc, true, cond, [], IfSome, rules, sym, subst, ap, ◌∙◌}
+use Rattle.std.proofs.Common.{◌≡◌, suc, true, cond, [], IfSome, Ok, rules, sym, subst, ap, ◌∙◌}
 use Rattle.std.specs.List.{list_all}
 use Rattle.tks_parse.specs.View.{words_of, words_of_command}
 use Rattle.tks_tcl.specs.Cause.{fits}
 use Rattle.tks_eval.specs.Outcome.{Stopped, TooLarge, given}
 use Rattle.tks_eval.specs.Evaluation.{evaluate, call, words_do}
+use Rattle.tks_eval.specs.Filling.{All, words_made}
 use Rattle.tks_eval.specs.Machine.{EndsAs, AnswersWords}
 use Rattle.tks_eval.proofs.Filling.{ready_do, words_do_made, words_go}
 use Rattle.tks_eval.proofs.AtOnce.{ends_as}
@@ -36,11 +37,14 @@ returns-in_ok-words-in-Made-clause-some g c =
     let level = evaluate host limits m.left in
     let state = g.H.Host.state c.args.host.now in
     let variables = c.answer_at_once.new.variables in
+    let here : c.as_slice-given.result.now ≡ c.in-Made.words.value.items = search rules in
+    let made : words_made limits variables (words_of c.in-Made.words.value.items) [] ≡ Ok (All c.in_ok-words-in-Made.words)
+    = ap (λ ws. words_made limits variables (words_of ws) []) (sym here) ∙ c.in_ok-words-in-Made.ensures in
     let same : c.as_slice.result.now ≡ c.in_ok-words-in-Made.words = search rules in
     let does : words_do host limits level (words_of_command c.args.command.now) [] state variables (suc m.fuel) ≡ call host limits level c.as_slice.result.now state variables (suc m.fuel)
     = ap (λ k. words_do host limits level (words_of_command k) [] state variables (suc m.fuel)) c.in-Made.is
     ∙ words_do_made host limits level state variables (suc m.fuel) (words_of c.in-Made.words.value.items) []
-    ∙ ap (λ r. given limits r state variables (suc m.fuel) (words_go host limits level state variables (suc m.fuel))) c.in_ok-words-in-Made.ensures
+    ∙ ap (λ r. given limits r state variables (suc m.fuel) (words_go host limits level state variables (suc m.fuel))) made
     ∙ ap (λ ws. call host limits level ws state variables (suc m.fuel)) (sym same) in
     let all = subst (λ o. IfSome c.command_at_once-in-Made.result (λ end. EndsAs c.args.asked o end state c.command_at_once-in-Made.new.variables m.fuel)) (sym does) c.command_at_once-in-Made.ensures.some in
     subst (λ v. IfSome c.command_at_once-in-Made.result (λ end. EndsAs c.args.asked (words_do host limits level (words_of_command c.args.command.now) [] state v (suc m.fuel)) end state c.command_at_once-in-Made.new.variables m.fuel))
