@@ -9,3 +9,4 @@ pub mod Spelled
 pub mod Told
 pub mod Faults
 pub mod Drops
+pub mod Fronts

@@ -33,3 +33,15 @@ abbrev pub script_of_commands : List Command → Option ScriptFault → Script
 script_of_commands [] None = no_command
 script_of_commands [] (Some fault) = faulty fault
 script_of_commands (c ∷ rest) fault = command (words_of_command c) (script_of_commands rest fault)
+
+-- the words of the command at the front, where there is one
+abbrev pub first_words : Script → Option Words
+first_words no_command = None
+first_words (faulty fault) = None
+first_words (command words rest) = Some words
+
+-- what is behind the command at the front; a script without one stays
+abbrev pub behind : Script → Script
+behind no_command = no_command
+behind (faulty fault) = faulty fault
+behind (command words rest) = rest

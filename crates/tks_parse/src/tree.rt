@@ -4,6 +4,7 @@ ghost use Rattle.tks_parse.specs.Tree.{chars, no_part};
 ghost use Rattle.tks_parse.specs.View.{script_of_commands, words_of, ready_words, words_of_command, parts_of};
 
 use crate::left::Left;
+use crate::left_script::LeftScript;
 use std::alloc::{AllocError, Global};
 use std::marker::Model;
 use std::rc::Rc;
@@ -14,8 +15,15 @@ use tks_text::{ScriptFault, Txt};
 #[cycle(tree)]
 #[derive(Drop)]
 pub struct Script {
-    commands: Rc<Vec<Command>>,
-    fault: Option<ScriptFault>,
+    contents: Rc<Contents>,
+}
+
+/// What a script is made of: its commands, and the fault behind them if there is one.
+#[cycle(tree)]
+#[derive(Drop)]
+pub(crate) struct Contents {
+    pub(crate) commands: Vec<Command>,
+    pub(crate) fault: Option<ScriptFault>,
 }
 
 /// A command: its words, the name first.
@@ -65,14 +73,14 @@ impl Model for Script {
 
     ghost use Rattle.tks_parse.specs.View.{script_of_commands};
 
-    ghost view = { λ s. script_of_commands s.commands.value.items s.fault };
+    ghost view = { λ s. script_of_commands s.contents.value.commands.items s.contents.value.fault };
 
     ghost size = { script_size };
 
     ghost use Rattle.std.proofs.Common.{arith};
     ghost use Rattle.tks_parse.specs.Falls.{commands_fall};
 
-    ghost size_decreases = { λ s h. Prim.omega (arith, commands_fall s.commands.value.items s.fault) };
+    ghost size_decreases = { λ s h. Prim.omega (arith, commands_fall s.contents.value.commands.items s.contents.value.fault) };
 }
 
 impl Model for Parts {
@@ -94,29 +102,6 @@ impl Model for Parts {
     ghost size_decreases = { λ p h. Prim.omega (arith, parts_fall p.parts.value.items) };
 }
 
-// A fault once more.
-fn fault_again(fault: &Option<ScriptFault>) -> Result<Option<ScriptFault>, AllocError>
-    ensures { IfOk result (λ f. f ≡ fault.now) }
-{
-    match fault {
-        None => Ok(None),
-        Some(fault) => Ok(Some(ScriptFault {
-            number: fault.number,
-            subject: subject_again(&fault.subject)?,
-        })),
-    }
-}
-
-// A fault's subject once more.
-fn subject_again(subject: &Option<Txt>) -> Result<Option<Txt>, AllocError>
-    ensures { IfOk result (λ s. s ≡ subject.now) }
-{
-    match subject {
-        None => Ok(None),
-        Some(text) => Ok(Some(text.try_clone()?)),
-    }
-}
-
 impl Script {
     /// The script of these commands, with a fault behind them or none.
     pub(crate) fn new(
@@ -126,19 +111,18 @@ impl Script {
     ) -> Result<Script, AllocError>
         ensures { IfOk result (λ s. s ≡ script_of_commands commands.items fault) }
     {
-        match Rc::new(alloc, commands) {
-            Ok(commands) => Ok(Script { commands, fault }),
+        match Rc::new(alloc, Contents { commands, fault }) {
+            Ok(contents) => Ok(Script { contents }),
             Err(_) => Err(AllocError),
         }
     }
 
-    /// The same script, held once more: nothing of it is copied but a fault's subject.
+    /// The same script, held once more: nothing of it is copied.
     pub fn share(&self) -> Result<Script, AllocError>
         ensures { IfOk result (λ s. s ≡ self.now) }
     {
         Ok(Script {
-            commands: self.commands.clone()?,
-            fault: fault_again(&self.fault)?,
+            contents: self.contents.clone()?,
         })
     }
 
@@ -146,14 +130,15 @@ impl Script {
     pub fn contents(&self) -> (&[Command], Option<&ScriptFault>)
         ensures { script_of_commands result.0.now (option_copied result.1) ≡ self.now }
     {
-        (self.commands.as_ref().as_slice(), self.fault.as_ref())
+        let contents = self.contents.as_ref();
+        (contents.commands.as_slice(), contents.fault.as_ref())
     }
 
     /// The same, to go on in.
-    pub fn into_contents(self) -> (Left<Command>, Option<ScriptFault>)
-        ensures { script_of_commands result.0 result.1 ≡ self }
+    pub fn into_left(self) -> LeftScript
+        ensures { result ≡ self }
     {
-        (Left::all(self.commands), self.fault)
+        LeftScript::all(self.contents)
     }
 }
 
