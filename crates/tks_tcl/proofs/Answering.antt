@@ -6,7 +6,7 @@ use Rattle.tks_list.specs.Reading.{list_of}
 use Rattle.tks_vars.specs.Variables.{Variables}
 use Rattle.tks_tcl.specs.Cause.{Cause, OverLimit, after, fits}
 use Rattle.tks_tcl.specs.Words.{list_read}
-use Rattle.tks_tcl.specs.Lists.{indexed}
+use Rattle.tks_tcl.specs.Lists.{indexed, ranged}
 use Rattle.tks_tcl.specs.Variables.{answers}
 use Rattle.tks_tcl.specs.Plain.{Answer, Answers, with_code_0, answered, plain}
 
@@ -27,3 +27,8 @@ module _ (limits : Limits) (variables : Variables) where
       → plain limits (codes "llength" ∷ text ∷ []) variables ≡ Some (Answers 0 t variables)
   llength_answers l t text fit h is =
       ap (λ r. told (after (list_read r) (λ l. Ok (decimal (length l))))) is ∙ ap (λ n. told (Ok n)) (sym h) ∙ answer t fit
+
+  pub lrange_answers : (l : List (List ℕ)) (first last t text : List ℕ) → fits limits t ≡ true → ranged l first last ≡ Ok t → list_of text ≡ Some l
+      → plain limits (codes "lrange" ∷ text ∷ first ∷ last ∷ []) variables ≡ Some (Answers 0 t variables)
+  lrange_answers l first last t text fit h is =
+      ap (λ r. told (after (list_read r) (λ l. ranged l first last))) is ∙ ap told h ∙ answer t fit

@@ -94,10 +94,13 @@ abbrev pub lindex_does : List ℕ → List (List ℕ) → Result (List ℕ) Caus
 lindex_does command (list ∷ i ∷ []) = after (list_in list) (λ l. indexed l i)
 lindex_does command words = wrong_words command
 
+-- the text of a list of the members from the index that one text spells to that of another
+abbrev pub ranged : List (List ℕ) → List ℕ → List ℕ → Result (List ℕ) Cause
+ranged l a b = after (index_in a) (λ first. after (index_in b) (λ last. Ok (joined (range first last l))))
+
 -- lrange l a b
 abbrev pub lrange_does : List ℕ → List (List ℕ) → Result (List ℕ) Cause
-lrange_does command (list ∷ a ∷ b ∷ []) =
-    after (list_in list) (λ l. after (index_in a) (λ first. after (index_in b) (λ last. Ok (joined (range first last l)))))
+lrange_does command (list ∷ a ∷ b ∷ []) = after (list_in list) (λ l. ranged l a b)
 lrange_does command words = wrong_words command
 
 -- the place of a value in a list

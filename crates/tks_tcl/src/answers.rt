@@ -4,7 +4,7 @@ ghost use Rattle.tks_list.specs.Reading.{list_of};
 ghost use Rattle.tks_vars.specs.Variables.{Variables};
 ghost use Rattle.tks_tcl.specs.Plain.{Answers, plain};
 
-use crate::elements::{lindex_of, llength_of};
+use crate::elements::{lindex_of, llength_of, lrange_of};
 use crate::interrupt::fits;
 use std::alloc::Global;
 use tks_list::Elements;
@@ -32,6 +32,27 @@ pub fn llength_answer(alloc: Global, list: &Elements, limits: &Limits) -> Option
     ensures { IfSome result (λ t. (text : List ℕ) → (variables : Variables) → list_of text ≡ Some list.now → plain limits.now (codes "llength" ∷ text ∷ []) variables ≡ Some (Answers 0 t variables)) }
 {
     let Ok(text) = llength_of(alloc, list) else {
+        return None;
+    };
+    if fits(&text, limits) {
+        Some(text)
+    } else {
+        None
+    }
+}
+
+/// The same of `lrange`, and two indices.
+#[tactic(auto, using(crate::proofs::Answering::lrange_answers))]
+pub fn lrange_answer(
+    alloc: Global,
+    list: &Elements,
+    first: &Txt,
+    last: &Txt,
+    limits: &Limits,
+) -> Option<Txt>
+    ensures { IfSome result (λ t. (text : List ℕ) → (variables : Variables) → list_of text ≡ Some list.now → plain limits.now (codes "lrange" ∷ text ∷ first.now ∷ last.now ∷ []) variables ≡ Some (Answers 0 t variables)) }
+{
+    let Ok(text) = lrange_of(alloc, list, first, last) else {
         return None;
     };
     if fits(&text, limits) {

@@ -4,7 +4,7 @@ ghost use Rattle.std.specs.Fmt.{decimal};
 ghost use Rattle.tks_list.specs.Quoting.{joined};
 ghost use Rattle.tks_tcl.specs.Cause.{fits, within};
 ghost use Rattle.tks_tcl.specs.Index.{range};
-ghost use Rattle.tks_tcl.specs.Lists.{first_or_empty, indexed, separated, joined_by};
+ghost use Rattle.tks_tcl.specs.Lists.{first_or_empty, indexed, ranged, separated, joined_by};
 ghost use Rattle.tks_tcl.specs.Meets.{GivesSo};
 ghost use Rattle.tks_tcl.specs.Room.{room_of};
 ghost use Rattle.tks_tcl.specs.View.{index_of};
@@ -43,8 +43,8 @@ pub fn lindex_of(alloc: Global, list: &Elements, index: &Txt) -> Result<Txt, Int
     Ok(element_at(alloc, list, index)?)
 }
 
-/// The text of a list of those from one index to another.
-pub fn joined_range(
+// The text of a list of those from one index to another.
+fn joined_range(
     alloc: Global,
     list: &Elements,
     first: Index,
@@ -54,6 +54,15 @@ pub fn joined_range(
 {
     let (front, behind) = bounds(list.len(), first, last);
     list.joined(alloc, front, behind)
+}
+
+/// What `lrange` answers of a text that splits into this list, and these indices.
+pub fn lrange_of(alloc: Global, list: &Elements, first: &Txt, last: &Txt) -> Result<Txt, Interrupt>
+    ensures { GivesSo (λ t. t) result (ranged list.now first.now last.now) }
+{
+    let first = index_in(alloc, first)?;
+    let last = index_in(alloc, last)?;
+    Ok(joined_range(alloc, list, first, last)?)
 }
 
 // Whether the elements, and so many bytes more with each, are no more than this room.

@@ -8,8 +8,7 @@ ghost use Rattle.tks_list.specs.Quoting.{joined};
 ghost use Rattle.tks_tcl.specs.Lists.{place_text, separated, joined_by, without_end, trimmed, concatenated, is_among, fields, split_at, llength_does, lindex_does, lrange_does, searched, lsearch_does, join_does, split_does};
 ghost use Rattle.tks_tcl.specs.View.{list_command_of};
 
-use crate::elements::{elements_joined, joined_range, lindex_of, llength_of};
-use crate::index::index_in;
+use crate::elements::{elements_joined, lindex_of, llength_of, lrange_of};
 use crate::interrupt::{Interrupt, error_about, within, wrong_words};
 use crate::room::have_room;
 use crate::table::ListTable;
@@ -117,9 +116,7 @@ fn run_lrange(
     match words {
         [list, first, last] => {
             let list = lists.list(alloc, list)?;
-            let first = index_in(alloc, first)?;
-            let last = index_in(alloc, last)?;
-            Ok(joined_range(alloc, list.get(), first, last)?)
+            lrange_of(alloc, list.get(), first, last)
         }
         _ => Err(wrong_words(command)),
     }
