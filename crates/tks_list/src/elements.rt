@@ -25,10 +25,13 @@ pub fn cut(text: &[u8], span: Span) -> &[u8]
     front.split_at(span.start.min(front.len())).1
 }
 
-/// Texts that lie one behind the other in one buffer. Contracts see the list of them.
+/// The most elements of a list.
+const MAX_LEN: usize = 4_294_967_295;
+
+/// Texts that lie one behind the other in one buffer, fewer than 2^32. Contracts see the list of them.
 pub struct Elements {
     bytes: Vec<u8>,
-    spans: Seq<Span>,
+    spans: Vec<Span>,
 }
 
 // Written out, so that to let go of it is one step for whoever owns it.
@@ -40,24 +43,25 @@ impl Drop for Elements {
 
 impl Model for Elements {
     ghost use Rattle.std.specs.Prelude.{List, ℕ, length, map};
+    ghost use Rattle.tks_text.specs.Short.{IsShort};
     ghost use Rattle.tks_text.specs.Text.{IsText};
     ghost use Rattle.tks_list.specs.Cuts.{cut, AllEnd};
 
     ghost Value = { List (List ℕ) };
 
-    ghost view = { λ e. map (cut e.bytes.items) e.spans };
+    ghost view = { λ e. map (cut e.bytes.items) e.spans.items };
 
-    ghost invariant = { λ e. IsText e.bytes.items × AllEnd (length e.bytes.items) e.spans };
+    ghost invariant = { λ e. IsText e.bytes.items × (AllEnd (length e.bytes.items) e.spans.items × IsShort e.spans.items) };
 }
 
 impl Elements {
-    /// No elements, with room for so many bytes of them.
-    pub fn with_room(alloc: Global, room: usize) -> Result<Elements, AllocError>
+    /// No elements, with room for so many, and for so many bytes of them.
+    pub fn with_room(alloc: Global, count: usize, len: usize) -> Result<Elements, AllocError>
         ensures { IfOk result (λ e. e ≡ []) }
     {
         Ok(Elements {
-            bytes: Vec::with_capacity(alloc, room)?,
-            spans: Seq::new(alloc),
+            bytes: Vec::with_capacity(alloc, len)?,
+            spans: Vec::with_capacity(alloc, count)?,
         })
     }
 
@@ -75,15 +79,18 @@ impl Elements {
         ensures value { result.now ≡ get_or self.now index result.now }
         ensures text { IsText result.now }
     {
-        cut(&self.bytes, self.spans.as_slice()[index])
+        cut(&self.bytes, self.spans[index])
     }
 
-    /// Adds an element at the end.
+    /// Adds an element at the end. One too many is refused as memory is.
     pub fn push(&mut self, element: &[u8]) -> Result<(), AllocError>
         requires { IsText element.now }
         ensures ok { OnOk result (self.new ≡ self.old ++ element.now ∷ []) }
         ensures err { OnErr result (self.new ≡ self.old) }
     {
+        if self.spans.len() >= MAX_LEN {
+            return Err(AllocError);
+        }
         let start = self.bytes.len();
         self.bytes.extend_from_slice(element)?;
         let end = self.bytes.len();
@@ -107,7 +114,7 @@ impl Elements {
         ensures value { result ≡ position (λ element. same_text element value.now) self.now }
         ensures short { IsShort self.now }
     {
-        place(&self.bytes, self.spans.as_slice(), value.as_bytes())
+        place(&self.bytes, &self.spans, value.as_bytes())
     }
 
     /// Each element as a text of its own.
@@ -152,7 +159,7 @@ impl Elements {
 
 impl Copied for Elements {
     fn copied(&self, alloc: Global) -> Result<Elements, AllocError> {
-        let mut copy = Elements::with_room(alloc, self.bytes.len())?;
+        let mut copy = Elements::with_room(alloc, self.spans.len(), self.bytes.len())?;
         copy.append(self)?;
         Ok(copy)
     }

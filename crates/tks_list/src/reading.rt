@@ -12,6 +12,9 @@ use crate::fault::ListFault;
 use std::alloc::{AllocError, Global};
 use tks_text::{Seq, Txt, escape, is_space};
 
+/// The most elements that room is made for before a text is read.
+const MOST_ROOM: usize = 16;
+
 /// Where the characters of an element are.
 #[derive(Clone, Copy)]
 pub enum Found {
@@ -232,11 +235,16 @@ fn add_text(
     }
 }
 
+// How many elements room is made for before a text is read: as many as it may have, or some where it is long.
+fn first_room(text: &Txt) -> usize {
+    text.len().div_ceil(2).min(MOST_ROOM)
+}
+
 // The elements of a text, up to its end.
 fn read_list(alloc: Global, text: &Txt) -> Result<Elements, ListFault>
     ensures { ListRead result (list_of text.now) }
 {
-    let mut list = Elements::with_room(alloc, text.len())?;
+    let mut list = Elements::with_room(alloc, first_room(text), text.len())?;
     let mut made = CharBuffer::new(alloc);
     let mut rest = text.as_bytes();
     'elements: while let Some((element, more)) = read_element(&mut made, rest)? {
