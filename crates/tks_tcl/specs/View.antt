@@ -1,4 +1,5 @@
--- The code's own commands and indices, as the definitions see them.
+-- The code's own commands, indices and lists, as the definitions see them.
+use Rattle.std.specs.Prelude.{ℕ, List}
 use Rattle.tks_tcl.specs.Codes.{CodeCommand, bare_code, raises, returns}
 use Rattle.tks_tcl.specs.Lists.{ListCommand, concat_does, join_does, lindex_does, list_does, llength_does, lrange_does, lsearch_does, split_does}
 use Rattle.tks_tcl.specs.Strings.{string_does}
@@ -15,6 +16,8 @@ use Rattle.tks_tcl.specs.declared.command.Command.{Command as Coded}
 use Rattle.tks_tcl.specs.declared.command.Command.TheVariants as command
 use Rattle.tks_tcl.specs.declared.index.Index.{Index as CodedIndex}
 use Rattle.tks_tcl.specs.declared.index.Index.TheVariants as index
+use Rattle.tks_tcl.specs.declared.lent.Lent.{Lent}
+use Rattle.tks_tcl.specs.declared.lent.Lent.TheVariants as lent
 
 -- the commands with a code of their own
 abbrev pub code_command_of : CodedCode → CodeCommand
@@ -55,3 +58,8 @@ command_of (command.OfVariables c) = of_variables (variable_command_of c)
 abbrev pub index_of : CodedIndex → Index
 index_of (index.Start n) = FromStart n
 index_of (index.End n) = FromEnd n
+
+-- the list that a command reads
+abbrev pub elements_of : Lent → List (List ℕ)
+elements_of (lent.Kept l) = l
+elements_of (lent.Read l) = l

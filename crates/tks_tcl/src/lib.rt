@@ -10,6 +10,7 @@ mod growing;
 mod index;
 mod interrupt;
 mod laws;
+mod lent;
 mod lists;
 mod quiet;
 mod room;

@@ -1,9 +1,11 @@
 //! Lists that were read, so that a script that reads one again and again splits its text once.
 ghost use Rattle.std.specs.Prelude.{◌≡◌, IfSome, Ok};
 ghost use Rattle.tks_tcl.specs.Meets.{GivesSo};
+ghost use Rattle.tks_tcl.specs.View.{elements_of};
 ghost use Rattle.tks_tcl.specs.Words.{list_in};
 
 use crate::interrupt::Interrupt;
+use crate::lent::Lent;
 use crate::words::{elements_in, list_in};
 use std::alloc::{AllocError, Global};
 use std::marker::Model;
@@ -113,18 +115,27 @@ impl ListTable {
         None
     }
 
-    /// The list that a text splits into, read where it isn't kept, and then kept where memory serves.
-    pub fn list(&mut self, alloc: Global, text: &Txt) -> Result<Shared<Elements>, Interrupt>
+    // The list that a text splits into, read where it isn't kept, and then kept where memory serves.
+    fn list_kept(&mut self, alloc: Global, text: &Txt) -> Result<Shared<Elements>, Interrupt>
         ensures { GivesSo (λ l. l) result (list_in text.now) }
     {
         if let Some(list) = self.kept(text) {
             return Ok(list);
         }
         let list = Shared::new(alloc, elements_in(alloc, text)?)?;
-        if text.len() >= LEAST_LEN {
-            let _ = self.keep(text, &list);
-        }
+        let _ = self.keep(text, &list);
         Ok(list)
+    }
+
+    /// The list that a text splits into: kept where the text is long enough, or else read.
+    pub fn list(&mut self, alloc: Global, text: &Txt) -> Result<Lent, Interrupt>
+        ensures { GivesSo elements_of result (list_in text.now) }
+    {
+        if text.len() < LEAST_LEN {
+            Ok(Lent::Read(elements_in(alloc, text)?))
+        } else {
+            Ok(Lent::Kept(self.list_kept(alloc, text)?))
+        }
     }
 
     /// The list that a text splits into, which no one else holds: a copy of the one that is kept, or else read.
