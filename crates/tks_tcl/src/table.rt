@@ -128,7 +128,7 @@ impl ListTable {
     }
 
     /// The list that a text splits into: kept where the text is long enough, or else read.
-    pub fn list(&mut self, alloc: Global, text: &Txt) -> Result<Lent, Interrupt>
+    pub(crate) fn list(&mut self, alloc: Global, text: &Txt) -> Result<Lent, Interrupt>
         ensures { GivesSo elements_of result (list_in text.now) }
     {
         if text.len() < LEAST_LEN {
