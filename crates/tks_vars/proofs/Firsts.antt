@@ -8,13 +8,14 @@ use Rattle.std.specs.Cmp.Lexicographic as texts
 use Rattle.std.specs.Cmp.Lexicographic.{nat_list_cmp_total, texts_ties}
 use Rattle.std.proofs.lemmas.Bool.Decides.{nat_tests}
 use Rattle.std.proofs.lemmas.Cmp.{eq_by_cmp_equiv}
+use Rattle.std.proofs.lemmas.List.{length-append, length-set}
 use Rattle.std.proofs.lemmas.List.Quantifiers.{position-Some}
 use Rattle.std.proofs.lemmas.Option.{slice_get-get_or}
 use Rattle.tks_text.specs.Text.{same_text}
 use Rattle.tks_share.specs.Maps.{IsChangedIn}
 use Rattle.tks_vars.specs.Table.{Map}
-use Rattle.tks_vars.specs.Few.{put_behind, IsChangedAt, Lacks}
-use Rattle.tks_vars.proofs.Entries.{put_last}
+use Rattle.tks_vars.specs.Few.{put_behind, AreApart, put_at, IsChangedAt, Lacks}
+use Rattle.tks_vars.proofs.Entries.{order, put_last}
 use Rattle.tks_vars.proofs.Keeping.{same_or_other, put_here, put_elsewhere, taken_here, taken_elsewhere}
 
 -- ---- two changes of a map, one after the other
@@ -121,6 +122,10 @@ module _ (k : List ℕ) where
   another x e same =
       true≢false (sym (texts_ties k k ∙ (eq_by_cmp_equiv nat_list_cmp_total).refl k) ∙ subst (λ x. same_text x k ≡ false) same e)
 
+-- where there is no name, no two are the same
+pub none_apart : (V : Type 0) → AreApart {V = V} []
+none_apart V = sym (fin.len-empty order V)
+
 module _ {V : Type 0} (k : List ℕ) where
   abbrev pub is : List ℕ × V → Bool
   is e = same_text e.0 k
@@ -217,6 +222,25 @@ module _ {V : Type 0} (k : List ℕ) where
   put_at_end m v es h = put_last m es (k, v) ∙ put_before m v es h
 
   -- ---- wherever the name is
+
+  -- what is put there, or behind them all, is put into the whole
+  pub put_one : (m : Map V) (v : V) (es : List (List ℕ × V)) (o : Option ℕ) → position is es ≡ o → put_behind m (put_at o (k, v) es) ≡ fin.insert (put_behind m es) k v
+  put_one m v es None e = put_at_end m v es (lacks es e)
+  put_one m v es (Some i) e = set_at m v es i e
+
+  there : (m : Map V) (es : List (List ℕ × V)) (i : ℕ) → position is es ≡ Some i → fin.contains_key (put_behind m es) k ≡ true
+  there m [] i e = absurd (true≢false (ap is_some (sym e)))
+  there m (x ∷ es) i e = ap is_some (found_at m (x ∷ es) i x e)
+
+  -- and each entry still has a name of its own
+  pub stay_apart : (v : V) (es : List (List ℕ × V)) (o : Option ℕ) → position is es ≡ o → AreApart es → AreApart (put_at o (k, v) es)
+  stay_apart v es None e apart =
+      length-append es ((k, v) ∷ []) ∙ ap (λ n. n + 1) apart
+      ∙ len_new (put_behind fin.empty es) k v (ap is_some (found_behind fin.empty es (lacks es e) ∙ fin.get-empty order k))
+      ∙ sym (ap fin.len (put_one fin.empty v es None e))
+  stay_apart v es (Some i) e apart =
+      length-set es i (k, v) ∙ apart ∙ len_there (put_behind fin.empty es) k v (there fin.empty es i e)
+      ∙ sym (ap fin.len (put_one fin.empty v es (Some i) e))
 
   pub taken_everywhere : (m : Map V) (es : List (List ℕ × V)) → put_behind (fin.remove m k) (filter (λ e. not (is e)) es) ≡ fin.remove (put_behind m es) k
   taken_everywhere m [] = refl

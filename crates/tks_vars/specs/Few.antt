@@ -1,5 +1,5 @@
 -- Names with what stands under them, in a list.
-use Rattle.std.specs.Prelude.{◌≡◌, ◌≢◌, ℕ, List, [], ◌∷◌, Some, slice_get, slice_set}
+use Rattle.std.specs.Prelude.{◌≡◌, ◌≢◌, ℕ, List, [], ◌∷◌, ◌++◌, length, Option, Some, None, slice_get, slice_set}
 use Rattle.std.specs.Coded.{Coded, coded×, coded_list, coded_ℕ}
 use Rattle.std.specs.FinMap as fin
 use Rattle.tks_vars.specs.Table.{Map}
@@ -18,6 +18,15 @@ module _ {V : Type 0} where
   abbrev pub put_behind : Map V → List (List ℕ × V) → Map V
   put_behind m [] = m
   put_behind m (e ∷ es) = fin.insert (put_behind m es) e.0 e.1
+
+  -- each entry has a name of its own
+  abbrev pub AreApart : List (List ℕ × V) → Type 0
+  AreApart es = length es ≡ fin.len (put_behind fin.empty es)
+
+  -- the entries with one more in this place, or behind them all
+  abbrev pub put_at : Option ℕ → List ℕ × V → List (List ℕ × V) → List (List ℕ × V)
+  put_at None e es = es ++ e ∷ []
+  put_at (Some place) e es = slice_set es place e
 
   -- no entry has the name
   abbrev pub Lacks : List ℕ → List (List ℕ × V) → Type 0

@@ -1,12 +1,15 @@
 ghost use Rattle.std.specs.Prelude.{◌≡◌, ◌<◌, ◌++◌, [], ◌∷◌, length, get_or, slice_set, position, filter, not, IfOk, IfSome, OnOk, OnErr};
 ghost use Rattle.tks_text.specs.Text.{same_text};
-ghost use Rattle.tks_vars.specs.Few.{IsChangedAt};
+ghost use Rattle.tks_vars.specs.Few.{IsChangedAt, put_at};
 
 use crate::content::Local;
 use std::alloc::{AllocError, Global};
 use std::marker::Model;
 use tks_share::{Change, Copied};
 use tks_text::Txt;
+
+/// The most names that are looked through one by one.
+pub(crate) const FEW: usize = 8;
 
 /// A few names, each with what stands under it, which are looked through one by one. Contracts see the list.
 pub struct Few {
@@ -81,6 +84,23 @@ impl Few {
     {
         self.entries.push((name, value))?;
         Ok(())
+    }
+
+    /// Puts a value under a name, in the place of the first one with it, or behind them all where there is none.
+    pub fn put(&mut self, name: Txt, value: Local) -> Result<(), AllocError>
+        ensures ok { OnOk result (self.new ≡ put_at (position (λ e. same_text e.0 name) self.old) (name, value) self.old) }
+        ensures err { OnErr result (self.new ≡ self.old) }
+    {
+        match self.place(name.as_bytes()) {
+            Some(place) => {
+                self.set(place, name, value);
+                Ok(())
+            }
+            None => {
+                self.push(name, value)?;
+                Ok(())
+            }
+        }
     }
 
     /// Takes a name out, wherever it is.

@@ -2,20 +2,17 @@
 ghost use Rattle.std.specs.Prelude.{◌≡◌, IfOk, IfSome, IfNone, None, OnOk, OnErr, option_copied};
 ghost use Rattle.std.specs.FinMap as map;
 ghost use Rattle.tks_share.specs.Maps.{IsChangedIn};
-ghost use Rattle.tks_vars.specs.Few.{put_behind, Lacks};
+ghost use Rattle.tks_vars.specs.Few.{put_behind, AreApart, Lacks};
 ghost use Rattle.tks_vars.specs.Table.{IsName};
 ghost use Rattle.tks_vars.specs.declared.content.Local.{Local as Value};
 
 use crate::content::Local;
-use crate::few::Few;
+use crate::few::{FEW, Few};
 use crate::table::Table;
 use std::alloc::{AllocError, Global};
 use std::marker::Model;
 use tks_share::{Change, Shared};
 use tks_text::Txt;
-
-/// The most names that are looked through one by one.
-const FEW: usize = 8;
 
 /// What stands under the names of a procedure's call. The first few names are looked through one by one, so that a call with
 /// few variables takes little memory; the others are in a table. Of a name that is in both, the first ones' counts. Contracts
@@ -61,9 +58,17 @@ impl Frame {
         ensures { IfOk result (λ f. f ≡ map.empty) }
     {
         let few = Few::with_room(alloc, FEW)?;
+        Frame::of(alloc, few)
+    }
+
+    /// Just these names, no two of which are the same.
+    pub fn of(alloc: Global, few: Few) -> Result<Frame, AllocError>
+        requires { AreApart few }
+        ensures { IfOk result (λ f. f ≡ put_behind map.empty few) }
+    {
         Ok(Frame {
             alloc,
-            len: 0,
+            len: few.len(),
             first: Shared::new(alloc, few)?,
             rest: Table::new(alloc),
         })

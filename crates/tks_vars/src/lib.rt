@@ -1,6 +1,7 @@
 //! The variables and procedures of scripts.
 #![tactic(auto)]
 
+mod call;
 mod content;
 mod few;
 mod frame;

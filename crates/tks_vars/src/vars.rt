@@ -7,6 +7,7 @@ ghost use Rattle.tks_vars.specs.Growth.{with_more};
 ghost use Rattle.tks_vars.specs.Meets.{AnswersSo, IsValue};
 ghost use Rattle.tks_vars.specs.Variables.{no_variables, at_global_level, innermost, content_of, is_global, value_at, value_of, with_value, global_value_at, global_value_of, with_global_value, without, exists, with_global_link, pushed, pushed_global, frame_of, pushed_with, frame_size, popped, with_procedure, size_in, grown_by_value, grown_by_global_value, grown_by_link};
 
+use crate::call::frame_of;
 use crate::content::{Content, Local};
 use crate::frame::Frame;
 use crate::growth::{lengthen_global, lengthen_local};
@@ -486,19 +487,6 @@ impl Vars {
             procedures: self.procedures.share()?,
         })
     }
-}
-
-// The frame of a call.
-fn frame_of(alloc: Global, arguments: Vec<Argument>) -> Result<Frame, AllocError>
-    ensures { IfOk result (λ frame. frame ≡ frame_of arguments.items) }
-{
-    let mut frame = Frame::new(alloc)?;
-    let mut arguments = arguments;
-    while let Some(Argument { name, value }) = arguments.pop() {
-        let value = Content::Scalar(ListText::of(value));
-        frame.insert_text(name, Local::Own(value))?;
-    }
-    Ok(frame)
 }
 
 // An equal frame.

@@ -1,9 +1,7 @@
-use Rattle.std.proofs.Common.{sym, ap, ◌∙◌}
-use Rattle.std.specs.FinMap as fin
-use Rattle.tks_vars.specs.Few.{put_behind}
-use Rattle.tks_vars.proofs.Entries.{order}
+use Rattle.std.proofs.Common.{subst, sym}
+use Rattle.tks_vars.specs.Few.{AreApart}
+use Rattle.tks_vars.proofs.Firsts.{none_apart}
 use Rattle.tks_vars.proofs.frame.Frame.new.Goals as goal
 
-pub invariant_of-result : goal.invariant_of-result
-invariant_of-result c =
-    sym (ap (λ es. fin.len (put_behind c.new-2.result es)) (c.in_ok-new.ensures ∙ c.in_ok-few.ensures) ∙ ap fin.len c.new-2.ensures ∙ fin.len-empty order _)
+pub of-requires : goal.of-requires
+of-requires c = subst AreApart (sym c.in_ok-few.ensures) (none_apart _)

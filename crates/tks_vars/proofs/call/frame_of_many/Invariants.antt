@@ -1,7 +1,7 @@
 use Rattle.std.proofs.Common.{◌≡◌, length}
 use Rattle.std.specs.Prelude.{reverse}
 use Rattle.tks_vars.specs.Variables.{filled, frame_of}
-use Rattle.tks_vars.proofs.vars.frame_of.Given as goal
+use Rattle.tks_vars.proofs.call.frame_of_many.Given as goal
 
 abbrev pub invariant-loop-name : goal.invariant-loop-name
 invariant-loop-name l = filled l.frame (reverse l.arguments.items) ≡ frame_of l.fn.arguments.items
