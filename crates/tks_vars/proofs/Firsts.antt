@@ -1,5 +1,5 @@
 -- A map with a few entries put in behind it: what a change of these, or of the map, makes of the whole.
-use Rattle.std.proofs.Common.{◌≡◌, ◌≢◌, ◌<◌, ◌≤◌, ℕ, zero, suc, ◌+◌, ◌-◌, Bool, true, false, not, cond, nat_lt, List, [], ◌∷◌, ◌++◌, length, set, get_or, Option, Some, None, is_some, position, refl, sym, subst, ap, ◌∙◌, true≢false, arith}
+use Rattle.std.proofs.Common.{◌≡◌, ◌≢◌, ◌<◌, ◌≤◌, ℕ, zero, suc, ◌+◌, ◌-◌, Bool, true, false, not, cond, if◌then◌else◌, nat_lt, List, [], ◌∷◌, ◌++◌, length, set, get_or, Option, Some, None, is_some, position, refl, sym, subst, ap, ◌∙◌, true≢false, arith}
 use Rattle.std.specs.Prelude.{filter, IfSome, IfNone}
 use Rattle.std.specs.List.{prefix_len}
 use mathlib.Core.Logic.{inl, inr}
@@ -84,9 +84,6 @@ module _ {V : Type 0} where
 
   pub len_there : (m : Map V) (k : List ℕ) (v : V) → fin.contains_key m k ≡ true → fin.len m ≡ fin.len (fin.insert m k v)
   len_there m k v e = sym (fin.len-insert nat_list_cmp_total m k v ∙ ap (λ b. cond b (fin.len m) (fin.len m + 1)) e)
-
-  pub len_new : (m : Map V) (k : List ℕ) (v : V) → fin.contains_key m k ≡ false → fin.len m + 1 ≡ fin.len (fin.insert m k v)
-  len_new m k v e = sym (fin.len-insert nat_list_cmp_total m k v ∙ ap (λ b. cond b (fin.len m) (fin.len m + 1)) e)
 
   pub len_taken : (m : Map V) (k : List ℕ) → fin.contains_key m k ≡ true → fin.len m - 1 ≡ fin.len (fin.remove m k)
   len_taken m k e = sym (fin.len-remove nat_list_cmp_total m k ∙ ap (λ b. cond b (fin.len m - 1) (fin.len m)) e)
@@ -232,14 +229,25 @@ module _ {V : Type 0} (k : List ℕ) where
   there m [] i e = absurd (true≢false (ap is_some (sym e)))
   there m (x ∷ es) i e = ap is_some (found_at m (x ∷ es) i x e)
 
-  -- and each entry still has a name of its own
+  -- how many names the whole has then, by the entries' place or by the map
+  pub len_at : (m : Map V) (v : V) (es : List (List ℕ × V)) (i : ℕ) → position is es ≡ Some i → fin.len (put_behind m es) ≡ fin.len (fin.insert (put_behind m es) k v)
+  len_at m v es i e = len_there (put_behind m es) k v (there m es i e)
+
+  pub len_behind : (m : Map V) (v : V) (es : List (List ℕ × V)) → Lacks k es
+      → (if fin.contains_key m k then fin.len (put_behind m es) else fin.len (put_behind m es) + 1) ≡ fin.len (fin.insert (put_behind m es) k v)
+  len_behind m v es h =
+      let whole = put_behind m es in
+      ap (λ o. if is_some o then fin.len whole else fin.len whole + 1) (sym (found_behind m es h)) ∙ sym (fin.len-insert nat_list_cmp_total whole k v)
+
+  -- each entry still has a name of its own
   pub stay_apart : (v : V) (es : List (List ℕ × V)) (o : Option ℕ) → position is es ≡ o → AreApart es → AreApart (put_at o (k, v) es)
   stay_apart v es None e apart =
+      let whole = put_behind fin.empty es in
       length-append es ((k, v) ∷ []) ∙ ap (λ n. n + 1) apart
-      ∙ len_new (put_behind fin.empty es) k v (ap is_some (found_behind fin.empty es (lacks es e) ∙ fin.get-empty order k))
+      ∙ ap (λ o. if is_some o then fin.len whole else fin.len whole + 1) (sym (fin.get-empty order k)) ∙ len_behind fin.empty v es (lacks es e)
       ∙ sym (ap fin.len (put_one fin.empty v es None e))
   stay_apart v es (Some i) e apart =
-      length-set es i (k, v) ∙ apart ∙ len_there (put_behind fin.empty es) k v (there fin.empty es i e)
+      length-set es i (k, v) ∙ apart ∙ len_at fin.empty v es i e
       ∙ sym (ap fin.len (put_one fin.empty v es (Some i) e))
 
   pub taken_everywhere : (m : Map V) (es : List (List ℕ × V)) → put_behind (fin.remove m k) (filter (λ e. not (is e)) es) ≡ fin.remove (put_behind m es) k

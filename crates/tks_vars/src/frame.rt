@@ -1,10 +1,9 @@
 //! The variables of a procedure's call.
-ghost use Rattle.std.specs.Prelude.{◌≡◌, IfOk, IfSome, IfNone, None, OnOk, OnErr, option_copied};
+ghost use Rattle.std.specs.Prelude.{◌≡◌, ◌+◌, if◌then◌else◌, IfOk, IfSome, IfNone, None, OnOk, OnErr, option_copied};
 ghost use Rattle.std.specs.FinMap as map;
 ghost use Rattle.tks_share.specs.Maps.{IsChangedIn};
 ghost use Rattle.tks_vars.specs.Few.{put_behind, AreApart, Lacks};
 ghost use Rattle.tks_vars.specs.Table.{IsName};
-ghost use Rattle.tks_vars.specs.declared.content.Local.{Local as Value};
 
 use crate::content::Local;
 use crate::few::{FEW, Few};
@@ -111,19 +110,6 @@ impl Frame {
         }
     }
 
-    // How many names there are with this one.
-    fn len_with(&self, name: &[u8]) -> Result<usize, AllocError>
-        ensures { IfOk result (λ len. (value : Value) → len ≡ map.len (map.insert self.now name.now value)) }
-    {
-        if self.contains(name) {
-            return Ok(self.len);
-        }
-        match self.len.checked_add(1) {
-            Some(len) => Ok(len),
-            None => Err(AllocError),
-        }
-    }
-
     /// Puts a value under a name, in the place of the one that is there.
     pub fn insert(&mut self, name: &[u8], value: Local) -> Result<(), AllocError>
         requires { IsName name.now }
@@ -140,10 +126,18 @@ impl Frame {
         ensures ok { OnOk result (self.new ≡ map.insert self.old name value) }
         ensures err { OnErr result (self.new ≡ self.old) }
     {
-        let len = self.len_with(name.as_bytes())?;
-        put(self.alloc, &mut self.first, &mut self.rest, name, value)?;
-        self.len = len;
-        Ok(())
+        match self.first.get().place(name.as_bytes()) {
+            Some(place) => {
+                self.first.get_mut(self.alloc)?.set(place, name, value);
+                Ok(())
+            }
+            None => {
+                let len = len_with(self.len, &self.rest, name.as_bytes())?;
+                add(self.alloc, &mut self.first, &mut self.rest, name, value)?;
+                self.len = len;
+                Ok(())
+            }
+        }
     }
 
     /// Takes a name out.
@@ -183,30 +177,20 @@ impl Frame {
     }
 }
 
-// Puts a value under a name, among the first ones or the rest.
-fn put(
-    alloc: Global,
-    first: &mut Shared<Few>,
-    rest: &mut Table<Local>,
-    name: Txt,
-    value: Local,
-) -> Result<(), AllocError>
-    ensures ok { OnOk result (put_behind rest.new first.new ≡ map.insert (put_behind rest.old first.old) name value) }
-    ensures err { OnErr result ((first.new ≡ first.old) × (rest.new ≡ rest.old)) }
+// How many names there are with this one, which isn't among the first ones, where there were so many.
+fn len_with(len: usize, rest: &Table<Local>, name: &[u8]) -> Result<usize, AllocError>
+    ensures { IfOk result (λ more. more ≡ (if map.contains_key rest.now name.now then len else len + 1)) }
 {
-    match first.get().place(name.as_bytes()) {
-        Some(place) => {
-            first.get_mut(alloc)?.set(place, name, value);
-            Ok(())
-        }
-        None => {
-            add(alloc, first, rest, name, value)?;
-            Ok(())
-        }
+    if rest.contains(name) {
+        return Ok(len);
+    }
+    match len.checked_add(1) {
+        Some(len) => Ok(len),
+        None => Err(AllocError),
     }
 }
 
-// The same of a name that isn't among the first ones.
+// Puts a value under a name that isn't among the first ones: behind these, or into the rest.
 fn add(
     alloc: Global,
     first: &mut Shared<Few>,
