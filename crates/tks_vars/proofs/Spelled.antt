@@ -1,13 +1,15 @@
 -- How the name of an element is spelled.
-use Rattle.std.proofs.Common.{◌≡◌, ◌≢◌, ℕ, suc, ◌+◌, ◌-◌, ◌<◌, ◌==◌, Bool, true, false, not, cond, nat_lt, if◌then◌else◌, List, [], ◌∷◌, ◌++◌, length, take, drop, Option, Some, None, option_map, refl, sym, ap, ◌∙◌, arith}
+use Rattle.std.proofs.Common.{◌≡◌, ◌≢◌, ℕ, suc, ◌+◌, ◌-◌, ◌<◌, ◌==◌, Bool, true, false, not, cond, nat_lt, if◌then◌else◌, List, [], ◌∷◌, ◌++◌, length, take, drop, Option, Some, None, option_map, refl, sym, subst, ap, ◌∙◌, arith}
 use Rattle.std.specs.List.{list_all, position, position_or_len}
 use Rattle.std.specs.Cmp.Lexicographic as texts
-use Rattle.std.proofs.lemmas.List.{take-append-drop, length-append}
+use Rattle.std.proofs.lemmas.List.{take-append-drop, take-append-le, drop-append-le, length-append}
+use Rattle.std.proofs.lemmas.List.Folds.{position_or_len_push}
+use Rattle.std.proofs.lemmas.List.Quantifiers.{position-Some}
 use Rattle.std.proofs.Math.Seq.{take-append_seam, drop-append_seam, drop-append-add}
 use Rattle.std.proofs.lemmas.Bool.{eqb-true, and_parts, and_from}
 use Rattle.std.proofs.lemmas.Bool.Decides.{nat_tests}
 use Rattle.tks_text.specs.Text.{same_text}
-use Rattle.tks_vars.specs.Names.{Name, closed, whole, element, element_named, named_behind, named_in, named}
+use Rattle.tks_vars.specs.Names.{Name, halves, closed, whole, element, element_named, named_behind, named_in, named}
 use Rattle.tks_vars.specs.Laws.{NamesElement}
 
 -- the place of the first `(`, or the length
@@ -92,6 +94,36 @@ closing i =
     ap (λ n. if same_text (drop n (i ++ (41 ∷ []))) (41 ∷ []) then Some (take n (i ++ (41 ∷ []))) else None) length_is
     ∙ ap (λ u. if same_text u (41 ∷ []) then Some (take (length i) (i ++ (41 ∷ []))) else None) (drop-append_seam i (41 ∷ []))
     ∙ ap Some (take-append_seam i (41 ∷ []))
+
+-- ---- a text that ends with `)`, by what stands before that
+
+abbrev opens : ℕ → Bool
+opens b = b == 40
+
+same_place : (f : List ℕ) → position opens (f ++ (41 ∷ [])) ≡ position opens f
+same_place f = grind (arith, nat_tests, position_or_len_push opens f 41, length-append f (41 ∷ []))
+
+-- what its parts before the `)` make of it
+abbrev pub named_parts : List ℕ → Option (List ℕ × List ℕ) → Option Name
+named_parts t None = Some (whole t)
+named_parts t (Some parts) = element_named parts.0 parts.1
+
+named_before : (f : List ℕ) → named (f ++ (41 ∷ [])) ≡ named_parts (f ++ (41 ∷ [])) (halves f)
+named_before f = ap (λ (o : Option ℕ). named_in t (option_map (λ k. (take k t, drop (k + 1) t)) o)) (same_place f) ∙ by (position opens f) refl
+  where
+    t : List ℕ
+    t = f ++ (41 ∷ [])
+
+    by : (o : Option ℕ) → position opens f ≡ o → named_in t (option_map (λ k. (take k t, drop (k + 1) t)) o) ≡ named_parts t (option_map (λ k. (take k f, drop (k + 1) f)) o)
+    by None e = refl
+    by (Some k) e =
+        let lt : k < length f = (position-Some opens f k 0 e).0 in
+        ap (λ u. named_behind t u (closed (drop (k + 1) t))) (take-append-le k f (41 ∷ []) (omega (arith, lt)))
+        ∙ ap (λ u. named_behind t (take k f) (closed u)) (drop-append-le (k + 1) f (41 ∷ []) (omega (arith, lt)))
+        ∙ ap (named_behind t (take k f)) (closing (drop (k + 1) f))
+
+pub named_closed : (t f : List ℕ) → closed t ≡ Some f → named t ≡ named_parts t (halves f)
+named_closed t f e = subst (λ t. named t ≡ named_parts t (halves f)) (sym (unclosed t f _ refl e)) (named_before f)
 
 -- ---- from a name to its spelling
 

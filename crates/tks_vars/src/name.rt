@@ -11,15 +11,16 @@ pub struct Name<'a> {
     pub index: Option<&'a [u8]>,
 }
 
-/// What a text says as a name, or none where it names an element of a variable without a name.
+/// What a text says as a name, or none where it names an element of a variable without a name. The end is looked at first, which
+/// tells most names from those of elements.
 pub fn named(text: &[u8]) -> Option<Name<'_>>
     ensures { option_map name_seen result ≡ named text.now }
 {
-    let Some((variable, behind)) = halves(text) else {
+    let Some(inside) = text.strip_suffix(b")".as_slice()) else {
         return Some(whole(text));
     };
-    match behind.strip_suffix(b")".as_slice()) {
-        Some(index) => element_named(variable, index),
+    match halves(inside) {
+        Some((variable, index)) => element_named(variable, index),
         None => Some(whole(text)),
     }
 }
