@@ -23,7 +23,7 @@ module _ {V : Type 0} where
   abbrev pub AreApart : List (List ℕ × V) → Type 0
   AreApart es = length es ≡ fin.len (put_behind fin.empty es)
 
-  -- the entries with one more in this place, or behind them all
+  -- the entries with this one in the place of another, or behind them all
   abbrev pub put_at : Option ℕ → List ℕ × V → List (List ℕ × V) → List (List ℕ × V)
   put_at None e es = es ++ e ∷ []
   put_at (Some place) e es = slice_set es place e

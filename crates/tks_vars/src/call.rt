@@ -25,7 +25,7 @@ pub fn frame_of(alloc: Global, arguments: Vec<Argument>) -> Result<Frame, AllocE
     Frame::of(alloc, few)
 }
 
-// The names of a frame with these scalars, where they are few.
+// The names of the frame with these scalars, to be looked through one by one.
 fn few_of(alloc: Global, arguments: Vec<Argument>) -> Result<Few, AllocError>
     ensures frame { IfOk result (λ few. put_behind map.empty few ≡ frame_of arguments.items) }
     ensures apart { IfOk result AreApart }
@@ -38,7 +38,7 @@ fn few_of(alloc: Global, arguments: Vec<Argument>) -> Result<Few, AllocError>
     Ok(few)
 }
 
-// The same frame, however many they are.
+// The frame with these scalars, however many they are.
 fn frame_of_many(alloc: Global, arguments: Vec<Argument>) -> Result<Frame, AllocError>
     ensures { IfOk result (λ frame. frame ≡ frame_of arguments.items) }
 {

@@ -177,7 +177,7 @@ impl Frame {
     }
 }
 
-// How many names there are with one that isn't among the first ones, behind so many without it.
+// So many names, and one more where this one, which isn't among the first ones, isn't in the rest either.
 fn len_with(len: usize, rest: &Table<Local>, name: &[u8]) -> Result<usize, AllocError>
     ensures { IfOk result (λ more. more ≡ (if map.contains_key rest.now name.now then len else len + 1)) }
 {
