@@ -9,3 +9,4 @@ pub mod Bits
 pub mod Shifts
 pub mod Divisions
 pub mod Conditions
+pub mod Decimals

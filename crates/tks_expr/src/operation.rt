@@ -1,4 +1,6 @@
-ghost use Rattle.std.specs.Prelude.{◌≡◌};
+ghost use Rattle.std.specs.Prelude.{◌≡◌, true, Ok};
+ghost use Rattle.std.specs.Char.{is_ascii_digit};
+ghost use Rattle.std.specs.List.{list_all};
 ghost use Rattle.tks_text.specs.Fault.{Gives};
 ghost use Rattle.tks_expr.specs.Operation.{integer_in, integers_in, truth_in_word, truth_of, order, truth, binary_value, unary_value, after, applied, applied_unary, result_of};
 
@@ -137,14 +139,43 @@ pub fn apply_unary(alloc: Global, operator: Unary, operand: &Txt) -> Result<Txt,
     Ok(decimal_of(alloc, value)?)
 }
 
+// Whether all bytes of a text are decimal digits.
+fn are_digits(text: &[u8]) -> bool
+    ensures { result ≡ list_all is_ascii_digit text.now }
+{
+    text.iter().all(|byte| byte.is_ascii_digit())
+}
+
+// Whether a text is a short integer as it is written in decimal: at most 18 digits, the first not `0`, or `0` alone.
+#[tactic(auto, using(crate::proofs::Decimals::decimal_is_its_result, crate::proofs::Decimals::zero_is_its_result))]
+fn is_plain_decimal(text: &[u8]) -> bool
+    ensures { result ≡ true → result_of text.now ≡ Ok text.now }
+{
+    match text {
+        [first, ..] if *first != b'0' => text.len() <= 18 && are_digits(text),
+        [b'0'] => true,
+        _ => false,
+    }
+}
+
 /// The result of an expression whose value is a text (expr(n)): an integer in decimal, or the error
 /// `OutOfRange` where it is out of range; any other text as it is.
+pub fn into_result(alloc: Global, text: Txt) -> Result<Txt, Failure>
+    ensures { Gives (λ t. t) result (result_of text) }
+{
+    if is_plain_decimal(text.as_bytes()) {
+        return Ok(text);
+    }
+    match integer_of(&text) {
+        Ok(Some(integer)) => Ok(decimal_of(alloc, integer)?),
+        Ok(None) => Ok(text),
+        Err(_) => Err(fault_of(ErrorNumber::OutOfRange)),
+    }
+}
+
+/// What [`into_result`] makes of a text that is lent.
 pub fn result_of(alloc: Global, text: &Txt) -> Result<Txt, Failure>
     ensures { Gives (λ t. t) result (result_of text.now) }
 {
-    match integer_of(text) {
-        Ok(Some(integer)) => Ok(decimal_of(alloc, integer)?),
-        Ok(None) => Ok(text.try_clone()?),
-        Err(_) => Err(fault_of(ErrorNumber::OutOfRange)),
-    }
+    into_result(alloc, text.try_clone()?)
 }
