@@ -1,6 +1,6 @@
 -- What operators give for texts (expr(n), "OPERATORS"). That integers are those of 64 bits, and the
 -- errors, are this project's own rules.
-use Rattle.std.specs.Prelude.{ℕ, ◌^◌, Bool, not, if◌then◌else◌, List, ℤ, pos, negsuc, neg_ℤ, ◌+ℤ◌, ◌-ℤ◌, ◌*ℤ◌, Option, Some, None, Result, Ok, Err}
+use Rattle.std.specs.Prelude.{ℕ, ◌^◌, Bool, true, false, not, if◌then◌else◌, List, ℤ, pos, negsuc, neg_ℤ, ◌+ℤ◌, ◌-ℤ◌, ◌*ℤ◌, Option, Some, None, Result, Ok, Err}
 use Rattle.std.specs.declared.cmp.Ordering.{Ordering}
 use Rattle.std.specs.Ordering.{int_cmp, int_eq, nat_cmp, is_eq, is_lt, is_le, is_gt, is_ge}
 use Rattle.std.specs.Cmp.Lexicographic.{slice_cmp}
@@ -102,6 +102,18 @@ abbrev pub compared : List ℕ → List ℕ → (Ordering → Bool) → Result �
 compared a b holds = after (order a b) (λ o. Ok (truth (holds o)))
 
 -- ---- operators
+
+-- whether an operator compares two texts
+abbrev pub compares : Binary → Bool
+compares binary.Less = true
+compares binary.Greater = true
+compares binary.AtMost = true
+compares binary.AtLeast = true
+compares binary.Equal = true
+compares binary.NotEqual = true
+compares binary.SameText = true
+compares binary.OtherText = true
+compares operator = false
 
 -- the integer that an operator gives for two texts
 abbrev pub binary_value : Binary → List ℕ → List ℕ → Result ℤ ScriptFault

@@ -1,8 +1,8 @@
-ghost use Rattle.std.specs.Prelude.{◌≡◌, true, Ok};
+ghost use Rattle.std.specs.Prelude.{◌≡◌, true, Ok, Err, IfSome, IfNone};
 ghost use Rattle.std.specs.Char.{is_ascii_digit};
 ghost use Rattle.std.specs.List.{list_all};
 ghost use Rattle.tks_text.specs.Fault.{Gives};
-ghost use Rattle.tks_expr.specs.Operation.{integer_in, integers_in, truth_in_word, truth_of, order, truth, binary_value, unary_value, after, applied, applied_unary, result_of};
+ghost use Rattle.tks_expr.specs.Operation.{fault_of, integer_in, integers_in, truth_in_word, truth_of, order, truth, compares, binary_value, unary_value, after, applied, applied_unary, result_of};
 
 use crate::arithmetic::{Integers, fault_of, in_range};
 use crate::operator::{Binary, Unary};
@@ -44,14 +44,16 @@ pub fn truth_of(text: &Txt) -> Result<bool, Failure>
     }
 }
 
-// How two texts stand to one another: by number where both spell integers, else by their bytes.
-fn order(left: &Txt, right: &Txt) -> Result<Ordering, Failure>
-    ensures { Gives (λ o. o) result (order left.now right.now) }
+// How two texts stand to one another: by number where both spell integers, else by their bytes. Nothing where both
+// do and one is out of range.
+fn order(left: &Txt, right: &Txt) -> Option<Ordering>
+    ensures some { IfSome result (λ o. order left.now right.now ≡ Ok o) }
+    ensures none { IfNone result (order left.now right.now ≡ Err (fault_of ErrorNumber.OutOfRange)) }
 {
     match (integer_of(left), integer_of(right)) {
-        (Ok(Some(left)), Ok(Some(right))) => Ok(left.cmp(&right)),
-        (Ok(None), _) | (_, Ok(None)) => Ok(left.as_bytes().cmp(right.as_bytes())),
-        _ => Err(fault_of(ErrorNumber::OutOfRange)),
+        (Ok(Some(left)), Ok(Some(right))) => Some(left.cmp(&right)),
+        (Ok(None), _) | (_, Ok(None)) => Some(left.as_bytes().cmp(right.as_bytes())),
+        _ => None,
     }
 }
 
@@ -71,8 +73,60 @@ fn integers_in(left: &Txt, right: &Txt) -> Result<Integers, Failure>
     Ok(Integers { left, right })
 }
 
+// The two integers that texts spell, where both spell one in range.
+fn integers_in_range(left: &Txt, right: &Txt) -> Option<Integers>
+    ensures { IfSome result (λ n. integers_in left.now right.now ≡ Ok (n.left, n.right)) }
+{
+    match (integer_of(left), integer_of(right)) {
+        (Ok(Some(left)), Ok(Some(right))) => Some(Integers { left, right }),
+        _ => None,
+    }
+}
+
+// The integer that `+`, `-`, `*` or a comparison gives for two texts, in a result that has no room for an error: nothing
+// where it is one, which for a comparison is `OutOfRange`, and for any other operator.
+fn quick_value(operator: Binary, left: &Txt, right: &Txt) -> Option<i64>
+    ensures some { IfSome result (λ z. binary_value operator left.now right.now ≡ Ok z) }
+    ensures none { IfNone result (compares operator ≡ true → binary_value operator left.now right.now ≡ Err (fault_of ErrorNumber.OutOfRange)) }
+{
+    match operator {
+        Binary::Multiply => {
+            let Integers { left, right } = integers_in_range(left, right)?;
+            left.checked_mul(right)
+        }
+        Binary::Add => {
+            let Integers { left, right } = integers_in_range(left, right)?;
+            left.checked_add(right)
+        }
+        Binary::Subtract => {
+            let Integers { left, right } = integers_in_range(left, right)?;
+            left.checked_sub(right)
+        }
+        Binary::Less => Some(truth(order(left, right)?.is_lt())),
+        Binary::Greater => Some(truth(order(left, right)?.is_gt())),
+        Binary::AtMost => Some(truth(order(left, right)?.is_le())),
+        Binary::AtLeast => Some(truth(order(left, right)?.is_ge())),
+        Binary::Equal => Some(truth(order(left, right)?.is_eq())),
+        Binary::NotEqual => Some(truth(order(left, right)?.is_ne())),
+        Binary::SameText => Some(truth(left == right)),
+        Binary::OtherText => Some(truth(left != right)),
+        _ => None,
+    }
+}
+
 // The integer that an operator gives for two texts.
 fn binary_value(operator: Binary, left: &Txt, right: &Txt) -> Result<i64, Failure>
+    ensures { Gives (λ z. z) result (binary_value operator left.now right.now) }
+{
+    match quick_value(operator, left, right) {
+        Some(value) => Ok(value),
+        None => integers_value(operator, left, right),
+    }
+}
+
+// The integer that an operator on integers gives for two texts. A comparison that comes here is out of range.
+fn integers_value(operator: Binary, left: &Txt, right: &Txt) -> Result<i64, Failure>
+    requires { compares operator ≡ true → binary_value operator left.now right.now ≡ Err (fault_of ErrorNumber.OutOfRange) }
     ensures { Gives (λ z. z) result (binary_value operator left.now right.now) }
 {
     match operator {
@@ -83,17 +137,10 @@ fn binary_value(operator: Binary, left: &Txt, right: &Txt) -> Result<i64, Failur
         Binary::Subtract => integers_in(left, right)?.difference(),
         Binary::ShiftLeft => integers_in(left, right)?.shifted_left(),
         Binary::ShiftRight => integers_in(left, right)?.shifted_right(),
-        Binary::Less => Ok(truth(order(left, right)?.is_lt())),
-        Binary::Greater => Ok(truth(order(left, right)?.is_gt())),
-        Binary::AtMost => Ok(truth(order(left, right)?.is_le())),
-        Binary::AtLeast => Ok(truth(order(left, right)?.is_ge())),
-        Binary::Equal => Ok(truth(order(left, right)?.is_eq())),
-        Binary::NotEqual => Ok(truth(order(left, right)?.is_ne())),
-        Binary::SameText => Ok(truth(left == right)),
-        Binary::OtherText => Ok(truth(left != right)),
         Binary::BitAnd => Ok(integers_in(left, right)?.bits_of_both()),
         Binary::BitXor => Ok(integers_in(left, right)?.bits_of_one()),
         Binary::BitOr => Ok(integers_in(left, right)?.bits_of_any()),
+        _ => Err(fault_of(ErrorNumber::OutOfRange)),
     }
 }
 
