@@ -35,7 +35,7 @@ use Rattle.tks_eval.proofs.Values.{value_stops, links_fail, after_fails}
 module _ {S : Type 0} (host : Meaning S) (limits : Limits) where
   pub resume_stopped : (left : ℕ) (stack : List Frame) (why : Why) → resume host limits left stack (Stopped why) ≡ Stopped why
   resume_stopped left [] why = refl
-  resume_stopped left (frame.Commands rest fault levels ∷ below) why = resume_stopped levels below why
+  resume_stopped left (frame.Commands rest levels ∷ below) why = resume_stopped levels below why
   resume_stopped left (frame.Command words expand rest ∷ below) why = resume_stopped left below why
   resume_stopped left (frame.Nested made parts ∷ below) why = resume_stopped left below why
   resume_stopped left (frame.Element name made parts ∷ below) why = resume_stopped left below why
@@ -43,14 +43,16 @@ module _ {S : Type 0} (host : Meaning S) (limits : Limits) where
   resume_stopped left (frame.Each name body items ∷ below) why = resume_stopped left below why
   resume_stopped left (frame.Value f ∷ below) why =
       ap (resume host limits left below) (value_stops limits (evaluate host limits left) f why) ∙ resume_stopped left below why
+  resume_stopped left (frame.Made f ∷ below) why =
+      ap (resume host limits left below) (value_stops limits (evaluate host limits left) f why) ∙ resume_stopped left below why
   resume_stopped left (frame.Branch body rest ∷ below) why = resume_stopped left below why
   resume_stopped left (frame.Turns stage.Start loop ∷ below) why = resume_stopped left below why
   resume_stopped left (frame.Turns stage.Condition loop ∷ below) why = resume_stopped left below why
   resume_stopped left (frame.Turns stage.Body loop ∷ below) why = resume_stopped left below why
   resume_stopped left (frame.Turns stage.Next loop ∷ below) why = resume_stopped left below why
-  resume_stopped left (frame.Procedure ∷ below) why = resume_stopped left below why
-  resume_stopped left (frame.Global ∷ below) why = resume_stopped left below why
-  resume_stopped left (frame.Scripts window scripts ∷ below) why = resume_stopped left below why
+  resume_stopped left (frame.Procedure levels ∷ below) why = resume_stopped levels below why
+  resume_stopped left (frame.Global levels ∷ below) why = resume_stopped levels below why
+  resume_stopped left (frame.Scripts window scripts levels ∷ below) why = resume_stopped levels below why
 
   -- a stop on top is a stop of the whole
   pub resume_stops : (left : ℕ) (stack : List Frame) (outcome : Outcome S) (why : Stop) → StopsSo outcome why → StopsSo (resume host limits left stack outcome) why

@@ -63,17 +63,22 @@ module _ (limits : Limits) (variables : Variables) where
       ] first
   value_filled P (Err fault) text h holds = absurd holds
 
-  -- the list of a variable's value is that of the word
+  -- the list of a word's text is that of the word
+  pub text_lent : (w : Word) (text : List ℕ) (list : List (List ℕ)) → IsWord limits variables w text → list_of text ≡ Some list → IsListWord limits variables w list
+  text_lent w text list h is =
+      let same : text_filled (filled limits variables w.parts []) ≡ text = ap text_filled h.1 in
+      ((h.0, h.1 ∙ ap (λ t. Ok (no_part, t)) (sym same)), ap list_of same ∙ is)
+
+  -- and that of a variable's value
   pub list_lent : (w : Word) (name text : List ℕ) (list : List (List ℕ)) → IsWord limits variables w text → w.parts ≡ variable name no_part
       → IsValue (λ v. list_of v ≡ Some list) (value_of variables name) → IsListWord limits variables w list
   list_lent w name text list h is holds =
-      let same : text_filled (filled limits variables w.parts []) ≡ text = ap text_filled h.1 in
       let fills = sym (ap (λ parts. filled limits variables parts []) is) ∙ h.1 in
-      ((h.0, h.1 ∙ ap (λ t. Ok (no_part, t)) (sym same)), ap list_of same ∙ value_filled (λ v. list_of v ≡ Some list) (value_of variables name) text fills holds)
+      text_lent w text list h (value_filled (λ v. list_of v ≡ Some list) (value_of variables name) text fills holds)
 
-  answers_words : (words : Words) (made : List (List ℕ)) (text : List ℕ) → words_made limits variables words [] ≡ Ok (All made) → runs_none made ≡ true
-      → plain limits made variables ≡ Some (commands.Answers 0 text variables) → AnswersWords limits variables words text
-  answers_words words made text is none answer =
+  answers_words : (words : Words) (made : List (List ℕ)) (code : ℕ) (text : List ℕ) → words_made limits variables words [] ≡ Ok (All made) → runs_none made ≡ true
+      → plain limits made variables ≡ Some (commands.Answers code text variables) → AnswersWords limits variables words code text
+  answers_words words made code text is none answer =
       let same : words_filled (words_made limits variables words []) ≡ made = ap words_filled is in
       (is ∙ ap (λ ws. Ok (All ws)) (sym same), ap runs_none same ∙ none, ap (λ ws. plain limits ws variables) same ∙ answer)
 
@@ -81,10 +86,10 @@ module _ (limits : Limits) (variables : Variables) where
   pub lindex_lent : (words : List Word) (command list index : Word) (at text : List ℕ) (elements : List (List ℕ)) → words ≡ command ∷ list ∷ index ∷ []
       → IsWord limits variables command (codes "lindex") → IsListWord limits variables list elements → IsWord limits variables index at
       → ((value : List ℕ) → (variables : Variables) → list_of value ≡ Some elements → plain limits (codes "lindex" ∷ value ∷ at ∷ []) variables ≡ Some (commands.Answers 0 text variables))
-      → AnswersWords limits variables (words_of words) text
+      → AnswersWords limits variables (words_of words) 0 text
   lindex_lent words command list index at text elements is h k i answer =
       let value = text_filled (filled limits variables list.parts []) in
-      answers_words (words_of words) (codes "lindex" ∷ value ∷ at ∷ []) text
+      answers_words (words_of words) (codes "lindex" ∷ value ∷ at ∷ []) 0 text
       (ap (λ ws. words_made limits variables (words_of ws) []) is ∙ word_lent command (list ∷ index ∷ []) (codes "lindex") [] h
       ∙ word_lent list (index ∷ []) value (codes "lindex" ∷ []) k.0 ∙ word_lent index [] at (codes "lindex" ∷ value ∷ []) i)
       refl (answer value variables k.1)
@@ -93,13 +98,37 @@ module _ (limits : Limits) (variables : Variables) where
   pub llength_lent : (words : List Word) (command list : Word) (text : List ℕ) (elements : List (List ℕ)) → words ≡ command ∷ list ∷ []
       → IsWord limits variables command (codes "llength") → IsListWord limits variables list elements
       → ((value : List ℕ) → (variables : Variables) → list_of value ≡ Some elements → plain limits (codes "llength" ∷ value ∷ []) variables ≡ Some (commands.Answers 0 text variables))
-      → AnswersWords limits variables (words_of words) text
+      → AnswersWords limits variables (words_of words) 0 text
   llength_lent words command list text elements is h k answer =
       let value = text_filled (filled limits variables list.parts []) in
-      answers_words (words_of words) (codes "llength" ∷ value ∷ []) text
+      answers_words (words_of words) (codes "llength" ∷ value ∷ []) 0 text
       (ap (λ ws. words_made limits variables (words_of ws) []) is ∙ word_lent command (list ∷ []) (codes "llength") [] h
       ∙ word_lent list [] value (codes "llength" ∷ []) k.0)
       refl (answer value variables k.1)
+
+  -- the same of `lrange`
+  pub lrange_lent : (words : List Word) (command list first last : Word) (from to text : List ℕ) (elements : List (List ℕ)) → words ≡ command ∷ list ∷ first ∷ last ∷ []
+      → IsWord limits variables command (codes "lrange") → IsListWord limits variables list elements → IsWord limits variables first from → IsWord limits variables last to
+      → ((value : List ℕ) → (variables : Variables) → list_of value ≡ Some elements → plain limits (codes "lrange" ∷ value ∷ from ∷ to ∷ []) variables ≡ Some (commands.Answers 0 text variables))
+      → AnswersWords limits variables (words_of words) 0 text
+  lrange_lent words command list first last from to text elements is h k f l answer =
+      let value = text_filled (filled limits variables list.parts []) in
+      answers_words (words_of words) (codes "lrange" ∷ value ∷ from ∷ to ∷ []) 0 text
+      (ap (λ ws. words_made limits variables (words_of ws) []) is ∙ word_lent command (list ∷ first ∷ last ∷ []) (codes "lrange") [] h
+      ∙ word_lent list (first ∷ last ∷ []) value (codes "lrange" ∷ []) k.0 ∙ word_lent first (last ∷ []) from (codes "lrange" ∷ value ∷ []) f
+      ∙ word_lent last [] to (codes "lrange" ∷ value ∷ from ∷ []) l)
+      refl (answer value variables k.1)
+
+  -- `return` of a text that is lent
+  pub return_lent : (words : List Word) (command value : Word) (given text : List ℕ) → words ≡ command ∷ value ∷ []
+      → IsWord limits variables command (codes "return") → IsWord limits variables value given
+      → ((variables : Variables) → plain limits (codes "return" ∷ given ∷ []) variables ≡ Some (commands.Answers 2 text variables))
+      → AnswersWords limits variables (words_of words) 2 text
+  return_lent words command value given text is h k answer =
+      answers_words (words_of words) (codes "return" ∷ given ∷ []) 2 text
+      (ap (λ ws. words_made limits variables (words_of ws) []) is ∙ word_lent command (value ∷ []) (codes "return") [] h
+      ∙ word_lent value [] given (codes "return" ∷ []) k)
+      refl (answer variables)
 
   -- an answer that is told whole, whether that was asked for
   pub answers_as : (asked : Bool) (answer : Option commands.Answer) (end : Ending) (new : Variables) → answer ≡ Some (commands.Answers end.code end.text new)
@@ -128,19 +157,19 @@ module _ {S : Type 0} (host : Meaning S) (limits : Limits) (level : Level S) (st
       let told = ap text_told does in
       (does ∙ ap (λ t. End end.code t state new fuel) (sym told), λ other. told ∙ h.1 other)
 
-  answer_call : (words : List (List ℕ)) (text : List ℕ) → runs_none words ≡ true → plain limits words variables ≡ Some (commands.Answers 0 text variables)
-      → call host limits level words state variables (suc fuel) ≡ End 0 text state variables fuel
-  answer_call [] text none answer = absurd cc
-  answer_call (first ∷ words) text none answer =
-      elim (control_named first) as (λ c. not (is_some c) ≡ true → command_does host limits level c first words state variables fuel ≡ End 0 text state variables fuel) [
+  answer_call : (words : List (List ℕ)) (code : ℕ) (text : List ℕ) → runs_none words ≡ true → plain limits words variables ≡ Some (commands.Answers code text variables)
+      → call host limits level words state variables (suc fuel) ≡ End code text state variables fuel
+  answer_call [] code text none answer = absurd cc
+  answer_call (first ∷ words) code text none answer =
+      elim (control_named first) as (λ c. not (is_some c) ≡ true → command_does host limits level c first words state variables fuel ≡ End code text state variables fuel) [
         | None ↦ λ e. ap (λ a. plain_does host limits level first words a state variables fuel) answer
         | Some c ↦ λ e. absurd cc
       ] none
 
   -- a command whose words are lent
-  pub words_answer : (words : Words) (text : List ℕ) → AnswersWords limits variables words text
-      → words_do host limits level words [] state variables (suc fuel) ≡ End 0 text state variables fuel
-  words_answer words text h =
+  pub words_answer : (words : Words) (code : ℕ) (text : List ℕ) → AnswersWords limits variables words code text
+      → words_do host limits level words [] state variables (suc fuel) ≡ End code text state variables fuel
+  words_answer words code text h =
       words_do_made host limits level state variables (suc fuel) words []
       ∙ ap (λ r. given limits r state variables (suc fuel) (words_go host limits level state variables (suc fuel))) h.0
-      ∙ answer_call (words_filled (words_made limits variables words [])) text h.1 h.2
+      ∙ answer_call (words_filled (words_made limits variables words [])) code text h.1 h.2

@@ -1,7 +1,7 @@
 -- How far words and commands come at once, and what goes on behind it.
-use Rattle.std.proofs.Common.{◌≡◌, ◌==◌, ◌≤◌, ◌<◌, ◌+◌, ◌*◌, ℕ, suc, false, List, [], ◌∷◌, ◌++◌, Option, Some, Result, Ok, Err, Bool, cond, refl, sym, subst, ap, ◌∙◌, arith}
+use Rattle.std.proofs.Common.{◌≡◌, ◌==◌, ◌≤◌, ◌<◌, ◌+◌, ◌*◌, ℕ, suc, false, List, [], ◌∷◌, ◌++◌, length, Some, Result, Ok, Err, Bool, cond, refl, sym, subst, ap, ◌∙◌, arith}
 use Rattle.tks_text.specs.declared.limits.Limits.{Limits}
-use Rattle.tks_parse.specs.Tree.{Words, Parts, parts_size}
+use Rattle.tks_parse.specs.Tree.{Script, no_command, faulty, command, Words, word, Parts, no_part, nested, script_size, words_size, parts_size}
 use Rattle.tks_vars.specs.Variables.{Variables}
 use Rattle.tks_tcl.specs.Cause.{Cause, Fault, OverLimit}
 use Rattle.tks_tcl.specs.Cause as tcl
@@ -9,28 +9,29 @@ use Rattle.tks_tcl.specs.Meets.{FailsSo}
 use Rattle.tks_tcl.specs.declared.interrupt.Interrupt.{Interrupt}
 use Rattle.tks_tcl.specs.declared.interrupt.Interrupt.TheVariants as interrupt
 use Rattle.tks_eval.specs.Outcome.{Outcome, End, Next, Level, Meaning, after, given, appended}
-use Rattle.tks_eval.specs.Meets.{halt_of_interrupt}
-use Rattle.tks_eval.specs.Evaluation.{evaluate, parts_do, words_in, words_do, commands_do}
-use Rattle.tks_eval.specs.Filling.{filled, left_of}
+use Rattle.tks_eval.specs.Meets.{halt_of_interrupt, AnswersSo, StopsSo}
+use Rattle.tks_eval.specs.Evaluation.{evaluate, parts_do, words_in, words_do, commands_do, settled, returned, without_frame}
+use Rattle.tks_eval.specs.Filling.{filled, left_of, IsWord}
 use Rattle.tks_eval.specs.declared.words.Inner.{Inner}
 use Rattle.tks_eval.specs.declared.words.Inner.TheVariants as inner
-use Rattle.tks_eval.specs.Machine.{HaltsSo, FillsSo, GoesSo, ReachFalls, RunFalls, GoesOn, IsBegun, IsDone, resume, reached_does, result_weight, stack_weight, behind_script}
+use Rattle.tks_eval.specs.Machine.{HaltsSo, FillsSo, GoesSo, ReachesSo, ReachFalls, WaitsAt, RunFalls, GoesOn, GoesBefore, IsBegun, IsDone, resume, called, reached_does, result_weight, stack_weight, waits_behind, behind_script}
+use Rattle.tks_tcl.specs.declared.stop.Stop.{Stop}
 use Rattle.tks_tcl.specs.declared.stop.Stop.TheVariants as stop
-use Rattle.tks_text.specs.declared.fault.ScriptFault.{ScriptFault}
-use Rattle.tks_parse.specs.View.{script_of_commands, words_of_command}
-use Rattle.tks_parse.specs.declared.tree.Command.{Command}
+use Rattle.tks_parse.specs.View.{parts_of, words_of, first_words, behind}
+use Rattle.tks_parse.specs.declared.tree.Word.{Word}
 use Rattle.tks_eval.specs.declared.frame.Ending.{Ending}
 use Rattle.tks_eval.specs.declared.halt.Halt.{Halt}
 use Rattle.tks_eval.specs.declared.halt.Halt.TheVariants as halt
 use Rattle.tks_eval.specs.declared.machine.Machine.{Machine}
 use Rattle.tks_eval.specs.declared.frame.Frame.{Frame}
+use Rattle.tks_eval.specs.declared.frame.Frame.TheVariants as frame
 use Rattle.tks_eval.specs.declared.frame.Now.{Now}
 use Rattle.tks_eval.specs.declared.words.Filled.{Filled}
 use Rattle.tks_eval.specs.declared.reach.Reached.{Reached}
 use Rattle.tks_eval.specs.declared.reach.Reached.TheVariants as reached
 use Rattle.tks_eval.proofs.Filling.{parts_filled}
-use Rattle.tks_eval.proofs.Halts.{resume_stops}
-use Rattle.tks_eval.proofs.Values.{after_fails}
+use Rattle.tks_eval.proofs.Halts.{resume_stops, host_halts}
+use Rattle.tks_eval.proofs.Values.{after_done, after_fails}
 
 module _ {S : Type 0} (host : Meaning S) (limits : Limits) (state : S) (variables : Variables) (fuel : ℕ) where
   -- a value that isn't there
@@ -67,6 +68,16 @@ module _ {S : Type 0} (host : Meaning S) (limits : Limits) (state : S) (variable
   halts_after whole next (halt.Stop stop.TooLarge) h = ap (λ o. after o next) h
   halts_after whole next (halt.Stop stop.NoMemory) h = tt
 
+-- the first command of a script, and what is behind it
+pub first_then : (script : Script) (words : Words) → first_words script ≡ Some words → script ≡ command words (behind script)
+first_then no_command words h = absurd cc
+first_then (faulty fault) words h = absurd cc
+first_then (command ws rest) words h = cc
+
+-- what is behind it is smaller
+pub behind_smaller : (script : Script) (words : Words) → first_words script ≡ Some words → 1 + words_size words + script_size (behind script) ≤ script_size script
+behind_smaller script words h = let whole = ap script_size (first_then script words h) in omega (arith, whole)
+
 module _ {S : Type 0} (host : Meaning S) (limits : Limits) (state : S) where
   -- on top of a stack there is nothing to go on with
   pub halts_below : (m : Machine) (variables : Variables) (whole : Outcome S) (why : Halt) → HaltsSo host limits whole why state variables m.fuel
@@ -75,13 +86,13 @@ module _ {S : Type 0} (host : Meaning S) (limits : Limits) (state : S) where
   halts_below m variables whole (halt.Stop why) h = resume_stops host limits m.left m.stack whole why h
 
   -- commands behind one that ended well: the first of them, and those behind it
-  pub commands_then : (level : Level S) (rest behind : List Command) (command : Command) (fault : Option ScriptFault) (code : ℕ) (text : List ℕ) (variables : Variables) (fuel : ℕ)
-      → code ≡ 0 → rest ≡ command ∷ behind
-      → after (End code text state variables fuel) (commands_do host limits level (script_of_commands rest fault))
-      ≡ after (words_do host limits level (words_of_command command) [] state variables fuel) (commands_do host limits level (script_of_commands behind fault))
-  commands_then level rest behind command fault code text variables fuel zero here =
-      ap (λ k. after (End k text state variables fuel) (commands_do host limits level (script_of_commands rest fault))) zero
-      ∙ ap (λ cs. commands_do host limits level (script_of_commands cs fault) text state variables fuel) here
+  pub commands_then : (level : Level S) (rest : Script) (words : Words) (code : ℕ) (text : List ℕ) (variables : Variables) (fuel : ℕ)
+      → code ≡ 0 → first_words rest ≡ Some words
+      → after (End code text state variables fuel) (commands_do host limits level rest)
+      ≡ after (words_do host limits level words [] state variables fuel) (commands_do host limits level (behind rest))
+  commands_then level rest words code text variables fuel zero here =
+      ap (λ k. after (End k text state variables fuel) (commands_do host limits level rest)) zero
+      ∙ ap (λ script. commands_do host limits level script text state variables fuel) (first_then rest words here)
 
   -- a command that goes on, where as many scripts may yet be opened in one another, and on the same stack
   pub goes_on_from : (there left : ℕ) (here stack : List Frame) (r : Reached) (result : Result Now Halt) (new : Machine) (variables : Variables) (fuel : ℕ) (state' : S) (variables' : Variables)
@@ -113,6 +124,7 @@ pub falls_on : (r : Reached) (result : Result Now Halt) (size fuel : ℕ) (old n
 falls_on (reached.Ended end) result size fuel old new h k = (omega (arith, h, k.0), λ e. let less = k.1 (omega (arith, h, k.0, e)) in omega (arith, less))
 falls_on (reached.Opens script) result size fuel old new h k = (omega (arith, h, k), λ e. absurd (omega (arith, h, k, e)))
 falls_on (reached.Runs c given) result size fuel old new h k = (omega (arith, h, k), λ e. absurd (omega (arith, h, k, e)))
+falls_on (reached.Counts e) result size fuel old new h k = (omega (arith, h, k), λ e. absurd (omega (arith, h, k, e)))
 falls_on (reached.Calls given) result size fuel old new h k = (omega (arith, h, k), λ e. absurd (omega (arith, h, k, e)))
 falls_on (reached.Waits w) result size fuel old new h k =
     (omega (arith, h.0, k.0), λ e. let less = k.1 (omega (arith, h.0, k.0, e)) in let small = h.1 (omega (arith, h.0, k.0, e)) in omega (arith, less, small))
@@ -122,13 +134,15 @@ pub begun : (r : Reached) → ((e : Ending) → r ≡ reached.Ended e → ⊥) �
 begun (reached.Ended e) h = h e refl
 begun (reached.Opens script) h = tt
 begun (reached.Runs c given) h = tt
+begun (reached.Counts e) h = tt
 begun (reached.Calls given) h = tt
 begun (reached.Waits w) h = tt
 
-pub begun_done : (r : Reached) (rest : List Command) → IsBegun r → IsDone (Ok r) rest
+pub begun_done : (r : Reached) (rest : Script) → IsBegun r → IsDone (Ok r) rest
 begun_done (reached.Ended e) rest b = absurd b
 begun_done (reached.Opens script) rest b = tt
 begun_done (reached.Runs c given) rest b = tt
+begun_done (reached.Counts e) rest b = tt
 begun_done (reached.Calls given) rest b = tt
 begun_done (reached.Waits w) rest b = tt
 
@@ -138,6 +152,7 @@ pub run_falls : (r : Reached) (words size behind fuel here less : ℕ) → Reach
 run_falls (reached.Ended end) words size behind fuel here less h l s b = absurd b
 run_falls (reached.Opens script) words size behind fuel here less h l s b = omega (arith, h, l)
 run_falls (reached.Runs c given) words size behind fuel here less h l s b = omega (arith, h, l)
+run_falls (reached.Counts e) words size behind fuel here less h l s b = omega (arith, h, l)
 run_falls (reached.Calls given) words size behind fuel here less h l s b = omega (arith, h, l)
 run_falls (reached.Waits w) words size behind fuel here less h l s b =
     (omega (arith, h.0, l), λ e. let small = h.1 (omega (arith, h.0, l, e)) in omega (arith, small, s))
@@ -147,20 +162,74 @@ pub run_spends : (r : Result Reached Halt) (size behind fuel less : ℕ) → Run
 run_spends (Ok (reached.Ended e)) size behind fuel less h = h
 run_spends (Ok (reached.Opens script)) size behind fuel less h = omega (arith, h)
 run_spends (Ok (reached.Runs c given)) size behind fuel less h = omega (arith, h)
+run_spends (Ok (reached.Counts e)) size behind fuel less h = omega (arith, h)
 run_spends (Ok (reached.Calls given)) size behind fuel less h = omega (arith, h)
 run_spends (Ok (reached.Waits w)) size behind fuel less h = h.0
 run_spends (Err why) size behind fuel less h = h
 
--- the same of the commands of a script, with those behind them on the stack
-pub run_falls_on : (r : Reached) (result : Result Now Halt) (size behind fuel below : ℕ) (old new : Machine) → RunFalls (Ok r) size behind fuel old.fuel → GoesOn r result old new
-    → stack_weight old.stack ≡ 4 * behind + 1 + below → IsBegun r
-    → (new.fuel ≤ fuel) × (new.fuel ≡ fuel → result_weight result + stack_weight new.stack < 4 * size + 1 + below)
-run_falls_on (reached.Ended end) result size behind fuel below old new h k s b = absurd b
-run_falls_on (reached.Opens script) result size behind fuel below old new h k s b = (omega (arith, h, k), λ e. absurd (omega (arith, h, k, e)))
-run_falls_on (reached.Runs c given) result size behind fuel below old new h k s b = (omega (arith, h, k), λ e. absurd (omega (arith, h, k, e)))
-run_falls_on (reached.Calls given) result size behind fuel below old new h k s b = (omega (arith, h, k), λ e. absurd (omega (arith, h, k, e)))
-run_falls_on (reached.Waits w) result size behind fuel below old new h k s b =
-    (omega (arith, h.0, k.0), λ e. let less = k.1 (omega (arith, h.0, k.0, e)) in let small = h.1 (omega (arith, h.0, k.0, e)) in omega (arith, less, small, s))
+-- the same of the commands of a script, before what is left of it
+pub run_falls_on : (r : Reached) (result : Result Now Halt) (size behind fuel : ℕ) (old new : Machine) → RunFalls (Ok r) size behind fuel old.fuel
+    → GoesBefore r (4 * behind + 1) result old new
+    → (new.fuel ≤ fuel) × (new.fuel ≡ fuel → result_weight result + stack_weight new.stack < 4 * size + 1 + stack_weight old.stack)
+run_falls_on (reached.Ended end) result size behind fuel old new h k = absurd k
+run_falls_on (reached.Opens script) result size behind fuel old new h k = (omega (arith, h, k), λ e. absurd (omega (arith, h, k, e)))
+run_falls_on (reached.Runs c given) result size behind fuel old new h k = (omega (arith, h, k), λ e. absurd (omega (arith, h, k, e)))
+run_falls_on (reached.Counts x) result size behind fuel old new h k = (omega (arith, h, k), λ e. absurd (omega (arith, h, k, e)))
+run_falls_on (reached.Calls given) result size behind fuel old new h k = (omega (arith, h, k), λ e. absurd (omega (arith, h, k, e)))
+run_falls_on (reached.Waits w) result size behind fuel old new h k =
+    (omega (arith, h.0, k.0), λ e. let less = k.1 (omega (arith, h.0, k.0, e)) in let small = h.1 (omega (arith, h.0, k.0, e)) in omega (arith, less, small))
+
+-- a command goes on before what is left of a script, which waits on the stack
+pub goes_before : (r : Reached) (result : Result Now Halt) (weight : ℕ) (old between new : Machine) → IsBegun r → between.fuel ≡ old.fuel
+    → stack_weight between.stack ≤ weight + stack_weight old.stack → GoesOn r result between new → GoesBefore r weight result old new
+goes_before (reached.Ended end) result weight old between new b f s k = absurd b
+goes_before (reached.Opens script) result weight old between new b f s k = omega (arith, f, k)
+goes_before (reached.Runs c given) result weight old between new b f s k = omega (arith, f, k)
+goes_before (reached.Counts x) result weight old between new b f s k = omega (arith, f, k)
+goes_before (reached.Calls given) result weight old between new b f s k = omega (arith, f, k)
+goes_before (reached.Waits w) result weight old between new b f s k =
+    (omega (arith, f, k.0), λ e. let less = k.1 (omega (arith, f, k.0, e)) in omega (arith, less, s))
+
+-- what is left of a script weighs no less than what waits for it
+pub waits_weigh : (rest : Script) (levels : ℕ) (stack : List Frame) → stack_weight (waits_behind rest levels stack) ≤ 4 * script_size rest + 1 + stack_weight stack
+waits_weigh no_command levels [] = omega arith
+waits_weigh no_command levels (frame.Commands rest k ∷ below) = omega arith
+waits_weigh no_command levels (frame.Command words expand rest ∷ below) = omega arith
+waits_weigh no_command levels (frame.Nested made parts ∷ below) = omega arith
+waits_weigh no_command levels (frame.Element name made parts ∷ below) = omega arith
+waits_weigh no_command levels (frame.Catch name ∷ below) = omega arith
+waits_weigh no_command levels (frame.Each name body elements ∷ below) = omega arith
+waits_weigh no_command levels (frame.Value f ∷ below) = omega arith
+waits_weigh no_command levels (frame.Made f ∷ below) = omega arith
+waits_weigh no_command levels (frame.Branch body rest ∷ below) = omega arith
+waits_weigh no_command levels (frame.Turns stage loop ∷ below) = omega arith
+waits_weigh no_command levels (frame.Procedure k ∷ below) = omega arith
+waits_weigh no_command levels (frame.Global k ∷ below) = omega arith
+waits_weigh no_command levels (frame.Scripts window scripts k ∷ below) = omega arith
+waits_weigh (faulty fault) levels stack = omega arith
+waits_weigh (command words rest) levels stack = omega arith
+
+module _ {S : Type 0} (host : Meaning S) (limits : Limits) where
+  -- and what waits goes on as it does
+  pub waits_resume : (left : ℕ) (rest : Script) (levels : ℕ) (stack : List Frame) (outcome : Outcome S)
+      → resume host limits left (waits_behind rest levels stack) outcome ≡ resume host limits left (frame.Commands rest levels ∷ stack) outcome
+  waits_resume left no_command levels [] outcome = refl
+  waits_resume left no_command levels (frame.Commands rest k ∷ below) outcome = refl
+  waits_resume left no_command levels (frame.Command words expand rest ∷ below) outcome = refl
+  waits_resume left no_command levels (frame.Nested made parts ∷ below) outcome = refl
+  waits_resume left no_command levels (frame.Element name made parts ∷ below) outcome = refl
+  waits_resume left no_command levels (frame.Catch name ∷ below) outcome = refl
+  waits_resume left no_command levels (frame.Each name body elements ∷ below) outcome = refl
+  waits_resume left no_command levels (frame.Value f ∷ below) outcome = refl
+  waits_resume left no_command levels (frame.Made f ∷ below) outcome = refl
+  waits_resume left no_command levels (frame.Branch body rest ∷ below) outcome = refl
+  waits_resume left no_command levels (frame.Turns stage loop ∷ below) outcome = refl
+  waits_resume left no_command levels (frame.Procedure k ∷ below) outcome =
+      ap (λ o. resume host limits k below (settled limits (without_frame o))) (sym (after_done outcome))
+  waits_resume left no_command levels (frame.Global k ∷ below) outcome = ap (λ o. resume host limits k below (returned (without_frame o))) (sym (after_done outcome))
+  waits_resume left no_command levels (frame.Scripts window scripts k ∷ below) outcome = refl
+  waits_resume left (faulty fault) levels stack outcome = refl
+  waits_resume left (command words rest) levels stack outcome = refl
 
 module _ {S : Type 0} (limits : Limits) (level : Level S) (state : S) (variables : Variables) (fuel : ℕ) where
   -- a word goes on behind what was filled
@@ -187,3 +256,63 @@ module _ {S : Type 0} (limits : Limits) (level : Level S) (state : S) (variables
 pub inner_smaller : (i : Inner) (rest : Parts) → suc (parts_size rest) ≤ parts_size (left_of (Some i) rest)
 inner_smaller (inner.Index name index) rest = omega arith
 inner_smaller (inner.Script script) rest = omega arith
+
+module _ {S : Type 0} (host : Meaning S) (limits : Limits) (level : Level S) (state : S) (variables : Variables) (fuel : ℕ) where
+  -- a word that is lent joins the words
+  pub lent_does : (w : Word) (rest : List Word) (words : List (List ℕ)) (text : List ℕ) → IsWord limits variables w text
+      → words_do host limits level (words_of (w ∷ rest)) words state variables fuel ≡ words_do host limits level (words_of rest) (words ++ text ∷ []) state variables fuel
+  lent_does w rest words text h =
+      ap (λ o. after o (behind_word host limits state level w.expand (words_of rest) words)) (filled_goes limits level state variables fuel w.parts [] (no_part, text) h.1)
+      ∙ ap (λ expand. behind_word host limits state level expand (words_of rest) words text state variables fuel) h.0
+
+module _ {S : Type 0} (host : Meaning S) (limits : Limits) (m : Machine) (state : S) (variables : Variables) where
+  -- a command of the host that stops
+  pub called_halts : (inner : Level S) (words : List (List ℕ)) (old new : S) (v w : Variables) (why : Stop) → 0 < length words
+      → AnswersSo (host.commands state variables words) (Err why) old new v w
+      → StopsSo (resume host limits m.left m.stack (called host limits inner words state variables m.fuel)) why
+  called_halts inner [] old new v w why some h = absurd (omega (arith, some))
+  called_halts inner (first ∷ rest) old new v w why some h =
+      host_halts host limits m state variables inner first rest (host.commands state variables (first ∷ rest)) old new v w why h
+
+module _ {S : Type 0} (host : Meaning S) (limits : Limits) (left : ℕ) (state : S) (variables : Variables) (fuel : ℕ) where
+  -- a word that is the result of a script
+  abbrev pub result_then : Script → List Word → List (List ℕ) → Outcome S
+  result_then script rest words =
+      after (parts_do limits (evaluate host limits left) (nested script no_part) [] state variables fuel) (behind_word host limits state (evaluate host limits left) false (words_of rest) words)
+
+  pub nested_does : (w : Word) (rest : List Word) (words : List (List ℕ)) (script : Script) → w.expand ≡ false → w.parts ≡ nested script no_part
+      → words_do host limits (evaluate host limits left) (words_of (w ∷ rest)) words state variables fuel ≡ result_then script rest words
+  nested_does w rest words script h k =
+      ap (λ expand. words_do host limits (evaluate host limits left) (word expand w.parts (words_of rest)) words state variables fuel) h
+      ∙ ap (λ parts. words_do host limits (evaluate host limits left) (word false parts (words_of rest)) words state variables fuel) k
+
+  -- where it waits
+  pub waits_reach : (words : List (List ℕ)) (rest : List Word) (script : Script) (result : Result Reached Halt) → WaitsAt words rest script result
+      → ReachesSo host limits left (result_then script rest words) result state variables fuel
+  waits_reach words rest script (Ok (reached.Waits w)) h =
+      ap (λ ws. result_then script rest ws) (sym h.0)
+      ∙ ap (λ r. result_then script r w.value.words) (sym h.2)
+      ∙ ap (λ parts. after (parts_do limits (evaluate host limits left) parts [] state variables fuel) (behind_word host limits state (evaluate host limits left) false (words_of w.value.rest) w.value.words)) (sym h.4)
+      ∙ ap (λ made. after (parts_do limits (evaluate host limits left) (left_of (Some w.value.inner) (parts_of w.value.parts)) made state variables fuel)
+      (behind_word host limits state (evaluate host limits left) false (words_of w.value.rest) w.value.words)) (sym h.3)
+      ∙ ap (λ expand. after (parts_do limits (evaluate host limits left) (left_of (Some w.value.inner) (parts_of w.value.parts)) w.value.made state variables fuel)
+      (behind_word host limits state (evaluate host limits left) expand (words_of w.value.rest) w.value.words)) (sym h.1)
+  waits_reach words rest script (Ok (reached.Ended end)) h = absurd h
+  waits_reach words rest script (Ok (reached.Opens s)) h = absurd h
+  waits_reach words rest script (Ok (reached.Runs c given)) h = absurd h
+  waits_reach words rest script (Ok (reached.Counts e)) h = absurd h
+  waits_reach words rest script (Ok (reached.Calls given)) h = absurd h
+  waits_reach words rest script (Err why) h = subst (λ k. HaltsSo host limits (result_then script rest words) k state variables fuel) (sym h) tt
+
+pub waits_fall : (words : List (List ℕ)) (rest : List Word) (script : Script) (result : Result Reached Halt) (size old new : ℕ) → WaitsAt words rest script result
+    → 1 + parts_size (nested script no_part) + words_size (words_of rest) ≤ size → new ≤ old → ReachFalls result size old new
+waits_fall words rest script (Ok (reached.Waits w)) size old new h less s =
+    let parts = ap parts_size h.4 in
+    let behind = ap (λ r. words_size (words_of r)) h.2 in
+    (s, λ e. omega (arith, parts, behind, less))
+waits_fall words rest script (Ok (reached.Ended end)) size old new h less s = absurd h
+waits_fall words rest script (Ok (reached.Opens x)) size old new h less s = absurd h
+waits_fall words rest script (Ok (reached.Runs c given)) size old new h less s = absurd h
+waits_fall words rest script (Ok (reached.Counts e)) size old new h less s = absurd h
+waits_fall words rest script (Ok (reached.Calls given)) size old new h less s = absurd h
+waits_fall words rest script (Err why) size old new h less s = s

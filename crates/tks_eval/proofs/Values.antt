@@ -168,7 +168,7 @@ module _ {S : Type 0} where
       -- what waits for a value passes another end on
       pub value_passes : (f : ValueFrame) (code : ℕ) (text : List ℕ) (state : S) (variables : Variables) (fuel : ℕ) → (code == 0) ≡ false
           → after_value limits inner f (End code text state variables fuel) ≡ End code text state variables fuel
-      value_passes (frame.Links links) code text state variables fuel h = links_pass links code text state variables fuel h
+      value_passes (frame.Link link links) code text state variables fuel h = links_pass (link ∷ links) code text state variables fuel h
       value_passes (frame.Right operator x links) code text state variables fuel h =
           ap (links_do limits inner links) (after_other code text state variables fuel (λ y. told_text limits inner (applied operator x y)) h) ∙ links_pass links code text state variables fuel h
       value_passes (frame.Truth links) code text state variables fuel h =
@@ -181,7 +181,7 @@ module _ {S : Type 0} where
           (λ text state variables fuel. given limits (value_or_fault (result_of text)) state variables fuel (λ result. End 0 result state variables fuel)) h
 
       pub value_stops : (f : ValueFrame) (why : Why) → after_value limits inner f (Stopped why) ≡ Stopped why
-      value_stops (frame.Links links) why = links_stop links why
+      value_stops (frame.Link link links) why = links_stop links why
       value_stops (frame.Right operator x links) why = links_stop links why
       value_stops (frame.Truth links) why = links_stop links why
       value_stops (frame.Signs signs) why = refl
@@ -199,12 +199,8 @@ value_weighs (Both a b) = omega arith
 value_weighs (Either a b) = omega arith
 value_weighs (Conditional c a b) = omega arith
 
-links_weigh_some : (links : List Link) → 0 < links_weight links
-links_weigh_some [] = omega arith
-links_weigh_some (link ∷ links) = omega arith
-
 pub frame_weighs : (f : ValueFrame) → 0 < value_frame_weight f
-frame_weighs (frame.Links links) = links_weigh_some links
+frame_weighs (frame.Link link links) = omega arith
 frame_weighs (frame.Right operator x links) = omega arith
 frame_weighs (frame.Truth links) = omega arith
 frame_weighs (frame.Signs signs) = omega arith

@@ -43,7 +43,7 @@ waits_for (inner.Index name index) made parts = frame.Element name made parts
 waits_for (inner.Script script) made parts = frame.Nested made parts
 
 abbrev pub runs : Inner → Now
-runs (inner.Index name index) = now.Fill [] index
+runs (inner.Index name index) = now.Index index
 runs (inner.Script script) = now.Open script
 
 -- all words; or those before one that was begun, and that one: the parts that are left of it, its text so far, and the

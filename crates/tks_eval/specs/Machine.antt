@@ -1,11 +1,11 @@
 -- What a stack of frames means: each frame is one sequencing of the evaluation, read backwards.
+use Rattle.std.specs.FinMap as map
 use Rattle.std.specs.Prelude.{◌≡◌, ℕ, Bool, true, false, not, is_some, ◌+◌, ◌*◌, ◌≤◌, ◌<◌, List, [], ◌∷◌, ◌++◌, Option, Some, None, Result, Ok, Err}
 use Rattle.tks_text.specs.declared.limits.Limits.{Limits}
-use Rattle.tks_parse.specs.Tree.{Words, Parts, script_size, words_size, parts_size}
+use Rattle.tks_parse.specs.Tree.{Script, no_command, Words, Parts, no_part, nested, script_size, words_size, parts_size}
+use Rattle.tks_parse.specs.declared.tree.Word.{Word}
 use Rattle.tks_parse.specs.Reading.{script_of}
-use Rattle.tks_parse.specs.View.{parts_of, words_of, script_of_commands}
-use Rattle.tks_parse.specs.declared.tree.Command.{Command}
-use Rattle.tks_text.specs.declared.fault.ScriptFault.{ScriptFault}
+use Rattle.tks_parse.specs.View.{parts_of, words_of, first_words}
 use Rattle.tks_vars.specs.Variables.{Variables}
 use Rattle.tks_tcl.specs.Plain as commands
 use Rattle.tks_tcl.specs.Plain.{plain}
@@ -14,7 +14,7 @@ use Rattle.tks_tcl.specs.Meets.{text_of}
 use Rattle.tks_eval.specs.Outcome.{Outcome, End, Stopped, Meaning, Next, Level, after, after_body, caught, appended, fails, given}
 use Rattle.tks_expr.specs.Tree.{Expr, Literal, Made, One, Two, Both, Either, Conditional}
 use Rattle.tks_expr.specs.declared.tree.Link.{Link}
-use Rattle.tks_eval.specs.Evaluation.{Loop, loop_does, element_name, with_value, parts_do, words_in, words_do, commands_do, evaluate, control_does, host_does, value_does, after_truth, branches_do, catch_ends, each, settled, without_frame, returned, after_script, scripts_do}
+use Rattle.tks_eval.specs.Evaluation.{Loop, loop_does, element_name, with_value, parts_do, words_in, words_do, commands_do, evaluate, control_does, host_does, value_does, after_truth, branches_do, catch_ends, each, settled, without_frame, returned, after_script, scripts_do, procedure_does, result_told}
 use Rattle.tks_eval.specs.Filling.{left_of, Stand, All, Upto, words_made}
 use Rattle.tks_eval.specs.Names.{Control, control_named}
 use Rattle.tks_eval.specs.Names as control
@@ -33,7 +33,7 @@ use Rattle.tks_eval.specs.declared.loops.Turn.{Turn}
 use Rattle.tks_eval.specs.declared.loops.Turn.TheVariants as turn
 use Rattle.tks_eval.specs.declared.frame.Ending.{Ending}
 use Rattle.tks_eval.specs.declared.frame.Now.{Now}
-use Rattle.tks_eval.specs.declared.frame.Now.TheVariants.{Open, Fill, Value, At}
+use Rattle.tks_eval.specs.declared.frame.Now.TheVariants.{Open, Index, Value, At}
 use Rattle.tks_eval.specs.declared.machine.Machine.{Machine}
 use Rattle.tks_eval.specs.declared.words.Filled.{Filled}
 use Rattle.tks_eval.specs.declared.words.Filled.TheVariants as filled
@@ -44,6 +44,7 @@ use Rattle.tks_eval.specs.declared.reach.Reached.{Reached}
 use Rattle.tks_eval.specs.declared.reach.Reached.TheVariants as reached
 use Rattle.tks_eval.specs.declared.halt.Halt.{Halt}
 use Rattle.tks_eval.specs.declared.halt.Halt.TheVariants as halt
+use Rattle.tks_tcl.specs.declared.stop.Stop.TheVariants as stops
 
 -- the command that the code means
 abbrev pub control_of : Coded → Control
@@ -89,12 +90,12 @@ AnswersAs true answer end variables = answer ≡ Some (commands.Answers end.code
 AnswersAs false answer end variables =
     (answer ≡ Some (commands.Answers end.code (text_of answer) variables)) × ((end.code ≡ 0 → ⊥) → text_of answer ≡ end.text)
 
--- words that are all made are those of a command that runs no script, and answers this
-abbrev pub AnswersWords : Limits → Variables → Words → List ℕ → Type 0
-AnswersWords limits variables words text =
+-- words that are all made are those of a command that runs no script, and ends with this code and this text
+abbrev pub AnswersWords : Limits → Variables → Words → ℕ → List ℕ → Type 0
+AnswersWords limits variables words code text =
     (words_made limits variables words [] ≡ Ok (All (words_filled (words_made limits variables words []))))
     × (runs_none (words_filled (words_made limits variables words [])) ≡ true)
-    × (plain limits (words_filled (words_made limits variables words [])) variables ≡ Some (commands.Answers 0 text variables))
+    × (plain limits (words_filled (words_made limits variables words [])) variables ≡ Some (commands.Answers code text variables))
 
 -- what follows on a script in a word
 abbrev pub behind_script : {S : Type 0} → Limits → Level S → Parts → List ℕ → Outcome S → Outcome S
@@ -105,8 +106,7 @@ behind_script limits inner parts made outcome =
 module _ {S : Type 0} (host : Meaning S) (limits : Limits) where
   -- what a frame makes of the end that it waited for, where so many scripts may yet be opened in one another
   abbrev pub after_frame : ℕ → Frame → Outcome S → Outcome S
-  after_frame left (frame.Commands rest fault levels) outcome =
-      after outcome (commands_do host limits (evaluate host limits left) (script_of_commands rest fault))
+  after_frame left (frame.Commands rest levels) outcome = after outcome (commands_do host limits (evaluate host limits left) rest)
   after_frame left (frame.Command words expand rest) outcome =
       after outcome (λ text state variables fuel. given limits (words_in expand text) state variables fuel (λ more.
       words_do host limits (evaluate host limits left) (words_of rest) (words ++ more) state variables fuel))
@@ -119,16 +119,21 @@ module _ {S : Type 0} (host : Meaning S) (limits : Limits) where
   after_frame left (frame.Catch name) outcome = caught outcome (catch_ends limits name)
   after_frame left (frame.Each name body elements) outcome = after_body outcome (each limits (evaluate host limits left) name body elements)
   after_frame left (frame.Value f) outcome = after_value limits (evaluate host limits left) f outcome
+  after_frame left (frame.Made f) outcome =
+      after_value limits (evaluate host limits left) f (behind_script limits (evaluate host limits left) no_part [] outcome)
   after_frame left (frame.Branch body rest) outcome =
       after_truth limits outcome (evaluate host limits left (script_of body)) (branches_do limits (evaluate host limits left) rest.otherwise rest.tests)
   after_frame left (frame.Turns stage loop) outcome = after_stage limits (evaluate host limits left) stage loop outcome
-  after_frame left frame.Procedure outcome = settled limits (without_frame outcome)
-  after_frame left frame.Global outcome = returned (without_frame outcome)
-  after_frame left (frame.Scripts window scripts) outcome = after_script host (without_frame outcome) (scripts_do host (evaluate host limits left) window scripts)
+  after_frame left (frame.Procedure levels) outcome = settled limits (without_frame outcome)
+  after_frame left (frame.Global levels) outcome = returned (without_frame outcome)
+  after_frame left (frame.Scripts window scripts levels) outcome = after_script host (without_frame outcome) (scripts_do host (evaluate host limits left) window scripts)
 
   -- how many scripts may be opened in one another behind a frame
   abbrev pub left_below : ℕ → Frame → ℕ
-  left_below left (frame.Commands rest fault levels) = levels
+  left_below left (frame.Commands rest levels) = levels
+  left_below left (frame.Procedure levels) = levels
+  left_below left (frame.Global levels) = levels
+  left_below left (frame.Scripts window scripts levels) = levels
   left_below left frame = left
 
   -- what comes of an end on top of a stack
@@ -139,7 +144,7 @@ module _ {S : Type 0} (host : Meaning S) (limits : Limits) where
   -- the end on top
   abbrev pub outcome_now : ℕ → Now → Next S
   outcome_now left (Open script) state variables fuel = evaluate host limits left script state variables fuel
-  outcome_now left (Fill made parts) state variables fuel = parts_do limits (evaluate host limits left) (parts_of parts) made state variables fuel
+  outcome_now left (Index parts) state variables fuel = parts_do limits (evaluate host limits left) (parts_of parts) [] state variables fuel
   outcome_now left (Value e) state variables fuel = value_does limits (evaluate host limits left) e state variables fuel
   outcome_now left (At ended) state variables fuel = End ended.code ended.text state variables fuel
 
@@ -172,26 +177,36 @@ module _ {S : Type 0} (host : Meaning S) (limits : Limits) where
   called inner (first ∷ words) state variables fuel =
       host_does host limits inner first words (host.commands state variables (first ∷ words)) state variables fuel
 
+  -- a procedure, behind its step
+  abbrev pub procedure_called : Level S → List (List ℕ) → Next S
+  procedure_called inner [] state variables fuel = End 0 [] state variables fuel
+  procedure_called inner (first ∷ words) state variables fuel = procedure_does limits inner first words (map.get variables.procedures first) state variables fuel
+
+  -- a command, one of whose words waits
+  abbrev pub waiting_does : ℕ → Waiting → Next S
+  waiting_does left w state variables fuel =
+      after_frame left (frame.Command w.words w.expand w.rest)
+      (parts_do limits (evaluate host limits left) (left_of (Some w.inner) (parts_of w.parts)) w.made state variables fuel)
+
   -- what comes of a command that came so far
   abbrev pub reached_does : ℕ → Reached → Next S
   reached_does left (reached.Ended end) state variables fuel = End end.code end.text state variables fuel
   reached_does left (reached.Opens script) state variables fuel = evaluate host limits left script state variables fuel
   reached_does left (reached.Runs c given) state variables fuel = control_called (evaluate host limits left) (control_of c) (given_words given) state variables fuel
+  reached_does left (reached.Counts e) state variables fuel = result_told limits (value_does limits (evaluate host limits left) e state variables fuel)
   reached_does left (reached.Calls given) state variables fuel = called (evaluate host limits left) (given_words given) state variables fuel
-  reached_does left (reached.Waits w) state variables fuel =
-      after_frame left (frame.Command w.words w.expand w.rest)
-      (parts_do limits (evaluate host limits left) (left_of (Some w.inner) (parts_of w.parts)) w.made state variables fuel)
+  reached_does left (reached.Waits w) state variables fuel = waiting_does left w.value state variables fuel
 
   -- how far a command came at once
   abbrev pub ReachesSo : ℕ → Outcome S → Result Reached Halt → S → Variables → ℕ → Type 0
   ReachesSo left whole (Ok came) state variables fuel = whole ≡ reached_does left came state variables fuel
   ReachesSo left whole (Err why) state variables fuel = HaltsSo whole why state variables fuel
 
-  -- how far the commands of a script came at once that has such a fault at its end, and what is behind them
-  abbrev pub RunsSo : ℕ → Option ScriptFault → Outcome S → Result Reached Halt → List Command → S → Variables → ℕ → Type 0
-  RunsSo left fault whole (Ok came) rest state variables fuel =
-      whole ≡ after (reached_does left came state variables fuel) (commands_do host limits (evaluate host limits left) (script_of_commands rest fault))
-  RunsSo left fault whole (Err why) rest state variables fuel = HaltsSo whole why state variables fuel
+  -- how far the commands of a script came at once, and what is behind them
+  abbrev pub RunsSo : ℕ → Outcome S → Result Reached Halt → Script → S → Variables → ℕ → Type 0
+  RunsSo left whole (Ok came) rest state variables fuel =
+      whole ≡ after (reached_does left came state variables fuel) (commands_do host limits (evaluate host limits left) rest)
+  RunsSo left whole (Err why) rest state variables fuel = HaltsSo whole why state variables fuel
 
   -- how far a turn of a loop came at once, and what is left of the loop
   abbrev pub TurnsSo : ℕ → Loop → Outcome S → Result Turn Halt → S → Variables → ℕ → Type 0
@@ -211,6 +226,12 @@ TakesElement inner name body items limits whole (Ok (Some end)) state variables 
 TakesElement inner name body items limits whole (Err (halt.Fault fault)) state variables fuel = whole ≡ fails limits fault state variables fuel
 TakesElement inner name body items limits whole (Err (halt.Stop why)) state variables fuel = StopsSo whole why
 
+-- what is left of a script on a stack: where nothing is left of it, a call on top restores the levels by itself
+abbrev pub waits_behind : Script → ℕ → List Frame → List Frame
+waits_behind no_command levels (frame.Procedure k ∷ below) = frame.Procedure k ∷ below
+waits_behind no_command levels (frame.Global k ∷ below) = frame.Global k ∷ below
+waits_behind rest levels stack = frame.Commands rest levels ∷ stack
+
 -- ---- what is left to do before the next step
 
 abbrev pub value_weight : Expr → ℕ
@@ -227,7 +248,7 @@ links_weight [] = 1
 links_weight (link ∷ links) = value_weight link.right + 3 + links_weight links
 
 abbrev pub value_frame_weight : ValueFrame → ℕ
-value_frame_weight (value.Links links) = links_weight links
+value_frame_weight (value.Link link links) = links_weight (link ∷ links)
 value_frame_weight (value.Right operator x links) = links_weight links + 1
 value_frame_weight (value.Truth links) = links_weight links + 1
 value_frame_weight (value.Signs signs) = 1
@@ -249,17 +270,18 @@ loop_weight stage.Next loop = 1
 
 abbrev pub frame_weight : Frame → ℕ
 frame_weight (frame.Value f) = value_frame_weight f
+frame_weight (frame.Made f) = value_frame_weight f + 2
 frame_weight (frame.Branch body rest) = text_weight body + optional_weight rest.otherwise + 1
 frame_weight (frame.Turns stage loop) = loop_weight stage loop
-frame_weight (frame.Commands rest fault levels) = 4 * script_size (script_of_commands rest fault) + 1
+frame_weight (frame.Commands rest levels) = 4 * script_size rest + 1
 frame_weight (frame.Command words expand rest) = 4 * words_size (words_of rest) + 1
 frame_weight (frame.Nested made parts) = 4 * parts_size (parts_of parts) + 2
 frame_weight (frame.Element name made parts) = 4 * parts_size (parts_of parts) + 2
 frame_weight (frame.Catch name) = 1
 frame_weight (frame.Each name body elements) = 1
-frame_weight frame.Procedure = 1
-frame_weight frame.Global = 1
-frame_weight (frame.Scripts window scripts) = 1
+frame_weight (frame.Procedure levels) = 1
+frame_weight (frame.Global levels) = 1
+frame_weight (frame.Scripts window scripts levels) = 1
 
 abbrev pub stack_weight : List Frame → ℕ
 stack_weight [] = 0
@@ -267,7 +289,7 @@ stack_weight (frame ∷ below) = frame_weight frame + stack_weight below
 
 abbrev pub now_weight : Now → ℕ
 now_weight (Open script) = 4 * script_size script + 2
-now_weight (Fill made parts) = 4 * parts_size (parts_of parts) + 1
+now_weight (Index parts) = 4 * parts_size (parts_of parts) + 1
 now_weight (Value e) = value_weight e
 now_weight (At ended) = 0
 
@@ -290,13 +312,22 @@ FillFalls (Err why) size old new = new ≤ old
 abbrev pub waiting_weight : Waiting → ℕ
 waiting_weight w = 4 * parts_size (left_of (Some w.inner) (parts_of w.parts)) + 4 * words_size (words_of w.rest) + 2
 
+-- a command waits for a script in its next word, which makes all of that; or memory is wanting
+abbrev pub WaitsAt : List (List ℕ) → List Word → Script → Result Reached Halt → Type 0
+WaitsAt words rest script (Ok (reached.Waits w)) =
+    (w.value.words ≡ words) × (w.value.expand ≡ false) × (w.value.rest ≡ rest) × (w.value.made ≡ [])
+    × (left_of (Some w.value.inner) (parts_of w.value.parts) ≡ nested script no_part)
+WaitsAt words rest script (Ok came) = ⊥
+WaitsAt words rest script (Err why) = why ≡ halt.Stop stops.NoMemory
+
 -- a step was taken, or no more is left of a command than of words of this size
 abbrev pub ReachFalls : Result Reached Halt → ℕ → ℕ → ℕ → Type 0
 ReachFalls (Ok (reached.Ended end)) size old new = new ≤ old
 ReachFalls (Ok (reached.Opens script)) size old new = new < old
 ReachFalls (Ok (reached.Runs c given)) size old new = new < old
+ReachFalls (Ok (reached.Counts e)) size old new = new < old
 ReachFalls (Ok (reached.Calls given)) size old new = new < old
-ReachFalls (Ok (reached.Waits w)) size old new = (new ≤ old) × (new ≡ old → waiting_weight w ≤ 4 * size)
+ReachFalls (Ok (reached.Waits w)) size old new = (new ≤ old) × (new ≡ old → waiting_weight w.value ≤ 4 * size)
 ReachFalls (Err why) size old new = new ≤ old
 
 -- a step was taken, or less is left of the commands of a script, which had this size and have that one behind these
@@ -304,15 +335,17 @@ abbrev pub RunFalls : Result Reached Halt → ℕ → ℕ → ℕ → ℕ → Ty
 RunFalls (Ok (reached.Ended end)) size behind old new = new ≤ old
 RunFalls (Ok (reached.Opens script)) size behind old new = new < old
 RunFalls (Ok (reached.Runs c given)) size behind old new = new < old
+RunFalls (Ok (reached.Counts e)) size behind old new = new < old
 RunFalls (Ok (reached.Calls given)) size behind old new = new < old
-RunFalls (Ok (reached.Waits w)) size behind old new = (new ≤ old) × (new ≡ old → waiting_weight w + 4 * behind ≤ 4 * size)
+RunFalls (Ok (reached.Waits w)) size behind old new = (new ≤ old) × (new ≡ old → waiting_weight w.value + 4 * behind ≤ 4 * size)
 RunFalls (Err why) size behind old new = new ≤ old
 
 -- commands that ended well have none behind them
-abbrev pub IsDone : Result Reached Halt → List Command → Type 0
-IsDone (Ok (reached.Ended end)) rest = end.code ≡ 0 → rest ≡ []
+abbrev pub IsDone : Result Reached Halt → Script → Type 0
+IsDone (Ok (reached.Ended end)) rest = end.code ≡ 0 → first_words rest ≡ None
 IsDone (Ok (reached.Opens script)) rest = Unit {0}
 IsDone (Ok (reached.Runs c given)) rest = Unit {0}
+IsDone (Ok (reached.Counts e)) rest = Unit {0}
 IsDone (Ok (reached.Calls given)) rest = Unit {0}
 IsDone (Ok (reached.Waits w)) rest = Unit {0}
 IsDone (Err why) rest = Unit {0}
@@ -322,6 +355,7 @@ abbrev pub IsBegun : Reached → Type 0
 IsBegun (reached.Ended end) = ⊥
 IsBegun (reached.Opens script) = Unit {0}
 IsBegun (reached.Runs c given) = Unit {0}
+IsBegun (reached.Counts e) = Unit {0}
 IsBegun (reached.Calls given) = Unit {0}
 IsBegun (reached.Waits w) = Unit {0}
 
@@ -330,5 +364,15 @@ abbrev pub GoesOn : Reached → Result Now Halt → Machine → Machine → Type
 GoesOn (reached.Ended end) result old new = Falls result 1 old new
 GoesOn (reached.Opens script) result old new = new.fuel ≤ old.fuel
 GoesOn (reached.Runs c given) result old new = new.fuel ≤ old.fuel
+GoesOn (reached.Counts e) result old new = new.fuel ≤ old.fuel
 GoesOn (reached.Calls given) result old new = new.fuel ≤ old.fuel
-GoesOn (reached.Waits w) result old new = Falls result (waiting_weight w) old new
+GoesOn (reached.Waits w) result old new = Falls result (waiting_weight w.value) old new
+
+-- the same before what is left of a script, which weighs so much
+abbrev pub GoesBefore : Reached → ℕ → Result Now Halt → Machine → Machine → Type 0
+GoesBefore (reached.Ended end) weight result old new = ⊥
+GoesBefore (reached.Opens script) weight result old new = new.fuel ≤ old.fuel
+GoesBefore (reached.Runs c given) weight result old new = new.fuel ≤ old.fuel
+GoesBefore (reached.Counts e) weight result old new = new.fuel ≤ old.fuel
+GoesBefore (reached.Calls given) weight result old new = new.fuel ≤ old.fuel
+GoesBefore (reached.Waits w) weight result old new = Falls result (waiting_weight w.value + weight) old new

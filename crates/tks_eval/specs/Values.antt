@@ -50,7 +50,7 @@ module _ {S : Type 0} (limits : Limits) (inner : Level S) where
 
   -- what a frame makes of an operand's end
   abbrev pub after_value : ValueFrame → Outcome S → Outcome S
-  after_value (frame.Links links) outcome = links_do links outcome
+  after_value (frame.Link link links) outcome = links_do (link ∷ links) outcome
   after_value (frame.Right operator x links) outcome = links_do links (after outcome (λ y. told_text (applied operator x y)))
   after_value (frame.Truth links) outcome = links_do links (after outcome truth_told)
   after_value (frame.Signs signs) outcome = after outcome (λ x. told_text (signs_applied signs x))

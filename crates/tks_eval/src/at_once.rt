@@ -1,30 +1,35 @@
 //! Scripts of one command that runs no script. They are run where they stand, without a frame.
-ghost use Rattle.std.specs.Prelude.{◌≡◌, ◌<◌, ◌≤◌, ◌-◌, suc, true, [], IfSome, IfNone, Ok};
+ghost use Rattle.std.specs.Prelude.{◌≡◌, ◌<◌, ◌≤◌, ◌-◌, suc, true, [], IfSome, IfNone, Ok, Some, option_map};
+ghost use Rattle.tks_list.specs.Reading.{list_of};
 ghost use Rattle.tks_parse.specs.Tree as tree;
 ghost use Rattle.tks_parse.specs.View.{words_of, words_of_command};
 ghost use Rattle.tks_eval.specs.Outcome.{End};
-ghost use Rattle.tks_eval.specs.Evaluation.{evaluate, words_do, call, expr_does, expression_does, result_told};
+ghost use Rattle.tks_eval.specs.Evaluation.{evaluate, words_do, call};
 ghost use Rattle.tks_eval.specs.Filling.{All, words_made, IsWord, IsListWord};
 ghost use Rattle.tks_eval.specs.Machine.{EndsAs, AnswersAs, AnswersWords};
 ghost use Rattle.tks_tcl.specs.Plain.{plain};
 
 use crate::commands::all_fit;
 use crate::control::Control;
-use crate::expressions::{scalar, value_at_once};
+use crate::expressions::scalar;
 use crate::frame::Ending;
 use crate::host::Host;
 use crate::machine::Machine;
+use crate::reach::Reached;
 use crate::words::{add_words, fill_up, stands};
 use std::alloc::Global;
-use tks_expr::result_of;
-use tks_list::Elements;
+use tks_list::{Elements, read};
 use tks_parse::{Command, Part, Script, Word};
 use tks_share::Shared;
 use tks_tcl::{
-    ListTable, Quiet, fits, is_word, lindex_answer, llength_answer, plain, plain_quietly,
+    ListTable, Quiet, fits, is_word, lindex_answer, llength_answer, lrange_answer, plain,
+    plain_quietly, return_answer,
 };
 use tks_text::{Limits, Seq, Txt};
 use tks_vars::Vars;
+
+/// A text of fewer bytes is split as quickly as its list is found.
+const LONG: usize = 32;
 
 // Adds what a word stands for, where nothing in it has to be run. Where something refuses, some of it may be there.
 fn add_word(
@@ -70,9 +75,9 @@ fn words_at_once(
     Some(made)
 }
 
-// The text that a word is, where it lies: its characters, or a variable's value.
+/// The text that a word is, where it lies: its characters, or a variable's value.
 #[tactic(auto, using(crate::proofs::Lent::filled_one))]
-fn lent<'a>(word: &'a Word, variables: &'a Vars, limits: &Limits) -> Option<&'a Txt>
+pub fn lent<'a>(word: &'a Word, variables: &'a Vars, limits: &Limits) -> Option<&'a Txt>
     ensures { IfSome result (λ t. IsWord limits.now variables.now word.now t.now) }
 {
     if word.expand {
@@ -91,15 +96,36 @@ fn lent<'a>(word: &'a Word, variables: &'a Vars, limits: &Limits) -> Option<&'a 
     }
 }
 
-// The list that a word splits into, where that is kept beside a variable's value.
-fn lent_list(word: &Word, variables: &mut Vars, limits: &Limits) -> Option<Shared<Elements>>
+// The list that a text splits into.
+fn list_in(alloc: Global, text: &Txt) -> Option<Shared<Elements>>
+    ensures { IfSome result (λ l. list_of text.now ≡ Some l) }
+{
+    let Ok(list) = read(alloc, text) else {
+        return None;
+    };
+    match Shared::new(alloc, list) {
+        Ok(list) => Some(list),
+        Err(_) => None,
+    }
+}
+
+// The list that a word splits into: that of a short text, which is read, or the one that is kept beside a variable's value.
+fn lent_list(
+    alloc: Global,
+    word: &Word,
+    variables: &mut Vars,
+    limits: &Limits,
+) -> Option<Shared<Elements>>
     ensures some { IfSome result (λ l. IsListWord limits.now variables.old word.now l) }
     ensures same { variables.new ≡ variables.old }
 {
+    let text = lent(word, variables, limits)?;
+    if text.len() < LONG {
+        return list_in(alloc, text);
+    }
     let [Part::Variable(name, None)] = word.parts.as_slice() else {
         return None;
     };
-    lent(word, variables, limits)?;
     variables.list(name)
 }
 
@@ -113,14 +139,14 @@ fn is_lent(word: &Word, variables: &Vars, name: &[u8], limits: &Limits) -> bool
     }
 }
 
-// The answer of a `lindex` of a variable's list, which isn't copied as a word.
+// The answer of a `lindex` of a list that is lent.
 fn lindex_at_once(
     alloc: Global,
     words: &[Word],
     variables: &mut Vars,
     limits: &Limits,
 ) -> Option<Txt>
-    ensures some { IfSome result (λ t. AnswersWords limits.now variables.old (words_of words.now) t) }
+    ensures some { IfSome result (λ t. AnswersWords limits.now variables.old (words_of words.now) 0 t) }
     ensures same { variables.new ≡ variables.old }
 {
     let [command, list, index] = words else {
@@ -129,7 +155,7 @@ fn lindex_at_once(
     if !is_lent(command, variables, b"lindex", limits) {
         return None;
     }
-    let list = lent_list(list, variables, limits)?;
+    let list = lent_list(alloc, list, variables, limits)?;
     let index = lent(index, variables, limits)?;
     lindex_answer(alloc, list.get(), index, limits)
 }
@@ -141,7 +167,7 @@ fn llength_at_once(
     variables: &mut Vars,
     limits: &Limits,
 ) -> Option<Txt>
-    ensures some { IfSome result (λ t. AnswersWords limits.now variables.old (words_of words.now) t) }
+    ensures some { IfSome result (λ t. AnswersWords limits.now variables.old (words_of words.now) 0 t) }
     ensures same { variables.new ≡ variables.old }
 {
     let [command, list] = words else {
@@ -150,23 +176,82 @@ fn llength_at_once(
     if !is_lent(command, variables, b"llength", limits) {
         return None;
     }
-    let list = lent_list(list, variables, limits)?;
+    let list = lent_list(alloc, list, variables, limits)?;
     llength_answer(alloc, list.get(), limits)
 }
 
-/// The answer of a command that reads a variable's list, which isn't copied as a word.
-pub fn answer_at_once(
+// The same of a `lrange`.
+fn lrange_at_once(
     alloc: Global,
     words: &[Word],
     variables: &mut Vars,
     limits: &Limits,
 ) -> Option<Txt>
-    ensures some { IfSome result (λ t. AnswersWords limits.now variables.old (words_of words.now) t) }
+    ensures some { IfSome result (λ t. AnswersWords limits.now variables.old (words_of words.now) 0 t) }
     ensures same { variables.new ≡ variables.old }
 {
+    let [command, list, first, last] = words else {
+        return None;
+    };
+    if !is_lent(command, variables, b"lrange", limits) {
+        return None;
+    }
+    let list = lent_list(alloc, list, variables, limits)?;
+    let first = lent(first, variables, limits)?;
+    let last = lent(last, variables, limits)?;
+    lrange_answer(alloc, list.get(), first, last, limits)
+}
+
+// The text that a `return` ends with.
+fn return_at_once(words: &[Word], variables: &Vars, limits: &Limits) -> Option<Txt>
+    ensures { IfSome result (λ t. AnswersWords limits.now variables.now (words_of words.now) 2 t) }
+{
+    let [command, text] = words else {
+        return None;
+    };
+    if !is_lent(command, variables, b"return", limits) {
+        return None;
+    }
+    let text = lent(text, variables, limits)?;
+    return_answer(text, limits)
+}
+
+// Whether a word may be the name of a command that is answered so. It is asked first, since most are none of them.
+fn may_answer(command: &Word) -> bool {
+    match command.parts.as_slice() {
+        [Part::Text(name)] => matches!(name.as_bytes(), [b'l' | b'r', ..]),
+        _ => false,
+    }
+}
+
+// An end with this code and this text, if there is one.
+fn ended(code: u8, text: Option<Txt>) -> Option<Ending>
+    ensures { result ≡ option_map (λ text. record { code = code; text = text }) text }
+{
+    let text = text?;
+    Some(Ending { code, text })
+}
+
+/// The end of a command of words that are lent: of a list that is read, or of a `return`. Nothing is copied as a word.
+pub fn answer_at_once(
+    alloc: Global,
+    words: &[Word],
+    variables: &mut Vars,
+    limits: &Limits,
+) -> Option<Ending>
+    ensures some { IfSome result (λ end. AnswersWords limits.now variables.old (words_of words.now) end.code end.text) }
+    ensures same { variables.new ≡ variables.old }
+{
+    if !words.first().is_some_and(may_answer) {
+        return None;
+    }
     match words {
-        [_, _, _] => lindex_at_once(alloc, words, variables, limits),
-        [_, _] => llength_at_once(alloc, words, variables, limits),
+        [_, _, _, _] => ended(0, lrange_at_once(alloc, words, variables, limits)),
+        [_, _, _] => ended(0, lindex_at_once(alloc, words, variables, limits)),
+        [_, _] => match return_at_once(words, variables, limits) {
+            Some(text) => Some(Ending { code: 2, text }),
+            None => ended(0, llength_at_once(alloc, words, variables, limits)),
+        },
         _ => None,
     }
 }
@@ -197,52 +282,6 @@ fn plain_at_once(
 }
 
 impl Machine {
-    // The result of the expression that a text spells, where that is made at once.
-    fn result_at_once<H: Host>(
-        &mut self,
-        alloc: Global,
-        host: &H,
-        variables: &Vars,
-        text: &Txt,
-        limits: &Limits,
-    ) -> Option<Txt>
-        ensures some { IfSome result (λ t. result_told limits.now (expression_does limits.now (evaluate H.meaning limits.now self.old.left) text.now (H.state host.now) variables.now self.old.fuel) ≡ End 0 t (H.state host.now) variables.now self.old.fuel) }
-        ensures kept { self.new ≡ self.old }
-    {
-        let Ok(expr) = self.table.expr(alloc, text) else {
-            return None;
-        };
-        let Ok(Some(value)) = value_at_once(alloc, &expr, variables, limits) else {
-            return None;
-        };
-        match result_of(alloc, &value) {
-            Ok(text) => Some(text),
-            Err(_) => None,
-        }
-    }
-
-    /// The end of an `expr` of these words, where it is made at once.
-    pub fn expr_at_once<H: Host>(
-        &mut self,
-        alloc: Global,
-        host: &H,
-        variables: &Vars,
-        command: &Txt,
-        words: &[Txt],
-        limits: &Limits,
-    ) -> Option<Ending>
-        ensures some { IfSome result (λ end. expr_does limits.now (evaluate H.meaning limits.now self.old.left) command.now words.now (H.state host.now) variables.now self.old.fuel ≡ End end.code end.text (H.state host.now) variables.now self.old.fuel) }
-        ensures kept { self.new ≡ self.old }
-    {
-        match words {
-            [word] if fits(word, limits) => {
-                let text = self.result_at_once(alloc, host, variables, word, limits)?;
-                Some(Ending { code: 0, text })
-            }
-            _ => None,
-        }
-    }
-
     // The end of a command of these words, behind its step, where it runs no script.
     fn command_at_once<H: Host>(
         &mut self,
@@ -259,7 +298,12 @@ impl Machine {
     {
         let (command, rest) = words.split_first()?;
         match Control::named(command) {
-            Some(Control::Expr) => self.expr_at_once(alloc, host, variables, command, rest, limits),
+            Some(Control::Expr) => {
+                match self.reach_expr(alloc, host, variables, command, rest, limits)? {
+                    Reached::Ended(end) => Some(end),
+                    _ => None,
+                }
+            }
             Some(_) => None,
             None => plain_at_once(alloc, self.table.lists(), variables, words, asked, limits),
         }
@@ -289,8 +333,8 @@ impl Machine {
             }
             Command::Made(words) => {
                 let given = words.as_ref().as_slice();
-                if let Some(text) = answer_at_once(alloc, given, variables, limits) {
-                    return Some(Ending { code: 0, text });
+                if let Some(end) = answer_at_once(alloc, given, variables, limits) {
+                    return Some(end);
                 }
                 let words = words_at_once(alloc, given, variables, limits)?;
                 self.command_at_once(alloc, host, variables, words.as_slice(), asked, limits)

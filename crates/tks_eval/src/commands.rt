@@ -1,14 +1,13 @@
-ghost use Rattle.std.specs.Prelude.{◌≡◌, ◌≤◌, ◌<◌, ℕ, List, Option, [], ◌∷◌, IfOk};
-ghost use Rattle.std.specs.FinMap as map;
+ghost use Rattle.std.specs.Prelude.{◌≡◌, ◌≤◌, ◌<◌, ℕ, List, [], ◌∷◌, IfOk, OnOk, OnErr};
 ghost use Rattle.std.specs.List.{list_all};
 ghost use Rattle.tks_parse.specs.Tree.{script_size};
 ghost use Rattle.tks_parse.specs.Reading.{script_of};
-ghost use Rattle.tks_parse.specs.View.{script_of_commands};
 ghost use Rattle.tks_tcl.specs.Cause.{fits};
 ghost use Rattle.tks_tcl.specs.Meets.{GivesSo};
 ghost use Rattle.tks_eval.specs.Outcome.{End, after};
-ghost use Rattle.tks_eval.specs.Evaluation.{evaluate, commands_do, procedure_does, control_does, catch_does, eval_does, foreach_does, proc_does, each, foreach_form};
-ghost use Rattle.tks_eval.specs.Machine.{control_of, resume, frame_weight, called, GoesSo, Falls, RunsSo, RunFalls, IsDone, TakesElement};
+ghost use Rattle.tks_eval.specs.Evaluation.{evaluate, commands_do, catch_does, eval_does, proc_does, each, foreach_form};
+ghost use Rattle.tks_eval.specs.Machine.{control_of, given_words, resume, frame_weight, waits_behind, control_called, called, procedure_called, reached_does, GoesSo, GoesBefore, Falls, IsBegun, RunsSo, RunFalls, IsDone, TakesElement};
+ghost use Rattle.tks_eval.specs.Names.{Foreach};
 ghost use Rattle.tks_eval.specs.declared.frame.Frame.TheVariants as frame;
 
 use crate::control::Control;
@@ -17,33 +16,39 @@ use crate::halt::{Halt, error_about};
 use crate::host::Host;
 use crate::machine::Machine;
 use crate::procedures::{enter, run_proc};
-use crate::reach::Reached;
+use crate::reach::{Given, Reached};
 use crate::rest::Rest;
-use std::alloc::Global;
-use tks_parse::{Command, Left, Script};
+use std::alloc::{AllocError, Global};
+use tks_parse::{LeftScript, Script};
 use tks_tcl::{Interrupt, ListTable, concatenated_within, fits, store, wrong_words};
 use tks_text::{ErrorNumber, Limits, ScriptFault, Seq, Txt, decimal_of};
 use tks_vars::Vars;
 
-// The variable's name, the body and the elements of a `foreach`.
+// The variable's name, the body and the elements of a `foreach`, whose words are taken.
 #[tactic(auto, using(tks_tcl::proofs::Causes::tells))]
 fn foreach_form(
     alloc: Global,
     lists: &ListTable,
     command: &Txt,
-    words: &[Txt],
+    words: Rest<Txt>,
 ) -> Result<(Txt, Txt, Rest<Txt>), Interrupt>
-    ensures { GivesSo (λ x. x) result (foreach_form command.now words.now) }
+    ensures { GivesSo (λ x. x) result (foreach_form command.now words) }
 {
-    match words {
-        [name, list, body] => {
-            let elements = lists.own_list(alloc, list)?;
-            let name = name.try_clone()?;
-            let body = body.try_clone()?;
-            Ok((name, body, Rest::of(elements.into_items())))
-        }
-        _ => Err(wrong_words(command)),
+    let mut words = words;
+    let Some(name) = words.next() else {
+        return Err(wrong_words(command));
+    };
+    let Some(list) = words.next() else {
+        return Err(wrong_words(command));
+    };
+    let Some(body) = words.next() else {
+        return Err(wrong_words(command));
+    };
+    if !words.is_empty() {
+        return Err(wrong_words(command));
     }
+    let elements = lists.own_list(alloc, &list)?;
+    Ok((name, body, Rest::of(elements.into_items())))
 }
 
 /// Whether no text passes the limit.
@@ -60,14 +65,14 @@ impl Machine {
         alloc: Global,
         host: &H,
         variables: &mut Vars,
-        rest: &mut Left<Command>,
+        rest: &mut LeftScript,
         end: Ending,
         limits: &Limits,
     ) -> Result<Reached, Halt>
         ensures kept { self.new ≡ record self.old { fuel = self.new.fuel } }
-        ensures falls { (fault : Option ScriptFault) → RunFalls result (script_size (script_of_commands rest.old fault)) (script_size (script_of_commands rest.new fault)) self.old.fuel self.new.fuel }
+        ensures falls { RunFalls result (script_size rest.old) (script_size rest.new) self.old.fuel self.new.fuel }
         ensures done { IsDone result rest.new }
-        ensures goes { (fault : Option ScriptFault) → RunsSo H.meaning limits.now self.old.left fault (after (End end.code end.text (H.state host.now) variables.old self.old.fuel) (commands_do H.meaning limits.now (evaluate H.meaning limits.now self.old.left) (script_of_commands rest.old fault))) result rest.new (H.state host.now) variables.new self.new.fuel }
+        ensures goes { RunsSo H.meaning limits.now self.old.left (after (End end.code end.text (H.state host.now) variables.old self.old.fuel) (commands_do H.meaning limits.now (evaluate H.meaning limits.now self.old.left) rest.old)) result rest.new (H.state host.now) variables.new self.new.fuel }
     {
         let mut end = end;
         'command: loop {
@@ -92,15 +97,14 @@ impl Machine {
         alloc: Global,
         host: &mut H,
         variables: &mut Vars,
-        rest: Left<Command>,
-        fault: Option<ScriptFault>,
+        rest: LeftScript,
         levels: u32,
         end: Ending,
         limits: &Limits,
     ) -> Result<Now, Halt>
         ensures same_place { H.place host.new ≡ H.place host.old }
-        ensures falls { Falls result (frame_weight (frame.Commands rest fault levels)) self.old self.new }
-        ensures goes { GoesSo H.meaning limits.now (resume H.meaning limits.now self.old.left (frame.Commands rest fault levels ∷ self.old.stack) (End end.code end.text (H.state host.old) variables.old self.old.fuel)) result self.new (H.state host.new) variables.new }
+        ensures falls { Falls result (frame_weight (frame.Commands rest levels)) self.old self.new }
+        ensures goes { GoesSo H.meaning limits.now (resume H.meaning limits.now self.old.left (frame.Commands rest levels ∷ self.old.stack) (End end.code end.text (H.state host.old) variables.old self.old.fuel)) result self.new (H.state host.new) variables.new }
     {
         let mut rest = rest;
         let reached = match self.run_commands(alloc, host, variables, &mut rest, end, limits) {
@@ -113,41 +117,106 @@ impl Machine {
         match reached {
             Reached::Ended(end) => {
                 self.left = levels;
-                match fault {
-                    Some(fault) if end.code == 0 => Err(Halt::Fault(fault)),
-                    _ => Ok(Now::At(end)),
+                if end.code == 0 {
+                    if let Some(fault) = rest.fault()? {
+                        return Err(Halt::Fault(fault));
+                    }
                 }
+                Ok(Now::At(end))
+            }
+            reached => self.go_before(alloc, host, variables, rest, levels, reached, limits),
+        }
+    }
+
+    // Goes on with a command that didn't end, before what is left of its script.
+    fn go_before<H: Host>(
+        &mut self,
+        alloc: Global,
+        host: &mut H,
+        variables: &mut Vars,
+        rest: LeftScript,
+        levels: u32,
+        reached: Reached,
+        limits: &Limits,
+    ) -> Result<Now, Halt>
+        requires { IsBegun reached }
+        ensures same_place { H.place host.new ≡ H.place host.old }
+        ensures falls { GoesBefore reached (frame_weight (frame.Commands rest levels)) result self.old self.new }
+        ensures goes { GoesSo H.meaning limits.now (resume H.meaning limits.now self.old.left (frame.Commands rest levels ∷ self.old.stack) (reached_does H.meaning limits.now self.old.left reached (H.state host.old) variables.old self.old.fuel)) result self.new (H.state host.new) variables.new }
+    {
+        match reached {
+            Reached::Calls(words) => {
+                self.call_before(alloc, host, variables, rest, levels, words, limits)
             }
             reached => {
-                self.stack.push(Frame::Commands {
-                    rest,
-                    fault,
-                    levels,
-                })?;
+                self.wait_behind(rest, levels)?;
                 self.go_on(alloc, host, variables, reached, limits)
             }
         }
     }
 
-    /// Calls a command of the host, or a procedure, behind its step.
+    // Calls a command of the host, or a procedure, before what is left of its script. Where nothing is left, nothing waits.
+    fn call_before<H: Host>(
+        &mut self,
+        alloc: Global,
+        host: &mut H,
+        variables: &mut Vars,
+        rest: LeftScript,
+        levels: u32,
+        words: Given,
+        limits: &Limits,
+    ) -> Result<Now, Halt>
+        ensures same_place { H.place host.new ≡ H.place host.old }
+        ensures spends { self.new.fuel ≤ self.old.fuel }
+        ensures goes { GoesSo H.meaning limits.now (resume H.meaning limits.now self.old.left (frame.Commands rest levels ∷ self.old.stack) (called H.meaning limits.now (evaluate H.meaning limits.now self.old.left) (given_words words) (H.state host.old) variables.old self.old.fuel)) result self.new (H.state host.new) variables.new }
+    {
+        if rest.is_empty() {
+            return self.call(alloc, host, variables, words, levels, limits);
+        }
+        self.wait_behind(rest, levels)?;
+        let left = self.left;
+        self.call(alloc, host, variables, words, left, limits)
+    }
+
+    // Has what is left of a script wait. Where nothing is left of it and the frame on top goes on with no more scripts, that
+    // frame's own levels are enough.
+    fn wait_behind(&mut self, rest: LeftScript, levels: u32) -> Result<(), AllocError>
+        ensures ok { OnOk result (self.new ≡ record self.old { stack = waits_behind rest levels self.old.stack }) }
+        ensures err { OnErr result (self.new ≡ self.old) }
+    {
+        if rest.is_empty() {
+            if let Some(Frame::Procedure { .. } | Frame::Global { .. }) = self.stack.first() {
+                return Ok(());
+            }
+        }
+        self.stack.push(Frame::Commands { rest, levels })?;
+        Ok(())
+    }
+
+    /// Calls a command of the host, or a procedure, behind its step. Behind its end, so many scripts may be open.
     pub fn call<H: Host>(
         &mut self,
         alloc: Global,
         host: &mut H,
         variables: &mut Vars,
-        words: &[Txt],
+        words: Given,
+        levels: u32,
         limits: &Limits,
     ) -> Result<Now, Halt>
         ensures same_place { H.place host.new ≡ H.place host.old }
         ensures spends { self.new.fuel ≤ self.old.fuel }
-        ensures goes { GoesSo H.meaning limits.now (resume H.meaning limits.now self.old.left self.old.stack (called H.meaning limits.now (evaluate H.meaning limits.now self.old.left) words.now (H.state host.old) variables.old self.old.fuel)) result self.new (H.state host.new) variables.new }
+        ensures goes { GoesSo H.meaning limits.now (resume H.meaning limits.now levels self.old.stack (called H.meaning limits.now (evaluate H.meaning limits.now self.old.left) (given_words words) (H.state host.old) variables.old self.old.fuel)) result self.new (H.state host.new) variables.new }
     {
-        let Some((command, rest)) = words.split_first() else {
+        if words.as_slice().is_empty() {
+            self.left = levels;
             return Ok(Now::At(Ending::silent(alloc)));
-        };
-        match host.call(variables, words)? {
-            Some(plan) => self.run_plan(alloc, host, variables, plan, limits),
-            None => self.run_procedure(alloc, host, variables, command, rest, limits),
+        }
+        match host.call(variables, words.as_slice())? {
+            Some(plan) => self.run_plan(alloc, host, variables, plan, levels, limits),
+            None => {
+                let words = words.into_rest(alloc)?;
+                self.run_procedure(alloc, host, variables, words, levels, limits)
+            }
         }
     }
 
@@ -158,22 +227,27 @@ impl Machine {
         host: &H,
         variables: &mut Vars,
         control: Control,
-        command: &Txt,
-        words: &[Txt],
+        words: Given,
         limits: &Limits,
     ) -> Result<Now, Halt>
         ensures spends { self.new.fuel ≤ self.old.fuel }
-        ensures goes { GoesSo H.meaning limits.now (resume H.meaning limits.now self.old.left self.old.stack (control_does H.meaning limits.now (evaluate H.meaning limits.now self.old.left) (control_of control) command.now words.now (H.state host.now) variables.old self.old.fuel)) result self.new (H.state host.now) variables.new }
+        ensures goes { GoesSo H.meaning limits.now (resume H.meaning limits.now self.old.left self.old.stack (control_called H.meaning limits.now (evaluate H.meaning limits.now self.old.left) (control_of control) (given_words words) (H.state host.now) variables.old self.old.fuel)) result self.new (H.state host.now) variables.new }
     {
+        let Some((command, rest)) = words.as_slice().split_first() else {
+            return Ok(Now::At(Ending::silent(alloc)));
+        };
         match control {
-            Control::Catch => self.run_catch(alloc, host, variables, command, words, limits),
-            Control::Eval => self.run_eval(alloc, host, variables, words, limits),
-            Control::Expr => self.run_expr(alloc, host, variables, command, words, limits),
-            Control::For => self.run_for(alloc, host, variables, command, words, limits),
-            Control::Foreach => self.run_foreach(alloc, host, variables, command, words, limits),
-            Control::If => self.run_if(alloc, host, variables, command, words, limits),
-            Control::Proc => self.define(alloc, host, variables, command, words, limits),
-            Control::While => self.run_while(alloc, host, variables, command, words, limits),
+            Control::Catch => self.run_catch(alloc, host, variables, command, rest, limits),
+            Control::Eval => self.run_eval(alloc, host, variables, rest, limits),
+            Control::Expr => self.run_expr(alloc, host, variables, command, rest, limits),
+            Control::For => self.run_for(alloc, host, variables, command, rest, limits),
+            Control::Foreach => {
+                let words = words.into_rest(alloc)?;
+                self.run_foreach(alloc, host, variables, words, limits)
+            }
+            Control::If => self.run_if(alloc, host, variables, command, rest, limits),
+            Control::Proc => self.define(alloc, host, variables, command, rest, limits),
+            Control::While => self.run_while(alloc, host, variables, command, rest, limits),
         }
     }
 
@@ -248,14 +322,17 @@ impl Machine {
         alloc: Global,
         host: &H,
         variables: &mut Vars,
-        command: &Txt,
-        words: &[Txt],
+        words: Rest<Txt>,
         limits: &Limits,
     ) -> Result<Now, Halt>
         ensures spends { self.new.fuel ≤ self.old.fuel }
-        ensures goes { GoesSo H.meaning limits.now (resume H.meaning limits.now self.old.left self.old.stack (foreach_does limits.now (evaluate H.meaning limits.now self.old.left) command.now words.now (H.state host.now) variables.old self.old.fuel)) result self.new (H.state host.now) variables.new }
+        ensures goes { GoesSo H.meaning limits.now (resume H.meaning limits.now self.old.left self.old.stack (control_called H.meaning limits.now (evaluate H.meaning limits.now self.old.left) Foreach words (H.state host.now) variables.old self.old.fuel)) result self.new (H.state host.now) variables.new }
     {
-        let (name, body, elements) = foreach_form(alloc, self.table.lists(), command, words)?;
+        let mut words = words;
+        let Some(command) = words.next() else {
+            return Ok(Now::At(Ending::silent(alloc)));
+        };
+        let (name, body, elements) = foreach_form(alloc, self.table.lists(), &command, words)?;
         self.next_element(alloc, host, variables, name, body, elements, limits)
     }
 
@@ -295,6 +372,9 @@ impl Machine {
         ensures falls { Falls result 1 self.old self.new }
         ensures goes { GoesSo H.meaning limits.now (resume H.meaning limits.now self.old.left self.old.stack (each limits.now (evaluate H.meaning limits.now self.old.left) name body elements (H.state host.now) variables.old self.old.fuel)) result self.new (H.state host.now) variables.new }
     {
+        if elements.is_empty() {
+            return Ok(Now::At(Ending::silent(alloc)));
+        }
         let script = self.table.script(alloc, &body)?;
         let mut elements = elements;
         'element: loop {
@@ -358,23 +438,35 @@ impl Machine {
         Ok(Now::At(Ending::silent(alloc)))
     }
 
-    // Calls a procedure.
+    // Calls a procedure. Behind its end, so many scripts may be open.
     #[tactic(auto, using(crate::proofs::Halts::given_halts))]
     fn run_procedure<H: Host>(
         &mut self,
         alloc: Global,
         host: &H,
         variables: &mut Vars,
-        command: &Txt,
-        words: &[Txt],
+        words: Rest<Txt>,
+        levels: u32,
         limits: &Limits,
     ) -> Result<Now, Halt>
         ensures spends { self.new.fuel ≤ self.old.fuel }
-        ensures goes { GoesSo H.meaning limits.now (resume H.meaning limits.now self.old.left self.old.stack (procedure_does limits.now (evaluate H.meaning limits.now self.old.left) command.now words.now (map.get variables.old.procedures command.now) (H.state host.now) variables.old self.old.fuel)) result self.new (H.state host.now) variables.new }
+        ensures goes { GoesSo H.meaning limits.now (resume H.meaning limits.now levels self.old.stack (procedure_called H.meaning limits.now (evaluate H.meaning limits.now self.old.left) words (H.state host.now) variables.old self.old.fuel)) result self.new (H.state host.now) variables.new }
     {
-        let script = enter(alloc, &mut self.table, variables, command, words, limits)?;
-        self.stack.push(Frame::Procedure)?;
-        Ok(Now::Open(script))
+        let mut words = words;
+        let Some(command) = words.next() else {
+            self.left = levels;
+            return Ok(Now::At(Ending::silent(alloc)));
+        };
+        match enter(alloc, &mut self.table, variables, &command, words, limits) {
+            Ok(script) => {
+                self.stack.push(Frame::Procedure { levels })?;
+                Ok(Now::Open(script))
+            }
+            Err(why) => {
+                self.left = levels;
+                Err(Halt::from(why))
+            }
+        }
     }
 
     /// Ends a procedure, and its frame with it.
@@ -382,13 +474,15 @@ impl Machine {
         &mut self,
         host: &H,
         variables: &mut Vars,
+        levels: u32,
         end: Ending,
         limits: &Limits,
     ) -> Result<Now, Halt>
         ensures falls { Falls result 1 self.old self.new }
-        ensures goes { GoesSo H.meaning limits.now (resume H.meaning limits.now self.old.left (frame.Procedure ∷ self.old.stack) (End end.code end.text (H.state host.now) variables.old self.old.fuel)) result self.new (H.state host.now) variables.new }
+        ensures goes { GoesSo H.meaning limits.now (resume H.meaning limits.now self.old.left (frame.Procedure levels ∷ self.old.stack) (End end.code end.text (H.state host.now) variables.old self.old.fuel)) result self.new (H.state host.now) variables.new }
     {
         variables.pop_frame();
+        self.left = levels;
         match end.code {
             2 => Ok(Now::At(Ending {
                 code: 0,

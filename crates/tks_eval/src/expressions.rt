@@ -1,14 +1,15 @@
 ghost use Rattle.std.specs.Prelude.{◌≡◌, ◌≤◌, [], ◌∷◌, ◌+◌, Ok, Some, IfSome, option_copied};
 ghost use Rattle.tks_text.specs.Fault.{Gives};
 ghost use Rattle.tks_expr.specs.Reading.{expr_of};
-ghost use Rattle.tks_expr.specs.Tree.{Two};
+ghost use Rattle.tks_expr.specs.Tree.{Made, Two};
+ghost use Rattle.tks_parse.specs.Tree.{nested, no_part};
 ghost use Rattle.tks_eval.specs.Outcome.{End};
 ghost use Rattle.tks_eval.specs.Meets.{ReadsSo, StandsSo};
 ghost use Rattle.tks_eval.specs.Evaluation.{evaluate, value_does, expr_does, expression_does, result_told, with_value};
 ghost use Rattle.tks_eval.specs.Values.{signs_applied, truth_shown, join_on, links_do};
 ghost use Rattle.tks_eval.specs.Filling.{right_made, link_made, links_made, value_made, truth_made};
 ghost use Rattle.tks_tcl.specs.Meets.{GivesSo};
-ghost use Rattle.tks_eval.specs.Machine.{resume, value_weight, links_weight, value_frame_weight, GoesSo, Falls};
+ghost use Rattle.tks_eval.specs.Machine.{resume, value_weight, links_weight, value_frame_weight, frame_weight, GoesSo, Falls};
 ghost use Rattle.tks_expr.specs.declared.sign.Join.TheVariants as joins;
 ghost use Rattle.tks_eval.specs.declared.frame.Frame.TheVariants as frames;
 ghost use Rattle.tks_eval.specs.declared.expressions.ValueFrame.TheVariants as waits;
@@ -18,22 +19,22 @@ use crate::halt::{Halt, error_about};
 use crate::host::Host;
 use crate::machine::Machine;
 use crate::rest::Rest;
-use crate::words::{fill_up, stands};
+use crate::words::{fill_up, only_script, stands};
 use std::alloc::Global;
 use tks_expr::{
-    Binary, Expr, Join, Link, Node, Unary, apply, apply_unary, holds, result_of, share_links,
+    Binary, Expr, Join, Link, Node, Unary, apply, apply_unary, holds, into_result, share_links,
     truth_of,
 };
-use tks_parse::Part;
-use tks_tcl::{Interrupt, fits, joined_within};
+use tks_parse::{Part, Script};
+use tks_tcl::{Interrupt, Stop, fits, joined_within};
 use tks_text::{ErrorNumber, Failure, Limits, Txt};
 use tks_vars::Vars;
 
 /// What waits for the value of an operand.
 #[derive(Drop)]
 pub enum ValueFrame {
-    /// The links of a chain that are left, at the operand before them.
-    Links(Rest<Link>),
+    /// A link of a chain, at the operand before it; and the links behind it.
+    Link(Link, Rest<Link>),
     /// An operator with its left operand, at its right one; and the links behind it.
     Right(Binary, Txt, Rest<Link>),
     /// `&&` or `||`, at its right operand; and the links behind it.
@@ -66,6 +67,16 @@ fn truth_text(alloc: Global, text: &Txt) -> Result<Txt, Failure>
         Ok(Txt::from_text(alloc, b"1")?)
     } else {
         Ok(Txt::from_text(alloc, b"0")?)
+    }
+}
+
+// The script whose result an operand is.
+fn script_of(expr: &Expr) -> Option<&Script>
+    ensures { IfSome result (λ script. expr.now ≡ Made (nested script.now no_part)) }
+{
+    match expr.node() {
+        Node::Made(parts) => only_script(parts),
+        _ => None,
     }
 }
 
@@ -198,6 +209,27 @@ fn operation(
     }
 }
 
+// The text of an operator, where its operands stand.
+fn where_they_stand(
+    alloc: Global,
+    operator: Binary,
+    left: &Expr,
+    right: &Expr,
+    variables: &Vars,
+    limits: &Limits,
+) -> Result<Option<Txt>, Interrupt>
+    ensures { StandsSo (λ t. t) result (value_made limits.now variables.now (Two operator left.now right.now)) }
+{
+    let Some(left) = standing(left, variables, limits)? else {
+        return Ok(None);
+    };
+    let Some(right) = standing(right, variables, limits)? else {
+        return Ok(None);
+    };
+    let text = apply(alloc, operator, left, right)?;
+    Ok(Some(text))
+}
+
 // The text of a link of a chain, behind a left operand of this text.
 fn link_at_once(
     alloc: Global,
@@ -275,6 +307,11 @@ pub fn value_at_once(
 ) -> Result<Option<Txt>, Interrupt>
     ensures { StandsSo (λ t. t) result (value_made limits.now variables.now expr.now) }
 {
+    if let Some((operator, left, right)) = one_operator(expr) {
+        if let Some(text) = where_they_stand(alloc, operator, left, right, variables, limits)? {
+            return Ok(Some(text));
+        }
+    }
     match expr.node() {
         Node::Chain(first, link, links) => {
             let Some(front) = front_at_once(alloc, first, link, variables, limits)? else {
@@ -370,7 +407,7 @@ impl Machine {
     {
         let expr = self.table.expr(alloc, text)?;
         if let Some(value) = value_at_once(alloc, &expr, variables, limits)? {
-            let text = result_of(alloc, &value)?;
+            let text = into_result(alloc, value)?;
             return Ok(Now::At(Ending { code: 0, text }));
         }
         self.stack.push(Frame::Value(ValueFrame::Whole))?;
@@ -417,14 +454,13 @@ impl Machine {
                 Ok(Now::Value(operand))
             }
             Node::Chain(first, link, links) => {
-                let mut behind = Rest::of(share_links(alloc, links.as_slice())?);
+                let behind = Rest::of(share_links(alloc, links.as_slice())?);
                 let link = link.share()?;
                 if let Some(text) = operand(alloc, first, variables, limits)? {
                     return self.join(alloc, host, variables, link, behind, text, limits);
                 }
-                behind.push(link)?;
-                self.stack.push(Frame::Value(ValueFrame::Links(behind)))?;
-                self.open_operand(alloc, host, variables, first, limits)
+                let frame = ValueFrame::Link(link, behind);
+                self.wait_for(alloc, host, variables, frame, first, limits)
             }
             Node::Conditional(condition, if_true, if_false) => {
                 let condition = condition.share()?;
@@ -435,6 +471,47 @@ impl Machine {
                 Ok(Now::Value(condition))
             }
         }
+    }
+
+    // Goes on with the value of an operand, for which this waits.
+    fn wait_for<H: Host>(
+        &mut self,
+        alloc: Global,
+        host: &H,
+        variables: &Vars,
+        frame: ValueFrame,
+        expr: &Expr,
+        limits: &Limits,
+    ) -> Result<Now, Halt>
+        ensures falls { Falls result (value_frame_weight frame + value_weight expr.now + 1) self.old self.new }
+        ensures goes { GoesSo H.meaning limits.now (resume H.meaning limits.now self.old.left (frames.Value frame ∷ self.old.stack) (value_does limits.now (evaluate H.meaning limits.now self.old.left) expr.now (H.state host.now) variables.now self.old.fuel)) result self.new (H.state host.now) variables.now }
+    {
+        if let Some(script) = script_of(expr) {
+            let script = script.share()?;
+            self.stack.push(Frame::Made(frame))?;
+            return Ok(Now::Open(script));
+        }
+        self.stack.push(Frame::Value(frame))?;
+        self.open_operand(alloc, host, variables, expr, limits)
+    }
+
+    /// Goes on with an expression behind an operand that is the result of a script.
+    pub fn after_made<H: Host>(
+        &mut self,
+        alloc: Global,
+        host: &H,
+        variables: &Vars,
+        frame: ValueFrame,
+        end: Ending,
+        limits: &Limits,
+    ) -> Result<Now, Halt>
+        ensures falls { Falls result (frame_weight (frames.Made frame)) self.old self.new }
+        ensures goes { GoesSo H.meaning limits.now (resume H.meaning limits.now self.old.left (frames.Made frame ∷ self.old.stack) (End end.code end.text (H.state host.now) variables.now self.old.fuel)) result self.new (H.state host.now) variables.now }
+    {
+        if end.code == 0 && !fits(&end.text, limits) {
+            return Err(Halt::Stop(Stop::TooLarge));
+        }
+        self.after_value(alloc, host, variables, frame, end, limits)
     }
 
     // Goes on with the value of an operand. What scripts and variables make is begun at once.
@@ -477,7 +554,9 @@ impl Machine {
         }
         let text = end.text;
         match frame {
-            ValueFrame::Links(links) => self.next_link(alloc, host, variables, links, text, limits),
+            ValueFrame::Link(link, links) => {
+                self.join(alloc, host, variables, link, links, text, limits)
+            }
             ValueFrame::Right(operator, left, links) => {
                 let text = apply(alloc, operator, &left, &text)?;
                 self.before_links(host, variables, links, text, limits)
@@ -498,7 +577,7 @@ impl Machine {
                 }
             }
             ValueFrame::Whole => {
-                let text = result_of(alloc, &text)?;
+                let text = into_result(alloc, text)?;
                 Ok(Now::At(Ending { code: 0, text }))
             }
         }
@@ -516,30 +595,12 @@ impl Machine {
         ensures falls { Falls result (links_weight links + 1) self.old self.new }
         ensures goes { GoesSo H.meaning limits.now (resume H.meaning limits.now self.old.left self.old.stack (links_do limits.now (evaluate H.meaning limits.now self.old.left) links (End 0 text (H.state host.now) variables.now self.old.fuel))) result self.new (H.state host.now) variables.now }
     {
-        if !links.is_empty() {
-            self.stack.push(Frame::Value(ValueFrame::Links(links)))?;
+        let mut links = links;
+        if let Some(link) = links.next() {
+            self.stack
+                .push(Frame::Value(ValueFrame::Link(link, links)))?;
         }
         Ok(Now::At(Ending { code: 0, text }))
-    }
-
-    // Goes on with the links of a chain, behind an operand that came to this text.
-    fn next_link<H: Host>(
-        &mut self,
-        alloc: Global,
-        host: &H,
-        variables: &Vars,
-        links: Rest<Link>,
-        text: Txt,
-        limits: &Limits,
-    ) -> Result<Now, Halt>
-        ensures falls { Falls result (links_weight links) self.old self.new }
-        ensures goes { GoesSo H.meaning limits.now (resume H.meaning limits.now self.old.left self.old.stack (links_do limits.now (evaluate H.meaning limits.now self.old.left) links (End 0 text (H.state host.now) variables.now self.old.fuel))) result self.new (H.state host.now) variables.now }
-    {
-        let mut links = links;
-        let Some(link) = links.next() else {
-            return Ok(Now::At(Ending { code: 0, text }));
-        };
-        self.join(alloc, host, variables, link, links, text, limits)
     }
 
     // Goes on with a link, whose left operand came to this text.
@@ -583,9 +644,8 @@ impl Machine {
         ensures goes { GoesSo H.meaning limits.now (resume H.meaning limits.now self.old.left self.old.stack (links_do limits.now (evaluate H.meaning limits.now self.old.left) links (join_on limits.now (evaluate H.meaning limits.now self.old.left) (joins.Of operator) right text (H.state host.now) variables.now self.old.fuel))) result self.new (H.state host.now) variables.now }
     {
         let Some(value) = operand(alloc, &right, variables, limits)? else {
-            self.stack
-                .push(Frame::Value(ValueFrame::Right(operator, text, links)))?;
-            return self.open_operand(alloc, host, variables, &right, limits);
+            let frame = ValueFrame::Right(operator, text, links);
+            return self.wait_for(alloc, host, variables, frame, &right, limits);
         };
         let text = apply(alloc, operator, &text, &value)?;
         self.before_links(host, variables, links, text, limits)
@@ -610,11 +670,8 @@ impl Machine {
             self.stack.push(Frame::Value(ValueFrame::Truth(links)))?;
             return Ok(Now::Value(right));
         }
-        self.stack.push(Frame::Value(ValueFrame::Links(links)))?;
-        Ok(Now::At(Ending {
-            code: 0,
-            text: Txt::from_text(alloc, b"0")?,
-        }))
+        let text = Txt::from_text(alloc, b"0")?;
+        self.before_links(host, variables, links, text, limits)
     }
 
     // Goes on with `||`, whose left operand came to this text.
@@ -633,11 +690,8 @@ impl Machine {
         ensures goes { GoesSo H.meaning limits.now (resume H.meaning limits.now self.old.left self.old.stack (links_do limits.now (evaluate H.meaning limits.now self.old.left) links (join_on limits.now (evaluate H.meaning limits.now self.old.left) joins.Or right text (H.state host.now) variables.now self.old.fuel))) result self.new (H.state host.now) variables.now }
     {
         if truth_of(&text)? {
-            self.stack.push(Frame::Value(ValueFrame::Links(links)))?;
-            return Ok(Now::At(Ending {
-                code: 0,
-                text: Txt::from_text(alloc, b"1")?,
-            }));
+            let text = Txt::from_text(alloc, b"1")?;
+            return self.before_links(host, variables, links, text, limits);
         }
         self.stack.push(Frame::Value(ValueFrame::Truth(links)))?;
         Ok(Now::Value(right))

@@ -6,8 +6,8 @@ use crate::loops::{Loop, Stage};
 use crate::rest::Rest;
 use std::alloc::Global;
 use tks_expr::Expr;
-use tks_parse::{Command, Left, Part, Script, Word};
-use tks_text::{ScriptFault, Seq, Txt};
+use tks_parse::{Left, LeftScript, Part, Script, Word};
+use tks_text::{Seq, Txt};
 
 /// How a script, a command or a word ended: its code, and its result or its error's text.
 #[derive(Drop)]
@@ -31,10 +31,9 @@ impl Ending {
 /// What waits for an end.
 #[derive(Drop)]
 pub enum Frame {
-    /// The commands that are left of a script, which was opened where so many might be open.
+    /// What is left of a script, which was opened where so many might be open.
     Commands {
-        rest: Left<Command>,
-        fault: Option<ScriptFault>,
+        rest: LeftScript,
         levels: u32,
     },
     /// A command, whose next word is being made.
@@ -66,6 +65,8 @@ pub enum Frame {
     },
     /// An expression, at an operand.
     Value(ValueFrame),
+    /// An expression, at an operand that is the result of a script.
+    Made(ValueFrame),
     /// `if`, at a condition, with its body and the branches behind it.
     Branch {
         body: Txt,
@@ -73,14 +74,19 @@ pub enum Frame {
     },
     /// `while` or `for`.
     Turns(Stage, Loop),
-    /// A procedure.
-    Procedure,
-    /// A script at global level.
-    Global,
-    /// One of the scripts of an event in a window, with those behind it.
+    /// A procedure, which was called where so many scripts might be open.
+    Procedure {
+        levels: u32,
+    },
+    /// A script at global level, the same.
+    Global {
+        levels: u32,
+    },
+    /// One of the scripts of an event in a window, with those behind it, the same.
     Scripts {
         window: u64,
         scripts: Rest<Txt>,
+        levels: u32,
     },
 }
 
@@ -89,8 +95,8 @@ pub enum Frame {
 pub enum Now {
     /// A script to open.
     Open(Script),
-    /// A word, or an index, to go on with.
-    Fill { made: Txt, parts: Left<Part> },
+    /// An index to make.
+    Index(Left<Part>),
     /// An expression, to be evaluated.
     Value(Expr),
     /// An end, for the frame on top.

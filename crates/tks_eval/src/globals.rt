@@ -13,21 +13,22 @@ use tks_text::{Limits, Txt};
 use tks_vars::Vars;
 
 impl Machine {
-    /// Runs a script with the globals as the present frame.
+    /// Runs a script with the globals as the present frame. Behind it, so many scripts may be open.
     pub fn run_global<H: Host>(
         &mut self,
         alloc: Global,
         host: &H,
         variables: &mut Vars,
         script: Txt,
+        levels: u32,
         limits: &Limits,
     ) -> Result<Now, Halt>
         ensures spends { self.new.fuel ≤ self.old.fuel }
-        ensures goes { GoesSo H.meaning limits.now (resume H.meaning limits.now self.old.left self.old.stack (global_does (evaluate H.meaning limits.now self.old.left) script (H.state host.now) variables.old self.old.fuel)) result self.new (H.state host.now) variables.new }
+        ensures goes { GoesSo H.meaning limits.now (resume H.meaning limits.now levels self.old.stack (global_does (evaluate H.meaning limits.now self.old.left) script (H.state host.now) variables.old self.old.fuel)) result self.new (H.state host.now) variables.new }
     {
         variables.push_global()?;
         let script = self.table.script(alloc, &script)?;
-        self.stack.push(Frame::Global)?;
+        self.stack.push(Frame::Global { levels })?;
         Ok(Now::Open(script))
     }
 
@@ -36,13 +37,15 @@ impl Machine {
         &mut self,
         host: &H,
         variables: &mut Vars,
+        levels: u32,
         end: Ending,
         limits: &Limits,
     ) -> Result<Now, Halt>
         ensures falls { Falls result 1 self.old self.new }
-        ensures goes { GoesSo H.meaning limits.now (resume H.meaning limits.now self.old.left (frame.Global ∷ self.old.stack) (End end.code end.text (H.state host.now) variables.old self.old.fuel)) result self.new (H.state host.now) variables.new }
+        ensures goes { GoesSo H.meaning limits.now (resume H.meaning limits.now self.old.left (frame.Global levels ∷ self.old.stack) (End end.code end.text (H.state host.now) variables.old self.old.fuel)) result self.new (H.state host.now) variables.new }
     {
         variables.pop_frame();
+        self.left = levels;
         match end.code {
             2 => Ok(Now::At(Ending {
                 code: 0,

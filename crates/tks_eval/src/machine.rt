@@ -57,7 +57,7 @@ pub fn eval_plan<H: Host>(
     ensures ends { EndsSo (plan_does H.meaning (evaluate H.meaning limits.now limits.now.depth) plan (H.state host.old) variables.old limits.now.fuel) result (H.state host.new) variables.new }
 {
     let mut machine = Machine::at_rest(alloc, limits);
-    match machine.run_plan(alloc, host, variables, plan, limits) {
+    match machine.run_plan(alloc, host, variables, plan, limits.depth, limits) {
         Ok(now) => {
             let ended = machine.run(alloc, host, variables, now, limits)?;
             Ok(ended)
@@ -132,8 +132,8 @@ impl Machine {
                     },
                     Now::Open(script) => machine.open(alloc, host, variables, script, limits),
                     Now::Value(expr) => machine.open_value(alloc, host, variables, expr, limits),
-                    Now::Fill { made, parts } => {
-                        machine.fill(alloc, host, variables, made, parts, limits)
+                    Now::Index(parts) => {
+                        machine.fill(alloc, host, variables, Txt::new(alloc), parts, limits)
                     }
                 };
                 now = match next {
@@ -191,10 +191,15 @@ impl Machine {
             return Err(Halt::Stop(Stop::Depth));
         }
         self.left -= 1;
-        let (commands, fault) = script.into_contents();
         let begun = Ending::silent(alloc);
         self.after_command(
-            alloc, host, variables, commands, fault, levels, begun, limits,
+            alloc,
+            host,
+            variables,
+            script.into_left(),
+            levels,
+            begun,
+            limits,
         )
     }
 
@@ -213,11 +218,9 @@ impl Machine {
         ensures goes { GoesSo H.meaning limits.now (resume H.meaning limits.now self.old.left (frame ∷ self.old.stack) (End end.code end.text (H.state host.old) variables.old self.old.fuel)) result self.new (H.state host.new) variables.new }
     {
         match frame {
-            Frame::Commands {
-                rest,
-                fault,
-                levels,
-            } => self.after_command(alloc, host, variables, rest, fault, levels, end, limits),
+            Frame::Commands { rest, levels } => {
+                self.after_command(alloc, host, variables, rest, levels, end, limits)
+            }
             Frame::Command {
                 words,
                 expand,
@@ -236,17 +239,22 @@ impl Machine {
                 elements,
             } => self.after_element(alloc, host, variables, name, body, elements, end, limits),
             Frame::Value(frame) => self.after_value(alloc, host, variables, frame, end, limits),
+            Frame::Made(frame) => self.after_made(alloc, host, variables, frame, end, limits),
             Frame::Branch { body, rest } => {
                 self.after_branch(alloc, host, variables, body, rest, end, limits)
             }
             Frame::Turns(stage, turns) => {
                 self.after_stage(alloc, host, variables, stage, turns, end, limits)
             }
-            Frame::Procedure => self.after_procedure(host, variables, end, limits),
-            Frame::Global => self.after_global(host, variables, end, limits),
-            Frame::Scripts { window, scripts } => {
-                self.after_script(alloc, host, variables, window, scripts, end, limits)
+            Frame::Procedure { levels } => {
+                self.after_procedure(host, variables, levels, end, limits)
             }
+            Frame::Global { levels } => self.after_global(host, variables, levels, end, limits),
+            Frame::Scripts {
+                window,
+                scripts,
+                levels,
+            } => self.after_script(alloc, host, variables, window, scripts, levels, end, limits),
         }
     }
 }

@@ -15,24 +15,28 @@ use tks_text::{Limits, Txt};
 use tks_vars::Vars;
 
 impl Machine {
-    /// Does what a plan says.
+    /// Does what a plan says. Behind that, so many scripts may be open.
     pub fn run_plan<H: Host>(
         &mut self,
         alloc: Global,
         host: &H,
         variables: &mut Vars,
         plan: Plan,
+        levels: u32,
         limits: &Limits,
     ) -> Result<Now, Halt>
         ensures spends { self.new.fuel ≤ self.old.fuel }
-        ensures goes { GoesSo H.meaning limits.now (resume H.meaning limits.now self.old.left self.old.stack (plan_does H.meaning (evaluate H.meaning limits.now self.old.left) plan (H.state host.now) variables.old self.old.fuel)) result self.new (H.state host.now) variables.new }
+        ensures goes { GoesSo H.meaning limits.now (resume H.meaning limits.now levels self.old.stack (plan_does H.meaning (evaluate H.meaning limits.now self.old.left) plan (H.state host.now) variables.old self.old.fuel)) result self.new (H.state host.now) variables.new }
     {
         match plan {
-            Plan::Answer(code, text) => Ok(Now::At(Ending { code, text })),
-            Plan::Eval(script) => self.run_global(alloc, host, variables, script, limits),
+            Plan::Answer(code, text) => {
+                self.left = levels;
+                Ok(Now::At(Ending { code, text }))
+            }
+            Plan::Eval(script) => self.run_global(alloc, host, variables, script, levels, limits),
             Plan::Dispatch(window, scripts) => {
                 let scripts = Rest::of(scripts.into_items());
-                self.next_script(alloc, host, variables, window, scripts, limits)
+                self.next_script(alloc, host, variables, window, scripts, levels, limits)
             }
         }
     }
@@ -46,22 +50,29 @@ impl Machine {
         variables: &mut Vars,
         window: u64,
         scripts: Rest<Txt>,
+        levels: u32,
         limits: &Limits,
     ) -> Result<Now, Halt>
         ensures falls { Falls result 1 self.old self.new }
-        ensures goes { GoesSo H.meaning limits.now (resume H.meaning limits.now self.old.left self.old.stack (scripts_do H.meaning (evaluate H.meaning limits.now self.old.left) window scripts (H.state host.now) variables.old self.old.fuel)) result self.new (H.state host.now) variables.new }
+        ensures goes { GoesSo H.meaning limits.now (resume H.meaning limits.now levels self.old.stack (scripts_do H.meaning (evaluate H.meaning limits.now self.old.left) window scripts (H.state host.now) variables.old self.old.fuel)) result self.new (H.state host.now) variables.new }
     {
         let mut scripts = scripts;
         let Some(script) = scripts.next() else {
+            self.left = levels;
             return Ok(Now::At(Ending::silent(alloc)));
         };
         if !host.alive(window) {
+            self.left = levels;
             return Ok(Now::At(Ending::silent(alloc)));
         }
         self.take_step()?;
         variables.push_global()?;
         let script = self.table.script(alloc, &script)?;
-        self.stack.push(Frame::Scripts { window, scripts })?;
+        self.stack.push(Frame::Scripts {
+            window,
+            scripts,
+            levels,
+        })?;
         Ok(Now::Open(script))
     }
 
@@ -73,21 +84,26 @@ impl Machine {
         variables: &mut Vars,
         window: u64,
         scripts: Rest<Txt>,
+        levels: u32,
         end: Ending,
         limits: &Limits,
     ) -> Result<Now, Halt>
         ensures same_place { H.place host.new ≡ H.place host.old }
         ensures falls { Falls result 1 self.old self.new }
-        ensures goes { GoesSo H.meaning limits.now (resume H.meaning limits.now self.old.left (frame.Scripts window scripts ∷ self.old.stack) (End end.code end.text (H.state host.old) variables.old self.old.fuel)) result self.new (H.state host.new) variables.new }
+        ensures goes { GoesSo H.meaning limits.now (resume H.meaning limits.now self.old.left (frame.Scripts window scripts levels ∷ self.old.stack) (End end.code end.text (H.state host.old) variables.old self.old.fuel)) result self.new (H.state host.new) variables.new }
     {
         variables.pop_frame();
         match end.code {
             1 => {
                 host.fault(&end.text)?;
+                self.left = levels;
                 Ok(Now::At(Ending::silent(alloc)))
             }
-            3 => Ok(Now::At(Ending::silent(alloc))),
-            _ => self.next_script(alloc, host, variables, window, scripts, limits),
+            3 => {
+                self.left = levels;
+                Ok(Now::At(Ending::silent(alloc)))
+            }
+            _ => self.next_script(alloc, host, variables, window, scripts, levels, limits),
         }
     }
 }

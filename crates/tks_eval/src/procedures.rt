@@ -6,6 +6,7 @@ ghost use Rattle.tks_tcl.specs.Meets.{GivesSo};
 ghost use Rattle.tks_eval.specs.Procedures.{parameter_named, parameter, parameters_in, argument_for, takes_rest, arguments, with_arguments, entered, script_in, defined, is_taken, proc_form};
 
 use crate::host::Host;
+use crate::rest::Rest;
 use crate::table::ParseTable;
 use std::alloc::{AllocError, Global};
 use tks_list::join;
@@ -78,29 +79,27 @@ fn takes_rest(parameter: &Parameter, behind: &[Parameter]) -> bool
 fn arguments(
     alloc: Global,
     parameters: &[Parameter],
-    words: &[Txt],
+    words: Rest<Txt>,
 ) -> Result<Option<Seq<Argument>>, AllocError>
-    ensures { IfOk result (λ given. given ≡ arguments [] parameters.now words.now) }
+    ensures { IfOk result (λ given. given ≡ arguments [] parameters.now words) }
 {
     let mut given = Seq::new(alloc);
     let mut parameters = parameters;
     let mut words = words;
     while let Some((parameter, behind)) = parameters.split_first() {
         if takes_rest(parameter, behind) {
-            given.push(argument_for(parameter, join(alloc, words)?)?)?;
+            let rest = join(alloc, words.into_items().as_slice())?;
+            given.push(argument_for(parameter, rest)?)?;
             return Ok(Some(given));
         }
-        let value = match words.split_first() {
-            Some((word, more)) => {
-                words = more;
-                word
-            }
+        let value = match words.next() {
+            Some(word) => word,
             None => match &parameter.default {
-                Some(default) => default,
+                Some(default) => default.try_clone()?,
                 None => return Ok(None),
             },
         };
-        given.push(argument_for(parameter, value.try_clone()?)?)?;
+        given.push(argument_for(parameter, value)?)?;
         parameters = behind;
     }
     if words.is_empty() {
@@ -147,11 +146,11 @@ pub fn enter(
     table: &mut ParseTable,
     variables: &mut Vars,
     command: &Txt,
-    words: &[Txt],
+    words: Rest<Txt>,
     limits: &Limits,
 ) -> Result<Script, Interrupt>
     ensures err { OnErr result (variables.new ≡ variables.old) }
-    ensures value { GivesSo (λ script. (script, variables.new)) result (after (entered limits.now command.now words.now variables.old (map.get variables.old.procedures command.now)) (λ x. Ok (script_in x))) }
+    ensures value { GivesSo (λ script. (script, variables.new)) result (after (entered limits.now command.now words variables.old (map.get variables.old.procedures command.now)) (λ x. Ok (script_in x))) }
 {
     let Some(procedure) = variables.procedure(command) else {
         return Err(error_about(ErrorNumber::NoSuchCommand, command));

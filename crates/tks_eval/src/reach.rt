@@ -1,26 +1,28 @@
 //! How far commands come at once: without a frame, and without a script being opened.
-ghost use Rattle.std.specs.Prelude.{◌≡◌, ◌≤◌, suc, [], IfSome, IfNone, Ok, option_copied};
-ghost use Rattle.tks_parse.specs.Tree.{words_size};
-ghost use Rattle.tks_parse.specs.View.{words_of, words_of_command};
+ghost use Rattle.std.specs.Prelude.{◌≡◌, ◌≤◌, suc, false, [], IfOk, IfSome, IfNone, Ok, option_copied};
+ghost use Rattle.tks_parse.specs.Tree.{Script, nested, no_part, words_size};
+ghost use Rattle.tks_parse.specs.View.{parts_of, words_of, words_of_command};
 ghost use Rattle.tks_eval.specs.Outcome.{End};
-ghost use Rattle.tks_eval.specs.Evaluation.{evaluate, call, words_do, if_does, control_does, script_does};
-ghost use Rattle.tks_eval.specs.Machine.{resume, control_of, given_words, reached_does, waiting_weight, ReachesSo, ReachFalls, GoesOn, GoesSo, Falls};
+ghost use Rattle.tks_eval.specs.Evaluation.{evaluate, call, words_do, if_does, expr_does, expression_does, result_told, control_does, script_does};
+ghost use Rattle.tks_eval.specs.Machine.{resume, control_of, given_words, reached_does, waiting_does, waiting_weight, ReachesSo, ReachFalls, WaitsAt, GoesOn, GoesSo, Falls};
 ghost use Rattle.tks_eval.specs.declared.reach.Reached.TheVariants as reached;
 
-use crate::at_once::answer_at_once;
+use crate::at_once::{answer_at_once, lent};
 use crate::branches::one_test;
 use crate::commands::all_fit;
 use crate::control::Control;
-use crate::expressions::holds_at_once;
+use crate::expressions::{ValueFrame, holds_at_once, value_at_once};
 use crate::frame::{Ending, Frame, Now};
 use crate::halt::Halt;
 use crate::host::Host;
 use crate::machine::Machine;
-use crate::words::{Filled, Inner, add_words};
-use std::alloc::Global;
+use crate::rest::Rest;
+use crate::words::{Filled, Inner, add_words, fill_up, only_script};
+use std::alloc::{AllocError, Global};
 use std::rc::Rc;
+use tks_expr::{Expr, into_result};
 use tks_parse::{Command, Left, Part, Script, Word};
-use tks_tcl::{Stop, plain};
+use tks_tcl::{Stop, fits, plain};
 use tks_text::{Limits, Seq, Txt};
 use tks_vars::Vars;
 
@@ -34,8 +36,8 @@ pub enum Given {
 }
 
 impl Given {
-    // The words.
-    fn as_slice(&self) -> &[Txt]
+    /// The words.
+    pub fn as_slice(&self) -> &[Txt]
         ensures { result.now ≡ given_words self.now }
     {
         match self {
@@ -43,6 +45,27 @@ impl Given {
             Given::Made(words) => words.as_slice(),
         }
     }
+
+    /// The words, to be taken. Those that lie in the tree are copied.
+    pub fn into_rest(self, alloc: Global) -> Result<Rest<Txt>, AllocError>
+        ensures { IfOk result (λ words. words ≡ given_words self) }
+    {
+        match self {
+            Given::Ready(words) => Ok(Rest::of(copies(alloc, words.as_ref().as_slice())?)),
+            Given::Made(words) => Ok(Rest::of(words.into_items())),
+        }
+    }
+}
+
+// Equal texts.
+fn copies(alloc: Global, texts: &[Txt]) -> Result<Vec<Txt>, AllocError>
+    ensures { IfOk result (λ copies. copies.items ≡ texts.now) }
+{
+    let mut copies = Vec::with_capacity(alloc, texts.len())?;
+    for text in texts {
+        copies.push(text.try_clone()?)?;
+    }
+    Ok(copies)
 }
 
 /// A command, one of whose words waits for what has to be opened.
@@ -58,7 +81,7 @@ pub struct Waiting {
     pub parts: Left<Part>,
 }
 
-/// How far a command came.
+/// How far a command came. It is handed on at each command, so it is small.
 #[derive(Drop)]
 pub enum Reached {
     /// It ended.
@@ -67,10 +90,64 @@ pub enum Reached {
     Opens(Script),
     /// Its step is taken, and it is one that runs scripts.
     Runs(Control, Given),
+    /// Its step is taken, and it is an `expr` of this expression.
+    Counts(Expr),
     /// Its step is taken, and it is the host's or a procedure.
     Calls(Given),
     /// One of its words waits.
-    Waits(Waiting),
+    Waits(Box<Waiting>),
+}
+
+// A command that waits, behind a pointer.
+fn boxed(alloc: Global, waiting: Waiting) -> Result<Box<Waiting>, AllocError>
+    ensures { IfOk result (λ b. b.value ≡ waiting) }
+{
+    match Box::new(alloc, waiting) {
+        Ok(waiting) => Ok(waiting),
+        Err(_) => Err(AllocError),
+    }
+}
+
+// The script whose result a word is.
+fn result_alone(word: &Word) -> Option<&Script>
+    ensures { IfSome result (λ script. (word.now.expand ≡ false) × (word.now.parts ≡ nested script.now no_part)) }
+{
+    if word.expand {
+        return None;
+    }
+    only_script(&word.parts)
+}
+
+// A command, at a word that waits for what stands first in it.
+fn waits_at(
+    alloc: Global,
+    words: Seq<Txt>,
+    rest: Left<Word>,
+    parts: Left<Part>,
+    variables: &Vars,
+    limits: &Limits,
+) -> Result<Reached, Halt>
+    ensures { (script : Script) → parts_of parts ≡ nested script no_part → WaitsAt words rest script result }
+{
+    let mut made = Txt::new(alloc);
+    let mut parts = parts;
+    match fill_up(&mut made, &mut parts, variables, limits)? {
+        Some(inner) => {
+            let waiting = Waiting {
+                words,
+                expand: false,
+                rest,
+                made,
+                inner,
+                parts,
+            };
+            Ok(Reached::Waits(boxed(alloc, waiting)?))
+        }
+        None => Ok(Reached::Ended(Ending {
+            code: 0,
+            text: made,
+        })),
+    }
 }
 
 impl Machine {
@@ -106,7 +183,7 @@ impl Machine {
         }
     }
 
-    // The end of a command that reads a variable's list, with its step.
+    // The end of a command of words that are lent, with its step.
     fn answer<H: Host>(
         &mut self,
         alloc: Global,
@@ -124,9 +201,9 @@ impl Machine {
         if self.fuel == 0 {
             return None;
         }
-        let text = answer_at_once(alloc, words, variables, limits)?;
+        let end = answer_at_once(alloc, words, variables, limits)?;
         self.fuel -= 1;
-        Some(Ending { code: 0, text })
+        Some(end)
     }
 
     /// Makes the words that are left of a command, and calls it, as far as that goes at once.
@@ -146,6 +223,24 @@ impl Machine {
         let mut words = words;
         let mut rest = rest;
         'word: while let Some(word) = rest.first() {
+            if let Some(text) = lent(word, variables, limits) {
+                words.push(text.try_clone()?)?;
+                rest.skip();
+                continue 'word;
+            }
+            if let Some(script) = result_alone(word) {
+                let Some(told) = self.result_at_once(alloc, host, variables, script, limits)? else {
+                    let whole = word.parts.left()?;
+                    rest.skip();
+                    return waits_at(alloc, words, rest, whole, variables, limits);
+                };
+                if told.code != 0 {
+                    return Ok(Reached::Ended(told));
+                }
+                words.push(told.text)?;
+                rest.skip();
+                continue 'word;
+            }
             let expand = word.expand;
             let parts = word.parts.left()?;
             rest.skip();
@@ -157,14 +252,15 @@ impl Machine {
                     add_words(alloc, &mut words, expand, end.text)?;
                 }
                 Filled::Waits(made, inner, parts) => {
-                    return Ok(Reached::Waits(Waiting {
+                    let waiting = Waiting {
                         words,
                         expand,
                         rest,
                         made,
                         inner,
                         parts,
-                    }));
+                    };
+                    return Ok(Reached::Waits(boxed(alloc, waiting)?));
                 }
             }
         }
@@ -221,12 +317,57 @@ impl Machine {
         ensures some { IfSome result (λ reached. control_does H.meaning limits.now (evaluate H.meaning limits.now self.old.left) (control_of control) command.now words.now (H.state host.now) variables.old self.old.fuel ≡ reached_does H.meaning limits.now self.old.left reached (H.state host.now) variables.new self.new.fuel) }
     {
         match control {
-            Control::Expr => {
-                let end = self.expr_at_once(alloc, host, variables, command, words, limits)?;
-                Some(Reached::Ended(end))
-            }
+            Control::Expr => self.reach_expr(alloc, host, variables, command, words, limits),
             Control::If => self.if_at_once(alloc, host, variables, command, words, limits),
             _ => None,
+        }
+    }
+
+    /// An `expr` of one word: its end, where its value is made at once, or else the expression.
+    pub fn reach_expr<H: Host>(
+        &mut self,
+        alloc: Global,
+        host: &H,
+        variables: &Vars,
+        command: &Txt,
+        words: &[Txt],
+        limits: &Limits,
+    ) -> Option<Reached>
+        ensures kept { self.new ≡ self.old }
+        ensures short { IfSome result (λ reached. ReachFalls (Ok reached) 0 (suc self.old.fuel) self.new.fuel) }
+        ensures some { IfSome result (λ reached. expr_does limits.now (evaluate H.meaning limits.now self.old.left) command.now words.now (H.state host.now) variables.now self.old.fuel ≡ reached_does H.meaning limits.now self.old.left reached (H.state host.now) variables.now self.new.fuel) }
+    {
+        match words {
+            [word] if fits(word, limits) => {
+                self.reach_expression(alloc, host, variables, word, limits)
+            }
+            _ => None,
+        }
+    }
+
+    // The same of the expression that a text spells.
+    fn reach_expression<H: Host>(
+        &mut self,
+        alloc: Global,
+        host: &H,
+        variables: &Vars,
+        text: &Txt,
+        limits: &Limits,
+    ) -> Option<Reached>
+        ensures kept { self.new ≡ self.old }
+        ensures short { IfSome result (λ reached. ReachFalls (Ok reached) 0 (suc self.old.fuel) self.new.fuel) }
+        ensures some { IfSome result (λ reached. result_told limits.now (expression_does limits.now (evaluate H.meaning limits.now self.old.left) text.now (H.state host.now) variables.now self.old.fuel) ≡ reached_does H.meaning limits.now self.old.left reached (H.state host.now) variables.now self.new.fuel) }
+    {
+        let Ok(expr) = self.table.expr(alloc, text) else {
+            return None;
+        };
+        match value_at_once(alloc, &expr, variables, limits) {
+            Ok(Some(value)) => match into_result(alloc, value) {
+                Ok(text) => Some(Reached::Ended(Ending { code: 0, text })),
+                Err(_) => None,
+            },
+            Ok(None) => Some(Reached::Counts(expr)),
+            Err(_) => None,
         }
     }
 
@@ -311,13 +452,19 @@ impl Machine {
             Reached::Ended(end) => Ok(Now::At(end)),
             Reached::Opens(script) => Ok(Now::Open(script)),
             Reached::Runs(control, words) => {
-                let Some((command, rest)) = words.as_slice().split_first() else {
-                    return Ok(Now::At(Ending::silent(alloc)));
-                };
-                self.run_control(alloc, host, variables, control, command, rest, limits)
+                self.run_control(alloc, host, variables, control, words, limits)
             }
-            Reached::Calls(words) => self.call(alloc, host, variables, words.as_slice(), limits),
-            Reached::Waits(waiting) => self.wait(alloc, host, variables, waiting, limits),
+            Reached::Counts(expr) => {
+                self.stack.push(Frame::Value(ValueFrame::Whole))?;
+                self.open_value(alloc, host, variables, expr, limits)
+            }
+            Reached::Calls(words) => {
+                let levels = self.left;
+                self.call(alloc, host, variables, words, levels, limits)
+            }
+            Reached::Waits(waiting) => {
+                self.wait(alloc, host, variables, Box::into_inner(waiting), limits)
+            }
         }
     }
 
@@ -331,7 +478,7 @@ impl Machine {
         limits: &Limits,
     ) -> Result<Now, Halt>
         ensures falls { Falls result (waiting_weight waiting) self.old self.new }
-        ensures goes { GoesSo H.meaning limits.now (resume H.meaning limits.now self.old.left self.old.stack (reached_does H.meaning limits.now self.old.left (reached.Waits waiting) (H.state host.now) variables.now self.old.fuel)) result self.new (H.state host.now) variables.now }
+        ensures goes { GoesSo H.meaning limits.now (resume H.meaning limits.now self.old.left self.old.stack (waiting_does H.meaning limits.now self.old.left waiting (H.state host.now) variables.now self.old.fuel)) result self.new (H.state host.now) variables.now }
     {
         let Waiting {
             words,
@@ -346,7 +493,7 @@ impl Machine {
             expand,
             rest,
         })?;
-        let now = self.open_inner(alloc, inner, made, parts)?;
+        let now = self.open_inner(inner, made, parts)?;
         Ok(now)
     }
 }

@@ -1,4 +1,4 @@
-ghost use Rattle.std.specs.Prelude.{◌≡◌, ◌↔◌, true, List, [], ◌∷◌, reverse, MatchOption, OnOk, OnErr};
+ghost use Rattle.std.specs.Prelude.{◌≡◌, ◌↔◌, true, List, [], ◌∷◌, reverse, slice_get, option_copied, MatchOption, OnOk, OnErr};
 
 use std::alloc::{AllocError, Global};
 use std::marker::Model;
@@ -41,6 +41,22 @@ impl<T: Drop> Rest<T> {
         ensures { result ≡ reverse items.items }
     {
         Rest { reversed: items }
+    }
+
+    /// The items that are left.
+    pub fn into_items(self) -> Vec<T>
+        ensures { result.items ≡ self }
+    {
+        let mut items = self.reversed;
+        items.reverse();
+        items
+    }
+
+    /// The first item.
+    pub fn first(&self) -> Option<&T>
+        ensures { option_copied result ≡ slice_get self.now 0 }
+    {
+        self.reversed.last()
     }
 
     /// Takes the first item.

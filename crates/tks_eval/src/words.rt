@@ -1,12 +1,12 @@
-ghost use Rattle.std.specs.Prelude.{◌≡◌, ◌≤◌, ◌+◌, ◌*◌, List, ℕ, ◌∷◌, ◌++◌, IfOk, IfErr, OnOk, OnErr, Ok, Some};
-ghost use Rattle.tks_parse.specs.Tree.{Parts, parts_size};
+ghost use Rattle.std.specs.Prelude.{◌≡◌, ◌≤◌, ◌+◌, ◌*◌, List, ℕ, [], ◌∷◌, ◌++◌, IfOk, IfErr, IfSome, IfNone, OnOk, OnErr, Ok, Some};
+ghost use Rattle.tks_parse.specs.Tree.{Parts, nested, no_part, parts_size};
 ghost use Rattle.tks_parse.specs.View.{words_of, parts_of};
 ghost use Rattle.tks_eval.specs.Outcome.{End, appended};
 ghost use Rattle.tks_eval.specs.Evaluation.{evaluate, element_name, with_value, words_in, parts_do};
 ghost use Rattle.tks_tcl.specs.Cause.{after};
 ghost use Rattle.tks_tcl.specs.Meets.{GivesSo};
 ghost use Rattle.tks_eval.specs.Filling.{filled, left_of, waits_for, runs};
-ghost use Rattle.tks_eval.specs.Machine.{resume, frame_weight, behind_script, GoesSo, Falls, FillsSo, FillFalls};
+ghost use Rattle.tks_eval.specs.Machine.{resume, frame_weight, behind_script, GoesSo, HaltsSo, Falls, FillsSo, FillFalls};
 ghost use Rattle.tks_eval.specs.declared.frame.Frame.TheVariants as frame;
 
 use crate::frame::{Ending, Frame, Now};
@@ -16,7 +16,7 @@ use crate::machine::Machine;
 use crate::rest::Rest;
 use std::alloc::{AllocError, Global};
 use tks_parse::{Left, Part, Parts, Script, Word};
-use tks_tcl::{Interrupt, list_in};
+use tks_tcl::{Interrupt, Stop, fits, list_in};
 use tks_text::{Limits, Seq, Txt};
 use tks_vars::Vars;
 
@@ -104,6 +104,16 @@ pub fn stands(parts: &Parts) -> bool {
     parts.as_slice().iter().all(|part| matches!(part, Part::Text(_) | Part::Variable(_, None)))
 }
 
+/// The script whose result is all that these parts make.
+pub fn only_script(parts: &Parts) -> Option<&Script>
+    ensures { IfSome result (λ script. parts.now ≡ nested script.now no_part) }
+{
+    match parts.as_slice() {
+        [Part::Nested(script)] => Some(script),
+        _ => None,
+    }
+}
+
 /// What stands in a word and has to be run before the word goes on.
 #[derive(Drop)]
 pub enum Inner {
@@ -161,7 +171,6 @@ impl Machine {
     /// Goes on with what has to be run in a word.
     pub fn open_inner(
         &mut self,
-        alloc: Global,
         inner: Inner,
         made: Txt,
         parts: Left<Part>,
@@ -173,10 +182,7 @@ impl Machine {
         match inner {
             Inner::Index(name, index) => {
                 self.stack.push(Frame::Element { name, made, parts })?;
-                Ok(Now::Fill {
-                    made: Txt::new(alloc),
-                    parts: index,
-                })
+                Ok(Now::Index(index))
             }
             Inner::Script(script) => {
                 self.stack.push(Frame::Nested { made, parts })?;
@@ -208,6 +214,30 @@ impl Machine {
             Some(end) => Ok(end),
             None => Err(Inner::Script(script)),
         }
+    }
+
+    /// The end of a word that is the result of a script, where that is run at once.
+    pub fn result_at_once<H: Host>(
+        &mut self,
+        alloc: Global,
+        host: &H,
+        variables: &mut Vars,
+        script: &Script,
+        limits: &Limits,
+    ) -> Result<Option<Ending>, Halt>
+        ensures kept { self.new ≡ record self.old { fuel = self.new.fuel } }
+        ensures spends { self.new.fuel ≤ self.old.fuel }
+        ensures some { IfOk result (λ o. IfSome o (λ end. parts_do limits.now (evaluate H.meaning limits.now self.old.left) (nested script.now no_part) [] (H.state host.now) variables.old self.old.fuel ≡ End end.code end.text (H.state host.now) variables.new self.new.fuel)) }
+        ensures none { IfOk result (λ o. IfNone o ((variables.new ≡ variables.old) × (self.new.fuel ≡ self.old.fuel))) }
+        ensures err { IfErr result (λ why. HaltsSo H.meaning limits.now (parts_do limits.now (evaluate H.meaning limits.now self.old.left) (nested script.now no_part) [] (H.state host.now) variables.old self.old.fuel) why (H.state host.now) variables.new self.new.fuel) }
+    {
+        let Some(end) = self.run_at_once(alloc, host, variables, script, true, limits) else {
+            return Ok(None);
+        };
+        if end.code == 0 && !fits(&end.text, limits) {
+            return Err(Halt::Stop(Stop::TooLarge));
+        }
+        Ok(Some(end))
     }
 
     /// Makes a word, or an index, up to a script or an index in it that can't be run at once.
@@ -266,7 +296,7 @@ impl Machine {
                 text: made,
             })),
             Some(inner) => {
-                let now = self.open_inner(alloc, inner, made, parts)?;
+                let now = self.open_inner(inner, made, parts)?;
                 Ok(now)
             }
         }

@@ -32,3 +32,7 @@ module _ (limits : Limits) (variables : Variables) where
       → plain limits (codes "lrange" ∷ text ∷ first ∷ last ∷ []) variables ≡ Some (Answers 0 t variables)
   lrange_answers l first last t text fit h is =
       ap (λ r. told (after (list_read r) (λ l. ranged l first last))) is ∙ ap told h ∙ answer t fit
+
+  pub return_answers : (text : List ℕ) → fits limits text ≡ true → plain limits (codes "return" ∷ text ∷ []) variables ≡ Some (Answers 2 text variables)
+  return_answers text fit =
+      ap (λ b. Some (answered limits variables (after (after (cond b (Ok text) (Err OverLimit)) (λ text. Ok (2, text))) (λ x. Ok (x, variables))))) fit

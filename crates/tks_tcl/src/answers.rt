@@ -61,3 +61,17 @@ pub fn lrange_answer(
         None
     }
 }
+
+/// The text that a `return` of this text ends with, by code 2. None where it passes the limit, or where memory is refused.
+#[tactic(auto, using(crate::proofs::Answering::return_answers))]
+pub fn return_answer(text: &Txt, limits: &Limits) -> Option<Txt>
+    ensures { IfSome result (λ t. (variables : Variables) → plain limits.now (codes "return" ∷ text.now ∷ []) variables ≡ Some (Answers 2 t variables)) }
+{
+    if !fits(text, limits) {
+        return None;
+    }
+    match text.try_clone() {
+        Ok(text) => Some(text),
+        Err(_) => None,
+    }
+}

@@ -20,7 +20,7 @@ mod table;
 mod variables;
 mod words;
 
-pub use answers::{lindex_answer, llength_answer, lrange_answer};
+pub use answers::{lindex_answer, llength_answer, lrange_answer, return_answer};
 pub use calls::plain;
 pub use command::{is_built_in, is_word};
 pub use interrupt::{Interrupt, error_about, fits, within, wrong_words};

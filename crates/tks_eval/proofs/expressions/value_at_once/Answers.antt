@@ -19,13 +19,13 @@ returns-in_err-front-in-Chain c =
     let fails : FailsSo why (value_made limits variables c.args.expr.now) = subst (λ r. FailsSo why r) (sym made) halts in
     search rules
 
-pub returns-in-Some : goal.returns-in-Some
-returns-in-Some c =
+pub returns-in-Some-3 : goal.returns-in-Some-3
+returns-in-Some-3 c =
     let chain = c.in-Chain in
     let limits = c.args.limits.now in
     let variables = c.args.variables.now in
     let whole : c.args.expr.now ≡ chained (combined chain.link.join chain.first chain.link.right) chain.links.items = sym c.node.ensures ∙ ap expr_of chain.is in
-    let front = rw c.in-Some.is at c.in_ok-front-in-Chain.ensures in
+    let front = rw c.in-Some-3.is at c.in_ok-front-in-Chain.ensures in
     let made = ap (value_made limits variables) whole ∙ chain_made limits variables chain.link.join chain.first chain.link.right chain.links.items
     ∙ ap (links_made limits variables chain.links.items) front in
     let goes = rw c.as_slice.ensures.value at c.links_at_once.ensures in

@@ -15,4 +15,4 @@ returns-clause-some g c =
     let less = m.fuel - 1 in
     let step : m.fuel ≡ suc less = search rules in
     ap (λ fuel. words_do host limits level (words_of c.args.words.now) [] state variables fuel) step
-    ∙ words_answer host limits level state variables less (words_of c.args.words.now) c.in_ok-text.text c.in_ok-text.ensures.some
+    ∙ words_answer host limits level state variables less (words_of c.args.words.now) c.in_ok-end.end.code c.in_ok-end.end.text c.in_ok-end.ensures.some

@@ -1,17 +1,24 @@
-use Rattle.std.proofs.Common.{◌≡◌, ◌∷◌, rules}
+use Rattle.std.proofs.Common.{◌<◌, length, Err, rules, subst}
+use Rattle.tks_eval.specs.Meets.{AnswersSo}
 use Rattle.tks_eval.specs.Evaluation.{evaluate}
-use Rattle.tks_eval.proofs.Halts.{host_halts}
+use Rattle.tks_eval.specs.Machine.{given_words}
+use Rattle.tks_eval.specs.declared.machine.Machine.{Machine}
+use Rattle.tks_eval.proofs.Reaching.{called_halts}
 use Rattle.tks_eval.proofs.machine.Machine.call.Goals as goal
 
 pub returns-in_err-plan-clause-goes : goal.returns-in_err-plan-clause-goes
 returns-in_err-plan-clause-goes g c =
-    let first = c.in-Some.command.now in
-    let behind = c.in-Some.rest.now in
-    let whole : c.args.words.now ≡ first ∷ behind = search rules in
     let host = g.H.Host.meaning in
     let limits = c.args.limits.now in
+    let old = c.args.self.now in
     let state = g.H.Host.state c.args.host.now in
-    let halts = host_halts host limits c.args.self.now state c.args.variables.now
-    (evaluate host limits c.args.self.now.left) first behind (host.commands state c.args.variables.now c.args.words.now) state (g.H.Host.state c.call.new.self) c.args.variables.now c.call.new.variables
-    c.in_err-plan.field-0.0 c.in_err-plan.ensures.answers in
-    rw whole search rules
+    let words = given_words c.args.words in
+    let m : Machine = record { stack = old.stack; left = c.args.levels; fuel = old.fuel; table = tt } in
+    let some : 0 < length words = search rules in
+    let why = c.in_err-plan.field-0.0 in
+    let new = g.H.Host.state c.call.new.self in
+    let variables = c.args.variables.now in
+    let told : AnswersSo (host.commands state variables c.as_slice-2.result.now) (Err why) state new variables c.call.new.variables = c.in_err-plan.ensures.answers in
+    let answers = subst (λ ws. AnswersSo (host.commands state variables ws) (Err why) state new variables c.call.new.variables) c.as_slice-2.ensures told in
+    let halts = called_halts host limits m state variables (evaluate host limits old.left) words state new variables c.call.new.variables why some answers in
+    search rules

@@ -58,10 +58,10 @@ returns-in-Some-clause-some g c =
     let level = evaluate host limits m.left in
     let state = g.H.Host.state c.args.host.now in
     let variables = c.args.variables.now in
-    let text = c.in-Some.text in
+    let end = c.in-Some.end in
     let words = c.in-Made.words.value.items in
     let same : c.as_slice-given.result.now ≡ words = search rules in
-    let answer : AnswersWords limits variables (words_of words) text = rw (c.in-Some.is, same) at c.answer_at_once.ensures.some in
+    let answer : AnswersWords limits variables (words_of words) end.code end.text = rw (c.in-Some.is, same) at c.answer_at_once.ensures.some in
     let does = ap (λ k. words_do host limits level (words_of_command k) [] state variables (suc m.fuel)) c.in-Made.is
-    ∙ words_answer host limits level state variables m.fuel (words_of words) text answer in
-    rw c.answer_at_once.ensures.same (ends_as c.args.asked (words_do host limits level (words_of_command c.args.command.now) [] state variables (suc m.fuel)) (record { code = 0; text = text }) state variables m.fuel does)
+    ∙ words_answer host limits level state variables m.fuel (words_of words) end.code end.text answer in
+    rw c.answer_at_once.ensures.same (ends_as c.args.asked (words_do host limits level (words_of_command c.args.command.now) [] state variables (suc m.fuel)) end state variables m.fuel does)

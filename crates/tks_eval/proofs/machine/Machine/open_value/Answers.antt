@@ -85,7 +85,8 @@ returns-in-Chain-clause-falls g c =
     let whole : c.args.expr ≡ chained (combined chain.link.join chain.first chain.link.right) chain.links.items = sym c.node.ensures ∙ ap expr_of chain.is in
     let link : c.in_ok-link-in-Chain.link ≡ chain.link = c.in_ok-link-in-Chain.ensures in
     let behind : c.of-behind.result ≡ chain.links.items = c.of-behind.ensures ∙ c.in_ok-share_links-in-Chain.ensures ∙ c.as_slice-in-Chain.ensures.value in
-    let falls = rw (c.in_ok-push-in-Chain-2.ensures.ok, c.in_ok-push-in-Chain.ensures.ok, behind, link) at c.open_operand.ensures.falls in
+    let given : Falls c.wait_for.result (links_weight (c.in_ok-link-in-Chain.link ∷ c.of-behind.result) + value_weight chain.first + 1) c.args.self.now c.wait_for.new.self = c.wait_for.ensures.falls in
+    let falls = rw (behind, link) at given in
     let weighs = chain_weighs chain.first chain.link chain.links.items in
     rw whole (falls.0, λ h. let less = falls.1 h in omega (arith, less, weighs))
 
@@ -102,6 +103,8 @@ returns-in-Chain-clause-goes g c =
     let does = chained_does limits level chain.first (chain.link ∷ chain.links.items) state variables m.fuel in
     let link : c.in_ok-link-in-Chain.link ≡ chain.link = c.in_ok-link-in-Chain.ensures in
     let behind : c.of-behind.result ≡ chain.links.items = c.of-behind.ensures ∙ c.in_ok-share_links-in-Chain.ensures ∙ c.as_slice-in-Chain.ensures.value in
-    let goes = rw (c.in_ok-push-in-Chain-2.ensures.ok, c.in_ok-push-in-Chain.ensures.ok, behind, link) at c.open_operand.ensures.goes in
-    subst (λ o. GoesSo host limits (resume host limits m.left m.stack o) c.open_operand.result c.open_operand.new.self state variables)
+    let given : GoesSo host limits (resume host limits m.left m.stack (links_do limits level (c.in_ok-link-in-Chain.link ∷ c.of-behind.result) (value_does limits level chain.first state variables m.fuel)))
+    c.wait_for.result c.wait_for.new.self state variables = c.wait_for.ensures.goes in
+    let goes = rw (behind, link) at given in
+    subst (λ o. GoesSo host limits (resume host limits m.left m.stack o) c.wait_for.result c.wait_for.new.self state variables)
     (sym (ap (λ e. value_does limits level e state variables m.fuel) whole ∙ does)) goes
