@@ -178,8 +178,8 @@ impl Machine {
         self.call(alloc, host, variables, words, left, limits)
     }
 
-    // Has what is left of a script wait. Where nothing is left of it and the frame on top goes on with no more scripts, that
-    // frame's own levels are enough.
+    // Has what is left of a script wait. Where nothing is left of it on top of a procedure or a script at global level, that
+    // frame gives the levels back by itself.
     fn wait_behind(&mut self, rest: LeftScript, levels: u32) -> Result<(), AllocError>
         ensures ok { OnOk result (self.new ≡ record self.old { stack = waits_behind rest levels self.old.stack }) }
         ensures err { OnErr result (self.new ≡ self.old) }

@@ -12,7 +12,7 @@ mod tree;
 
 pub use arithmetic::{bits_make_an_integer, operators_on_bits, quotients_round_down};
 pub use laws::one_expression;
-pub use operation::{apply, apply_unary, holds, into_result, result_of, truth_of};
+pub use operation::{apply, apply_unary, holds, into_result, truth_of};
 pub use operator::{Binary, Unary};
 pub use parse::parse_expr;
 pub use sign::Join;

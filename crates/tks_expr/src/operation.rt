@@ -219,10 +219,3 @@ pub fn into_result(alloc: Global, text: Txt) -> Result<Txt, Failure>
         Err(_) => Err(fault_of(ErrorNumber::OutOfRange)),
     }
 }
-
-/// What [`into_result`] makes of a text that is lent.
-pub fn result_of(alloc: Global, text: &Txt) -> Result<Txt, Failure>
-    ensures { Gives (λ t. t) result (result_of text.now) }
-{
-    into_result(alloc, text.try_clone()?)
-}
