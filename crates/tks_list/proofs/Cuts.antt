@@ -1,8 +1,8 @@
 -- Parts of a text, and texts that lie one behind the other in one.
-use Rattle.std.proofs.Common.{◌≡◌, ℕ, ◌+◌, ◌<◌, ◌≤◌, cond, ltb, List, [], ◌∷◌, ◌++◌, append_assoc, length, take, drop, get_or, Some, None, refl, sym, ap, ◌∙◌, arith}
+use Rattle.std.proofs.Common.{◌≡◌, ℕ, ◌+◌, ◌-◌, ◌<◌, ◌≤◌, cond, ltb, List, [], ◌∷◌, ◌++◌, append_assoc, length, take, drop, get_or, Some, None, refl, sym, subst, ap, ◌∙◌, arith}
 use Rattle.std.specs.Prelude.{map, min, not, position}
 use Rattle.std.specs.List.{AllByRecursion, position_or_len}
-use Rattle.std.proofs.lemmas.List.{take-append-le, take_all, length-append, length-map, length-take, map-append, drop_more, get_or-take}
+use Rattle.std.proofs.lemmas.List.{take-append-le, take_all, length-append, length-map, length-take, map-append, drop_more, get_or-take, length-drop, length-take-le, take_min, drop_min, drop-take, drop-drop}
 use Rattle.std.proofs.Math.Seq.{drop-append_seam}
 use Rattle.tks_text.specs.Text.{IsText, same_text}
 use Rattle.tks_text.proofs.Texts.{text_drop, text_take}
@@ -20,6 +20,19 @@ cut_more xs more span h = ap (drop span.start) (take-append-le span.end xs more 
 pub cuts_more : (xs more : List ℕ) (spans : List Span) → AllEnd (length xs) spans → map (cut (xs ++ more)) spans ≡ map (cut xs) spans
 cuts_more xs more [] h = refl
 cuts_more xs more (span ∷ spans) h = ap (λ e. e ∷ map (cut (xs ++ more)) spans) (cut_more xs more span h.0) ∙ ap (λ l. cut xs span ∷ l) (cuts_more xs more spans h.1)
+
+-- a span of what stands behind the front of a text, as a span of the text
+pub cut_behind : (text : List ℕ) (start : ℕ) (span : Span) → start ≤ length text → cut text (record { start = start + min span.start (min span.end (length text - start)); end = start + min span.end (length text - start) }) ≡ cut (drop start text) span
+cut_behind text start span h =
+    let rest = drop start text in
+    let end = min span.end (length text - start) in
+    let len : length rest ≡ length text - start = length-drop start text in
+    let whole : take end rest ≡ take span.end rest = subst (λ n. take (min span.end n) rest ≡ take span.end rest) len (take_min span.end rest) in
+    let cut_len : length (take end rest) ≡ end = length-take-le end rest (omega (arith, len)) in
+    sym (drop-drop (min span.start end) start (take (start + end) text))
+    ∙ ap (drop (min span.start end)) (drop-take start end text)
+    ∙ subst (λ n. drop (min span.start n) (take end rest) ≡ drop span.start (take end rest)) cut_len (drop_min span.start (take end rest))
+    ∙ ap (drop span.start) whole
 
 pub ends_more : (len new : ℕ) (spans : List Span) → len ≤ new → AllEnd len spans → AllEnd new spans
 ends_more len new [] le h = tt

@@ -1,12 +1,11 @@
 -- The loops over the characters of an element and over elements.
-use Rattle.std.proofs.Common.{◌≡◌, ℕ, ◌+◌, ◌<◌, List, [], ◌++◌, append_assoc, append-nil, length, drop, Option, Some, None, Err, refl, sym, ap, ◌∙◌}
-use Rattle.std.specs.Option.{option_map}
+use Rattle.std.proofs.Common.{◌≡◌, ℕ, ◌+◌, ◌-◌, ◌<◌, ◌≤◌, List, [], ◌++◌, append_assoc, append-nil, length, drop, Option, Some, None, Err, refl, sym, ap, subst, ◌∙◌, arith}
 use Rattle.tks_text.specs.Run.{stop, takes, Run, run}
 use Rattle.tks_text.proofs.Runs.{behind, run_stops, run_fails, run_takes, loop_goes, loop_stops, loop_fails}
 use Rattle.tks_list.specs.declared.ends.Ends.{Ends}
 use Rattle.tks_list.specs.declared.fault.ListFault.{ListFault}
 use Rattle.tks_list.specs.declared.fault.ListFault.TheVariants.{NoMemory, NotAList}
-use Rattle.tks_list.specs.Gives.{FailsStep, FailsRun, ListRead}
+use Rattle.tks_list.specs.Gives.{FailsStep, FailsRun, ListRead, behind_list}
 use Rattle.tks_list.specs.Reading.{char_step, chars_at, element_step, elements_at, without_fault, list_of}
 
 pub chars_go : (ends : Ends) (front item : List ℕ) (n k : ℕ) (t : List ℕ) (all : Run ListFault (List ℕ)) → behind (λ e. front ++ e) n (chars_at ends t) ≡ all → char_step ends t ≡ takes (λ e. item ++ e) k → k < length t → behind (λ e. (front ++ item) ++ e) (n + (1 + k)) (chars_at ends (drop (1 + k) t)) ≡ all
@@ -24,9 +23,6 @@ chars_err ends front n t all NotAList h e = ap (λ (r : Run ListFault (List ℕ)
 
 -- ---- elements
 
-abbrev pub behind_list : List (List ℕ) → Option (List (List ℕ)) → Option (List (List ℕ))
-behind_list front o = option_map (λ l. front ++ l) o
-
 without_fault_front : (front item l : List (List ℕ)) (f : Option ListFault) → behind_list (front ++ item) (without_fault l f) ≡ behind_list front (without_fault (item ++ l) f)
 without_fault_front front item l None = ap Some (append_assoc front item l)
 without_fault_front front item l (Some f) = refl
@@ -38,6 +34,12 @@ list_go front item k t all h e lt =
     without_fault_front front item rest.items rest.fault
     ∙ ap (λ (r : Run ListFault (List (List ℕ))). behind_list front (without_fault r.items r.fault)) (sym (run_takes [] element_step t (λ l. item ++ l) k refl e lt))
     ∙ h
+
+-- a step that takes n bytes
+pub list_goes : (front item : List (List ℕ)) (n : ℕ) (t : List ℕ) → 1 ≤ n → n ≤ length t → element_step t ≡ takes (λ l. item ++ l) (n - 1) → behind_list (front ++ item) (list_of (drop n t)) ≡ behind_list front (list_of t)
+list_goes front item n t some le e =
+    let one : 1 + (n - 1) ≡ n = omega (arith, some) in
+    subst (λ k. behind_list (front ++ item) (list_of (drop k t)) ≡ behind_list front (list_of t)) one (list_go front item (n - 1) t _ refl e (omega (arith, some, le)))
 
 pub list_stop : (front : List (List ℕ)) (t : List ℕ) (all : Option (List (List ℕ))) → behind_list front (list_of t) ≡ all → element_step t ≡ stop → all ≡ Some front
 unfolding list_of elements_at element_step

@@ -1,15 +1,18 @@
 -- Characters that stand for themselves, read at once.
-use Rattle.std.proofs.Common.{◌≡◌, ℕ, suc, ◌+◌, ◌==◌, Bool, true, false, cond, List, [], ◌∷◌, take, drop, None, refl, sym, ap, ◌∙◌, subst, arith}
+use Rattle.std.proofs.Common.{◌≡◌, ℕ, suc, ◌+◌, ◌-◌, ◌≤◌, ◌==◌, Bool, true, false, cond, List, [], ◌∷◌, ◌++◌, take, drop, get_or, None, refl, sym, ap, ◌∙◌, subst, arith}
 use Rattle.std.specs.Prelude.{not, ◌&&◌}
 use Rattle.std.specs.List.{prefix_len}
+use Rattle.std.proofs.lemmas.Bool.{eqb-true, false_from_ne_true}
 use Rattle.std.proofs.lemmas.List.{drop-take}
+use Rattle.tks_text.specs.Integer.{is_space}
 use Rattle.tks_text.specs.Text.{BeginsNot}
-use Rattle.tks_text.specs.Run.{Step, stop, takes, Run, run, after_step, with_item, past_byte}
+use Rattle.tks_text.specs.Run.{Step, stop, takes, Run, run, after_step, with_item, past_byte, on_run}
 use Rattle.tks_text.proofs.Texts.{both}
 use Rattle.tks_list.specs.ListText.{ends_at}
-use Rattle.tks_list.specs.Reading.{char_step, chars_at, stands_for_itself}
+use Rattle.tks_list.specs.Reading.{char_step, chars_at, stands_for_itself, element_step, bare_step}
 use Rattle.tks_list.specs.Cuts.{cut}
 use Rattle.tks_list.specs.declared.ends.Ends.{Ends}
+use Rattle.tks_list.specs.declared.ends.Ends.TheVariants.{Space}
 use Rattle.tks_list.specs.declared.fault.ListFault.{ListFault}
 
 abbrev pub is_backslash : ℕ → Bool
@@ -65,3 +68,29 @@ module _ (ends : Ends) where
   unfolding chars_at
   plain_found t start len is b =
       plain_read (drop start t) len is b ∙ ap (λ (e : List ℕ). record { items = e; fault = None; taken = len }) (sym (drop-take start len t))
+
+-- ---- bare elements
+
+first_plain : (p : ℕ → Bool) (c : ℕ) (u : List ℕ) (len : ℕ) (b : Bool) → p c ≡ b → len ≡ cond b (1 + prefix_len p u) 0 → 1 ≤ len → p c ≡ true
+first_plain p c u len true e is some = e
+first_plain p c u len false e is some = absurd (omega (arith, is, some))
+
+bare_from : (c : ℕ) (u : List ℕ) (len : ℕ) → c == 123 ≡ false → c == 34 ≡ false → len ≡ prefix_len (stands_for_itself Space) (c ∷ u) → BeginsNot is_backslash (drop len (c ∷ u)) → 1 ≤ len
+    → element_step (c ∷ u) ≡ takes (λ l. (take len (c ∷ u) ∷ []) ++ l) (len - 1)
+unfolding element_step bare_step
+bare_from c u len brace quote is b some =
+    let plain : stands_for_itself Space c ≡ true = first_plain (stands_for_itself Space) c u len (stands_for_itself Space c) refl is some in
+    let other : is_space c ≡ false = not_true (is_space c) (both (not (is_space c)) (not (c == 92)) plain).0 in
+    let all : 0 + len ≡ len = omega arith in
+    rw (other, brace, quote) (
+    ap (λ (r : Run ListFault (List ℕ)). on_run r (λ e n. takes (λ (l : List (List ℕ)). e ∷ l) (n - 1))) (plain_found Space (c ∷ u) 0 len is b)
+    ∙ ap (λ n. takes (λ (l : List (List ℕ)). take n (c ∷ u) ∷ l) (len - 1)) all)
+
+differs : (c d : ℕ) → ¬ (c ≡ d) → c == d ≡ false
+differs c d h = false_from_ne_true (c == d) (λ k. h (eqb-true c d k))
+
+-- what stands for itself and begins no other element is the element
+pub bare_taken : (t : List ℕ) (len : ℕ) → ¬ (get_or t 0 0 ≡ 123) → ¬ (get_or t 0 0 ≡ 34) → len ≡ prefix_len (stands_for_itself Space) t → BeginsNot is_backslash (drop len t) → 1 ≤ len
+    → element_step t ≡ takes (λ l. (take len t ∷ []) ++ l) (len - 1)
+bare_taken [] len brace quote is b some = absurd (omega (arith, is, some))
+bare_taken (c ∷ u) len brace quote is b some = bare_from c u len (differs c 123 brace) (differs c 34 quote) is b some

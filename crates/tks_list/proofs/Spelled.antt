@@ -12,7 +12,8 @@ use Rattle.tks_list.specs.Reading.{no_braces, closing_brace, char_step, chars_at
 use Rattle.tks_list.specs.declared.ends.Ends.{Ends}
 use Rattle.tks_list.specs.declared.ends.Ends.TheVariants.{Space, Quote}
 use Rattle.tks_list.specs.declared.fault.ListFault.{ListFault}
-use Rattle.tks_list.proofs.Loops.{behind_list, list_start, list_go}
+use Rattle.tks_list.specs.Gives.{behind_list}
+use Rattle.tks_list.proofs.Loops.{list_start, list_go}
 use Rattle.tks_list.proofs.Matching.{matched_passed}
 use Rattle.tks_text.proofs.Tests.{neither}
 

@@ -10,3 +10,8 @@ cut text span = drop span.start (take span.end text)
 -- spans that end within so many bytes
 abbrev pub AllEnd : ℕ → List Span → Type 0
 AllEnd len spans = AllByRecursion (λ (s : Span). s.end ≤ len) spans
+
+-- a text that is being cut into elements, and those so far
+pub record CutSoFar : Type 0 where
+  pub text : List ℕ
+  pub list : List (List ℕ)

@@ -1,8 +1,10 @@
 -- What the code returned, against what reading gives, unless memory was refused.
-use Rattle.std.specs.Prelude.{◌≡◌, ℕ, List, [], ◌∷◌, ◌++◌, Option, Some, None, Result, Ok, Err}
+use Rattle.std.specs.Prelude.{◌≡◌, ℕ, List, [], ◌∷◌, ◌++◌, drop, Option, Some, None, Result, Ok, Err}
+use Rattle.std.specs.Option.{option_map}
 use Rattle.tks_text.specs.Run.{Step, stop, fails, takes, Run}
 use Rattle.tks_list.specs.ListText.{Splits}
 use Rattle.tks_list.specs.Cuts.{cut}
+use Rattle.tks_list.specs.Reading.{list_of}
 use Rattle.tks_list.specs.declared.fault.ListFault.{ListFault}
 use Rattle.tks_list.specs.declared.reading.Found.{Found}
 use Rattle.tks_list.specs.declared.reading.Found.TheVariants.{In, Made}
@@ -54,6 +56,17 @@ abbrev pub ListRead : Result (List (List ℕ)) ListFault → Option (List (List 
 ListRead (Ok l) o = o ≡ Some l
 ListRead (Err NotAList) o = o ≡ None
 ListRead (Err NoMemory) o = Unit {0}
+
+-- a list with these elements before it
+abbrev pub behind_list : List (List ℕ) → Option (List (List ℕ)) → Option (List (List ℕ))
+behind_list front o = option_map (λ l. front ++ l) o
+
+-- a step of reading a text, with these elements before it and those behind it: with the bytes that it took it leaves the
+-- list as it is, and at the end that is these
+abbrev pub ListGoes : List ℕ → List (List ℕ) → List (List ℕ) → Result (Option ℕ) ListFault → Type 0
+ListGoes t old new (Ok None) = behind_list old (list_of t) ≡ Some new
+ListGoes t old new (Ok (Some n)) = behind_list new (list_of (drop n t)) ≡ behind_list old (list_of t)
+ListGoes t old new (Err e) = ListRead (Err e) (behind_list old (list_of t))
 
 -- the same of the text: it splits into the list, or into none
 abbrev pub SplitsSo : Result (List (List ℕ)) ListFault → List ℕ → Type 0

@@ -1,7 +1,7 @@
 ghost use Rattle.std.specs.Prelude.{◌≡◌, ◌<◌, ◌≤◌, ◌++◌, [], ◌∷◌, length, map, take, drop, get_or, position, IfOk, IfSome, OnOk, OnErr};
 ghost use Rattle.tks_text.specs.Short.{IsShort};
 ghost use Rattle.tks_text.specs.Text.{IsText, same_text};
-ghost use Rattle.tks_list.specs.Cuts.{cut};
+ghost use Rattle.tks_list.specs.Cuts.{cut, AllEnd};
 ghost use Rattle.tks_list.specs.Quoting.{joined, spaced};
 
 use crate::writing::push_quoted;
@@ -26,7 +26,7 @@ pub fn cut(text: &[u8], span: Span) -> &[u8]
 }
 
 /// The most elements of a list.
-const MAX_LEN: usize = 4_294_967_295;
+pub(crate) const MAX_LEN: usize = 4_294_967_295;
 
 /// Texts that lie one behind the other in one buffer, fewer than 2^32. Contracts see the list of them.
 pub struct Elements {
@@ -63,6 +63,16 @@ impl Elements {
             bytes: Vec::with_capacity(alloc, len)?,
             spans: Vec::with_capacity(alloc, count)?,
         })
+    }
+
+    // What stands in these spans of these bytes.
+    pub(crate) fn of_spans(bytes: Vec<u8>, spans: Vec<Span>) -> Elements
+        requires text { IsText bytes.items }
+        requires ends { AllEnd (length bytes.items) spans.items }
+        requires short { IsShort spans.items }
+        ensures { result ≡ map (cut bytes.items) spans.items }
+    {
+        Elements { bytes, spans }
     }
 
     /// How many elements there are.

@@ -3,6 +3,7 @@
 
 mod braces;
 mod buffer;
+mod cutting;
 mod elements;
 mod ends;
 mod fault;

@@ -1,11 +1,14 @@
-ghost use Rattle.std.specs.Prelude.{◌≡◌, ◌<◌, ◌≤◌, ◌++◌, List, ℕ, length, drop, IfOk, IfSome, OnOk, true};
+ghost use Rattle.std.specs.Prelude.{◌≡◌, ◌<◌, ◌≤◌, ◌+◌, ◌-◌, ◌++◌, [], ◌∷◌, List, ℕ, length, take, drop, IfOk, IfSome, OnOk, true};
 ghost use Rattle.std.specs.List.{prefix_len};
 ghost use Rattle.tks_text.specs.Text.{IsText, is_text_byte};
-ghost use Rattle.tks_list.specs.Gives.{GivesStep, GivesRun, ListRead, SplitsSo, taken_char, run_of_chars, run_found, taken_element, chars_found, element_found};
+ghost use Rattle.tks_text.specs.Run.{takes};
+ghost use Rattle.tks_list.specs.Cuts.{cut};
+ghost use Rattle.tks_list.specs.Gives.{GivesStep, GivesRun, ListGoes, ListRead, SplitsSo, taken_char, run_of_chars, run_found, taken_element, chars_found, element_found};
 ghost use Rattle.tks_list.specs.Reading.{char_step, chars_at, stands_for_itself, no_braces, closing_brace, may_end, braced_element, quoted_step, element_step, list_of};
 
 use crate::braces::closing_brace;
 use crate::buffer::CharBuffer;
+use crate::cutting::CutText;
 use crate::elements::{Elements, Span, cut};
 use crate::ends::Ends;
 use crate::fault::ListFault;
@@ -202,23 +205,7 @@ fn chars_of<'a>(made: &'a CharBuffer, text: &'a [u8], found: Found) -> &'a [u8]
     }
 }
 
-// Adds an element that was found in a text.
-fn add_element(
-    list: &mut Elements,
-    made: &CharBuffer,
-    text: &[u8],
-    found: Option<Found>,
-) -> Result<(), AllocError>
-    requires { IsText text.now }
-    ensures { OnOk result (list.new ≡ list.old ++ element_found made.now text.now found) }
-{
-    match found {
-        Some(found) => list.push(chars_of(made, text, found)),
-        None => Ok(()),
-    }
-}
-
-// The same, as a text of its own.
+// Adds an element that was found in a text, as a text of its own.
 fn add_text(
     alloc: Global,
     list: &mut Seq<Txt>,
@@ -240,18 +227,135 @@ fn first_room(text: &Txt) -> usize {
     text.len().div_ceil(2).min(MOST_ROOM)
 }
 
+// Whether a text begins with white space.
+#[tactic(auto, unfolding(crate::specs::Reading::element_step))]
+fn begins_with_space(text: &[u8]) -> bool
+    ensures step { result ≡ true → element_step text.now ≡ takes (λ l. [] ++ l) 0 }
+    ensures bound { result ≡ true → 1 ≤ length text.now }
+{
+    match text {
+        [c, ..] => is_space(*c),
+        [] => false,
+    }
+}
+
+// How many bytes a bare element takes that a text begins with and that stands for itself, or 0 where there is none.
+#[tactic(auto, using(crate::proofs::Plain::bare_taken))]
+fn bare_len(text: &[u8]) -> usize
+    ensures step { 1 ≤ result → element_step text.now ≡ takes (λ l. (take result text.now ∷ []) ++ l) (result - 1) }
+    ensures bound { result ≤ length text.now }
+{
+    match text {
+        [] => 0,
+        [first, ..] => {
+            let c = *first;
+            if c == b'{' || c == b'"' {
+                return 0;
+            }
+            let len = plain_len(text, Ends::Space);
+            match text.split_at(len).1 {
+                [b'\\', ..] => 0,
+                _ => len,
+            }
+        }
+    }
+}
+
+// A span of what stands behind the front of a text, as a span of the text.
+#[tactic(auto, using(crate::proofs::Cuts::cut_behind))]
+fn span_behind(text: &[u8], start: usize, span: Span) -> Span
+    requires { start ≤ length text.now }
+    ensures value { cut text.now result ≡ cut (drop start text.now) span }
+    ensures bound { result.end ≤ length text.now }
+{
+    let end = span.end.min(text.len() - start);
+    Span {
+        start: start + span.start.min(end),
+        end: start + end,
+    }
+}
+
+// Adds an element that was found behind the front of a text.
+fn add_found(
+    list: &mut CutText,
+    made: &CharBuffer,
+    text: &[u8],
+    start: usize,
+    found: Option<Found>,
+) -> Result<(), AllocError>
+    requires same { list.old.text ≡ text.now }
+    requires bound { start ≤ length text.now }
+    ensures { OnOk result (list.new ≡ record { text = text.now; list = list.old.list ++ element_found made.now (drop start text.now) found }) }
+{
+    match found {
+        Some(Found::In(span)) => list.add_span(span_behind(text, start, span)),
+        Some(Found::Made) => list.add_chars(made.as_bytes()),
+        None => Ok(()),
+    }
+}
+
+// Adds the next element of a text, if one stands there, and tells how many bytes that took.
+fn add_next(
+    list: &mut CutText,
+    made: &mut CharBuffer,
+    text: &[u8],
+    start: usize,
+) -> Result<Option<usize>, ListFault>
+    requires same { list.old.text ≡ text.now }
+    requires text { IsText text.now }
+    requires bound { start ≤ length text.now }
+    ensures gives { ListGoes (drop start text.now) list.old.list list.new.list result }
+    ensures same { OnOk result (list.new.text ≡ text.now) }
+    ensures bound { IfOk result (λ o. IfSome o (λ n. (1 ≤ n) × (start + n ≤ length text.now))) }
+{
+    match read_element(made, text.split_at(start).1)? {
+        Some((element, more)) => {
+            add_found(list, made, text, start, element)?;
+            Ok(Some(1 + more))
+        }
+        None => Ok(None),
+    }
+}
+
+// The same. White space and bare elements that stand for themselves are told without a further call.
+fn take_next(
+    list: &mut CutText,
+    made: &mut CharBuffer,
+    text: &[u8],
+    start: usize,
+) -> Result<Option<usize>, ListFault>
+    requires same { list.old.text ≡ text.now }
+    requires text { IsText text.now }
+    requires bound { start ≤ length text.now }
+    ensures gives { ListGoes (drop start text.now) list.old.list list.new.list result }
+    ensures same { OnOk result (list.new.text ≡ text.now) }
+    ensures bound { IfOk result (λ o. IfSome o (λ n. (1 ≤ n) × (start + n ≤ length text.now))) }
+{
+    let rest = text.split_at(start).1;
+    if begins_with_space(rest) {
+        return Ok(Some(1));
+    }
+    let len = bare_len(rest);
+    if len == 0 {
+        return add_next(list, made, text, start);
+    }
+    let end = start + len;
+    list.add_span(Span { start, end })?;
+    Ok(Some(len))
+}
+
 // The elements of a text, up to its end.
 fn read_list(alloc: Global, text: &Txt) -> Result<Elements, ListFault>
     ensures { ListRead result (list_of text.now) }
 {
-    let mut list = Elements::with_room(alloc, first_room(text), text.len())?;
+    let bytes = text.as_bytes();
+    let mut list = CutText::of(alloc, bytes, first_room(text))?;
     let mut made = CharBuffer::new(alloc);
-    let mut rest = text.as_bytes();
-    'elements: while let Some((element, more)) = read_element(&mut made, rest)? {
-        add_element(&mut list, &made, rest, element)?;
-        rest = rest.split_at(1 + more).1;
+    let mut start = 0;
+    'elements: while let Some(taken) = take_next(&mut list, &mut made, bytes, start)? {
+        start += taken;
     }
-    Ok(list)
+    Ok(list.into_elements())
 }
 
 // The same, each as a text of its own.

@@ -1,7 +1,7 @@
 use Rattle.std.proofs.Common.{◌≡◌, ◌≤◌, length}
 use Rattle.tks_text.specs.Text.{IsText}
 use Rattle.tks_list.specs.Reading.{list_of}
-use Rattle.tks_list.proofs.Loops.{behind_list}
+use Rattle.tks_list.specs.Gives.{behind_list}
 use Rattle.tks_list.proofs.reading.split_list.Given as goal
 
 abbrev pub invariant-elements : goal.invariant-elements
