@@ -1,5 +1,6 @@
 -- The loops over the characters of an element and over elements.
 use Rattle.std.proofs.Common.{◌≡◌, ℕ, ◌+◌, ◌-◌, ◌<◌, ◌≤◌, List, [], ◌++◌, append_assoc, append-nil, length, drop, Option, Some, None, Err, refl, sym, ap, subst, ◌∙◌, arith}
+use Rattle.std.proofs.Math.Seq.{drop-length}
 use Rattle.tks_text.specs.Run.{stop, takes, Run, run}
 use Rattle.tks_text.proofs.Runs.{behind, run_stops, run_fails, run_takes, loop_goes, loop_stops, loop_fails}
 use Rattle.tks_list.specs.declared.ends.Ends.{Ends}
@@ -45,6 +46,10 @@ pub list_stop : (front : List (List ℕ)) (t : List ℕ) (all : Option (List (Li
 unfolding list_of elements_at element_step
 list_stop front t all h e =
     sym h ∙ ap (λ (r : Run ListFault (List (List ℕ))). behind_list front (without_fault r.items r.fault)) (run_stops [] element_step t e) ∙ ap Some (append-nil front)
+
+pub list_ends : (front : List (List ℕ)) (n : ℕ) (t : List ℕ) → n ≡ length t → behind_list front (list_of (drop n t)) ≡ Some front
+unfolding element_step
+list_ends front n t e = list_stop front (drop n t) _ refl (ap (λ u. element_step u) (ap (λ k. drop k t) e ∙ drop-length t))
 
 pub list_err : (front : List (List ℕ)) (t : List ℕ) (all : Option (List (List ℕ))) (f : ListFault) → behind_list front (list_of t) ≡ all → FailsStep f (element_step t) → ListRead (Err f) all
 unfolding list_of elements_at element_step

@@ -6,6 +6,9 @@ use crate::elements::{Elements, MAX_LEN, Span};
 use std::alloc::{AllocError, Global};
 use std::marker::Model;
 
+/// The most characters that room is made for before any are made.
+const MOST_MADE: usize = 32;
+
 /// A text that is being cut into elements: spans of a copy of it, and of characters that were made behind it.
 /// Contracts see the text, and the elements so far.
 pub struct CutText {
@@ -44,9 +47,12 @@ impl CutText {
         requires { IsText text.now }
         ensures { IfOk result (λ c. c ≡ record { text = text.now; list = [] }) }
     {
+        let len = text.len();
+        let mut bytes = Vec::with_capacity(alloc, len + len.min(MOST_MADE))?;
+        bytes.extend_from_slice(text)?;
         Ok(CutText {
-            bytes: Vec::from_slice(alloc, text)?,
-            len: text.len(),
+            bytes,
+            len,
             spans: Vec::with_capacity(alloc, count)?,
         })
     }

@@ -317,7 +317,7 @@ fn add_next(
     }
 }
 
-// The same. White space and bare elements that stand for themselves are told without a further call.
+// The same. The end, white space and bare elements that stand for themselves are told without a further call.
 fn take_next(
     list: &mut CutText,
     made: &mut CharBuffer,
@@ -331,6 +331,9 @@ fn take_next(
     ensures same { OnOk result (list.new.text ≡ text.now) }
     ensures bound { IfOk result (λ o. IfSome o (λ n. (1 ≤ n) × (start + n ≤ length text.now))) }
 {
+    if start == text.len() {
+        return Ok(None);
+    }
     let rest = text.split_at(start).1;
     if begins_with_space(rest) {
         return Ok(Some(1));

@@ -1,10 +1,10 @@
-use Rattle.std.proofs.Common.{◌+◌, ◌≤◌, ◌∷◌, ◌++◌, [], List, ℕ, length, take, drop, append-nil, refl, sym, ap, ◌∙◌, arith}
+use Rattle.std.proofs.Common.{◌+◌, ◌≤◌, ◌∷◌, ◌++◌, [], List, ℕ, length, take, drop, append-nil, refl, sym, ap, ◌∙◌, arith, rules}
 use Rattle.std.proofs.lemmas.List.{drop-take}
 use Rattle.std.proofs.lemmas.Bool.Decides.{nat_tests}
 use Rattle.tks_list.specs.Cuts.{cut, CutSoFar}
 use Rattle.tks_list.specs.Gives.{behind_list}
 use Rattle.tks_list.specs.Reading.{list_of}
-use Rattle.tks_list.proofs.Loops.{list_goes}
+use Rattle.tks_list.proofs.Loops.{list_goes, list_ends}
 use Rattle.tks_list.proofs.reading.take_next.Goals as goal
 
 pub returns-clause-gives : goal.returns-clause-gives
@@ -30,3 +30,6 @@ returns-then-begins_with_space-clause-gives c =
     let within : 1 ≤ length rest = rw c.split_at.ensures.back at c.if-begins_with_space.ensures.bound refl in
     let step = rw c.split_at.ensures.back at c.if-begins_with_space.ensures.step refl in
     sym (ap (λ l. behind_list l (list_of (drop 1 rest))) (append-nil front)) ∙ list_goes front [] 1 rest one within step
+
+pub returns-then-start-text-clause-gives : goal.returns-then-start-text-clause-gives
+returns-then-start-text-clause-gives c = list_ends c.args.list.now.list c.args.start c.args.text.now (search rules)
