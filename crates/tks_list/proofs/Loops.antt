@@ -1,6 +1,7 @@
 -- The loops over the characters of an element and over elements.
-use Rattle.std.proofs.Common.{◌≡◌, ℕ, ◌+◌, ◌-◌, ◌<◌, ◌≤◌, List, [], ◌++◌, append_assoc, append-nil, length, drop, Option, Some, None, Err, refl, sym, ap, subst, ◌∙◌, arith}
+use Rattle.std.proofs.Common.{◌≡◌, ℕ, ◌+◌, ◌-◌, ◌<◌, ◌≤◌, List, [], ◌∷◌, ◌++◌, true, get_or, append_assoc, append-nil, length, drop, Option, Some, None, Err, refl, sym, ap, subst, ◌∙◌, arith}
 use Rattle.std.proofs.Math.Seq.{drop-length}
+use Rattle.tks_text.specs.Integer.{is_space}
 use Rattle.tks_text.specs.Run.{stop, takes, Run, run}
 use Rattle.tks_text.proofs.Runs.{behind, run_stops, run_fails, run_takes, loop_goes, loop_stops, loop_fails}
 use Rattle.tks_list.specs.declared.ends.Ends.{Ends}
@@ -60,3 +61,11 @@ list_err front t all NotAList h e =
 pub list_start : (o : Option (List (List ℕ))) → behind_list [] o ≡ o
 list_start None = refl
 list_start (Some l) = refl
+
+-- a space before a list
+pub space_passed : (t : List ℕ) → is_space (get_or t 0 0) ≡ true → list_of (drop 1 t) ≡ list_of t
+unfolding element_step
+space_passed [] e = absurd cc
+space_passed (c ∷ u) e =
+    let step : element_step (c ∷ u) ≡ takes (λ l. [] ++ l) 0 = rw e refl in
+    sym (list_start (list_of u)) ∙ list_go [] [] 0 (c ∷ u) (list_of (c ∷ u)) (list_start (list_of (c ∷ u))) step (omega arith)

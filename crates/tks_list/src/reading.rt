@@ -227,15 +227,20 @@ fn first_room(text: &Txt) -> usize {
     text.len().div_ceil(2).min(MOST_ROOM)
 }
 
-// Whether a text begins with white space.
-#[tactic(auto, unfolding(crate::specs::Reading::element_step))]
-fn begins_with_space(text: &[u8]) -> bool
-    ensures step { result ≡ true → element_step text.now ≡ takes (λ l. [] ++ l) 0 }
-    ensures bound { result ≡ true → 1 ≤ length text.now }
+// How many bytes of white space a text begins with, at most one.
+#[tactic(auto, using(crate::proofs::Loops::space_passed))]
+fn first_space(text: &[u8]) -> usize
+    ensures same { list_of (drop result text.now) ≡ list_of text.now }
+    ensures bound { result ≤ length text.now }
 {
     match text {
-        [c, ..] => is_space(*c),
-        [] => false,
+        [] => 0,
+        [first, ..] => {
+            if is_space(*first) {
+                return 1;
+            }
+            0
+        }
     }
 }
 
@@ -335,8 +340,9 @@ fn take_next(
         return Ok(None);
     }
     let rest = text.split_at(start).1;
-    if begins_with_space(rest) {
-        return Ok(Some(1));
+    let space = first_space(rest);
+    if space > 0 {
+        return Ok(Some(space));
     }
     let len = bare_len(rest);
     if len == 0 {
@@ -344,7 +350,7 @@ fn take_next(
     }
     let end = start + len;
     list.add_span(Span { start, end })?;
-    Ok(Some(len))
+    Ok(Some(len + first_space(text.split_at(end).1)))
 }
 
 // The elements of a text, up to its end.
