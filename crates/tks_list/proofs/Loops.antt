@@ -48,6 +48,7 @@ unfolding list_of elements_at element_step
 list_stop front t all h e =
     sym h ∙ ap (λ (r : Run ListFault (List (List ℕ))). behind_list front (without_fault r.items r.fault)) (run_stops [] element_step t e) ∙ ap Some (append-nil front)
 
+-- the end of a text
 pub list_ends : (front : List (List ℕ)) (n : ℕ) (t : List ℕ) → n ≡ length t → behind_list front (list_of (drop n t)) ≡ Some front
 unfolding element_step
 list_ends front n t e = list_stop front (drop n t) _ refl (ap (λ u. element_step u) (ap (λ k. drop k t) e ∙ drop-length t))

@@ -245,7 +245,6 @@ fn first_space(text: &[u8]) -> usize
 }
 
 // How many bytes a bare element takes that a text begins with and that stands for itself, or 0 where there is none.
-#[tactic(auto, using(crate::proofs::Plain::bare_taken))]
 fn bare_len(text: &[u8]) -> usize
     ensures step { 1 ≤ result → element_step text.now ≡ takes (λ l. (take result text.now ∷ []) ++ l) (result - 1) }
     ensures bound { result ≤ length text.now }
