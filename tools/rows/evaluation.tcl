@@ -150,6 +150,34 @@ rows::ask_fresh "lists in variables, and what runs where it stands" {
     {if {[set n 3] > 2} {set r [incr n]}; list $n $r}
 }
 
+rows::ask_fresh "last calls, and words that are lent" {
+    {proc f n {if {$n < 2} {return $n}; expr {[f [expr {$n - 1}]] + [f [expr {$n - 2}]]}}; f 8}
+    {proc f n {if {$n == 0} {return end}; f [expr {$n - 1}]}; list [f 3] [f 0]}
+    {proc f {} {return [g]}; proc g {} {return [h]}; proc h {} {error deep}; list [catch f m] $m}
+    {proc f {} {g}; proc g {} {break}; list [catch {foreach x {1 2} {f}} m] $m}
+    {proc f {args} {llength $args}; list [f] [f a] [f {a b} c]}
+    {proc f {l} {if {[llength $l] == 0} {return {}}; concat [f [lrange $l 1 end]] [lrange $l 0 0]}; f {a b {c d} e}}
+    {proc f {x} {g $x; g [g $x]}; proc g {x} {incr x}; list [f 1] [f 5]}
+    {proc f {x} {if {$x} {g $x} else {list none}}; proc g {x} {list some $x}; list [f 0] [f 1]}
+    {proc f {x} {expr {[g $x] * [g [expr {$x + 1}]] - [g 0]}}; proc g {x} {expr {$x * $x}}; f 3}
+    {proc e {} {}; proc k {} {e; e}; for {set n 0} {$n < 40} {incr n} {k}; list $n [k]}
+    {set l {a {b c} d}; list [lrange $l 0 1] [lrange $l 1 end] [lrange $l end end] [lrange $l 2 0] [lrange $l 0 9] [lrange $l end-1 end]}
+    {set l {a b c}; set i 1; list [lrange $l $i end] [lrange $l 0 $i] [lindex $l $i] [llength $l]}
+    {set l "a \{b"; list [catch {lrange $l 0 0} m] $m}
+    {set l {a b c}; list [catch {lrange $l x 1} m] $m [catch {lrange $l 0} n] $n}
+    {set l "one two {three four} five six seven eight"; list [lrange $l 1 2] [lrange $l end-1 end]}
+    {set x 5; list [catch {return $x} r] $r [catch {return} s] $s}
+    {proc f {} {set x 1; return $x$x}; proc g {} {return "a b"}; proc h {} {return}; list [f] [g] [h]}
+    {list [expr {[set x 3] + 4}] [expr {1 + [set y 5]}] [expr {[set x] * [set y] - [set x]}]}
+    {list [expr {-[llength {a b}]}] [expr {![llength {}]}] [expr {[llength {a}] ? [string length ab] : [nope]}]}
+    {list [expr {"[string length abc]" + 1}] [expr {[list 0x10] + 0}] [expr {[list 12]}] [expr {[list 0x1F]}]}
+    {list [expr {999999999999999999}] [expr {[list 1000000000000000000]}] [expr {[list -12]}] [expr {[list abc]}] [expr {[list 0]}]}
+    {foreach x {} {error never}; foreach x {1 2} {set y $x}; set y}
+    {list [catch {foreach} a] $a [catch {foreach x} b] $b [catch {foreach x {1 2}} c] $c}
+    {proc f {l} {foreach x $l {if {$x > 1} {return $x}}; list none}; list [f {0 1 2 3}] [f {0 1}]}
+    {proc f {} {foreach x {1 2 3} {g $x}; g end}; proc g {x} {global r; lappend r $x}; f; set r}
+}
+
 session "evaluation: wrong words, and bad names of procedures"
 foreach {script answer} {
     foo {E09 foo}  {list [set q]} {E11 q}  {set a(1) x; set b $a} {E12 a}  catch {E10 catch}  {catch a b c} {E10 catch}
