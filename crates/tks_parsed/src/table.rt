@@ -1,28 +1,31 @@
-ghost use Rattle.std.specs.Prelude.{◌≡◌, IfOk, IfSome, Ok};
+ghost use Rattle.std.specs.Prelude.{◌≡◌, IfOk, Ok};
 ghost use Rattle.tks_expr.specs.Reading.{expr_of};
 ghost use Rattle.tks_parse.specs.Reading.{script_of};
 ghost use Rattle.tks_text.specs.Fault.{Gives};
 
 use crate::known::{KnownExpr, KnownScript};
+use crate::places::Places;
 use std::alloc::{AllocError, Global};
 use std::marker::Model;
 use tks_expr::{Expr, parse_expr};
 use tks_parse::{Script, parse};
-use tks_tcl::ListTable;
 use tks_text::{Failure, Txt};
 
-/// How many scripts, and how many expressions, a table keeps.
-const PLACES: usize = 32;
-
-/// Scripts and expressions that were parsed in a run, each with its text, and lists that were read. Where no place is left,
-/// the oldest goes. Contracts see nothing of what is kept, and want of memory keeps nothing more.
-#[derive(Drop)]
+/// Scripts and expressions that were parsed, each with its text: the last 32 of each. Contracts see nothing of what is kept, and
+/// want of memory keeps nothing more.
 pub struct ParseTable {
-    scripts: Vec<KnownScript>,
-    exprs: Vec<KnownExpr>,
-    oldest_script: usize,
-    oldest_expr: usize,
-    lists: ListTable,
+    scripts: Places<KnownScript>,
+    exprs: Places<KnownExpr>,
+}
+
+// Written out, so that to let go of a table is one step for whoever owns it.
+impl Drop for ParseTable {
+    fn drop(self) {
+        let ParseTable {
+            scripts: _,
+            exprs: _,
+        } = self;
+    }
 }
 
 impl Model for ParseTable {
@@ -31,27 +34,12 @@ impl Model for ParseTable {
     ghost view = { λ _. tt };
 }
 
-// Puts an item behind the others, or where no place is left in this one.
-fn keep<T: Drop>(items: &mut Vec<T>, oldest: usize, item: T) -> usize {
-    if items.len() < PLACES {
-        let _ = items.push(item);
-        return 0;
-    }
-    if let Some(place) = items.get_mut(oldest) {
-        *place = item;
-    }
-    if oldest < PLACES - 1 { oldest + 1 } else { 0 }
-}
-
 impl ParseTable {
     /// Nothing kept. A table is seen as nothing at all, so there is nothing that a clause could tell of one.
     pub fn new(alloc: Global) -> ParseTable {
         ParseTable {
-            scripts: Vec::new(alloc),
-            exprs: Vec::new(alloc),
-            oldest_script: 0,
-            oldest_expr: 0,
-            lists: ListTable::new(alloc),
+            scripts: Places::new(alloc),
+            exprs: Places::new(alloc),
         }
     }
 
@@ -59,28 +47,16 @@ impl ParseTable {
     fn keep_script(&mut self, text: &Txt, script: &Script) -> Result<(), AllocError>
         requires { script.now ≡ script_of text.now }
     {
-        let kept = KnownScript::new(text, script.share()?)?;
-        self.oldest_script = keep(&mut self.scripts, self.oldest_script, kept);
+        let known = KnownScript::new(text, script.share()?)?;
+        self.scripts.keep(known);
         Ok(())
-    }
-
-    // The script that is kept of a text.
-    fn kept_script(&self, text: &Txt) -> Option<Script>
-        ensures { IfSome result (λ s. s ≡ script_of text.now) }
-    {
-        for kept in self.scripts.as_slice() {
-            if let Some(script) = kept.script_of(text) {
-                return Some(script);
-            }
-        }
-        None
     }
 
     /// The script that a text spells, parsed where it isn't kept, and then kept where memory serves.
     pub fn script(&mut self, alloc: Global, text: &Txt) -> Result<Script, AllocError>
         ensures { IfOk result (λ s. s ≡ script_of text.now) }
     {
-        if let Some(script) = self.kept_script(text) {
+        if let Some(script) = self.scripts.find(text) {
             return Ok(script);
         }
         let script = parse(alloc, text)?;
@@ -92,28 +68,16 @@ impl ParseTable {
     fn keep_expr(&mut self, text: &Txt, expr: &Expr) -> Result<(), AllocError>
         requires { expr_of text.now ≡ Ok expr.now }
     {
-        let kept = KnownExpr::new(text, Some(expr.share()?))?;
-        self.oldest_expr = keep(&mut self.exprs, self.oldest_expr, kept);
+        let known = KnownExpr::new(text, Some(expr.share()?))?;
+        self.exprs.keep(known);
         Ok(())
-    }
-
-    // The expression that is kept of a text.
-    fn kept_expr(&self, text: &Txt) -> Option<Expr>
-        ensures { IfSome result (λ e. expr_of text.now ≡ Ok e) }
-    {
-        for kept in self.exprs.as_slice() {
-            if let Some(expr) = kept.expr_of(text) {
-                return Some(expr);
-            }
-        }
-        None
     }
 
     /// The expression that a text spells, parsed where it isn't kept, and then kept where memory serves.
     pub fn expr(&mut self, alloc: Global, text: &Txt) -> Result<Expr, Failure>
         ensures { Gives (λ e. e) result (expr_of text.now) }
     {
-        if let Some(expr) = self.kept_expr(text) {
+        if let Some(expr) = self.exprs.find(text) {
             return Ok(expr);
         }
         let expr = parse_expr(alloc, text)?;
@@ -140,8 +104,9 @@ impl ParseTable {
         }
     }
 
-    /// The lists that were read.
-    pub fn lists(&mut self) -> &mut ListTable {
-        &mut self.lists
+    /// Lets go of texts of more than 4,096 bytes, so that what is kept for further inputs takes bounded memory.
+    pub fn keep_short(&mut self) {
+        self.scripts.keep_short();
+        self.exprs.keep_short();
     }
 }

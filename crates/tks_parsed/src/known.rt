@@ -3,6 +3,7 @@ ghost use Rattle.tks_parse.specs.Reading.{script_of};
 ghost use Rattle.tks_expr.specs.Reading.{expr_of};
 ghost use Rattle.tks_text.specs.Fault.{Gives};
 
+use crate::places::Known;
 use std::alloc::{AllocError, Global};
 use std::marker::Model;
 use tks_expr::{Expr, parse_expr};
@@ -29,7 +30,7 @@ impl Model for KnownScript {
 
 impl KnownScript {
     /// This text, with its script.
-    pub fn new(text: &Txt, script: Script) -> Result<KnownScript, AllocError>
+    pub(crate) fn new(text: &Txt, script: Script) -> Result<KnownScript, AllocError>
         requires { script ≡ script_of text.now }
         ensures { IfOk result (λ k. k ≡ text.now) }
     {
@@ -45,14 +46,23 @@ impl KnownScript {
     {
         &self.script
     }
+}
 
-    /// The script, where this is its text.
-    pub fn script_of(&self, text: &Txt) -> Option<Script>
-        ensures { IfSome result (λ s. s ≡ script_of text.now) }
-    {
-        if self.text != *text {
-            return None;
-        }
+impl Known for KnownScript {
+    ghost use Rattle.std.specs.Prelude.{◌≡◌};
+    ghost use Rattle.tks_parse.specs.Reading.{script_of};
+
+    type Tree = Script;
+
+    ghost text_of = { λ known. known };
+
+    ghost spells = { λ text script. script ≡ script_of text };
+
+    fn text(&self) -> &Txt {
+        &self.text
+    }
+
+    fn tree(&self) -> Option<Script> {
         match self.script.share() {
             Ok(script) => Some(script),
             Err(_) => None,
@@ -80,7 +90,7 @@ impl Model for KnownExpr {
 
 impl KnownExpr {
     /// This text, with its expression, if that is there.
-    pub fn new(text: &Txt, expr: Option<Expr>) -> Result<KnownExpr, AllocError>
+    pub(crate) fn new(text: &Txt, expr: Option<Expr>) -> Result<KnownExpr, AllocError>
         requires { IfSome expr (λ e. expr_of text.now ≡ Ok e) }
         ensures { IfOk result (λ k. k ≡ text.now) }
     {
@@ -99,14 +109,23 @@ impl KnownExpr {
             None => parse_expr(alloc, &self.text),
         }
     }
+}
 
-    /// The expression, where this is its text.
-    pub fn expr_of(&self, text: &Txt) -> Option<Expr>
-        ensures { IfSome result (λ e. expr_of text.now ≡ Ok e) }
-    {
-        if self.text != *text {
-            return None;
-        }
+impl Known for KnownExpr {
+    ghost use Rattle.std.specs.Prelude.{◌≡◌, Ok};
+    ghost use Rattle.tks_expr.specs.Reading.{expr_of};
+
+    type Tree = Expr;
+
+    ghost text_of = { λ known. known };
+
+    ghost spells = { λ text expr. expr_of text ≡ Ok expr };
+
+    fn text(&self) -> &Txt {
+        &self.text
+    }
+
+    fn tree(&self) -> Option<Expr> {
         match self.expr.as_ref()?.share() {
             Ok(expr) => Some(expr),
             Err(_) => None,
