@@ -49,6 +49,7 @@ pub(crate) struct Places<T> {
     places: Vec<Place<T>>,
     oldest: usize,
     last: usize,
+    holds_long: bool,
 }
 
 impl<T> Model for Places<T> {
@@ -69,6 +70,7 @@ impl<T: Known> Places<T> {
             places: Vec::new(alloc),
             oldest: 0,
             last: 0,
+            holds_long: false,
         }
     }
 
@@ -142,13 +144,19 @@ impl<T: Known> Places<T> {
 
     /// Keeps this too.
     pub fn keep(&mut self, known: T) {
+        if known.text().len() > LONGEST {
+            self.holds_long = true;
+        }
         let index = self.put(known);
         self.went_to(index);
     }
 
     /// Lets go of what has a long text.
     pub fn keep_short(&mut self) {
-        self.places
-            .retain(|place| place.known.text().len() <= LONGEST);
+        if self.holds_long {
+            self.places
+                .retain(|place| place.known.text().len() <= LONGEST);
+            self.holds_long = false;
+        }
     }
 }
