@@ -8,13 +8,12 @@ use Rattle.std.specs.Cmp.Lexicographic as texts
 use Rattle.std.specs.Cmp.Lexicographic.{nat_list_cmp_total, texts_ties}
 use Rattle.std.proofs.lemmas.Bool.Decides.{nat_tests}
 use Rattle.std.proofs.lemmas.Cmp.{eq_by_cmp_equiv}
-use Rattle.std.proofs.lemmas.List.{length-append, length-set}
 use Rattle.std.proofs.lemmas.List.Quantifiers.{position-Some}
 use Rattle.std.proofs.lemmas.Option.{slice_get-get_or}
 use Rattle.tks_text.specs.Text.{same_text}
 use Rattle.tks_share.specs.Maps.{IsChangedIn}
 use Rattle.tks_vars.specs.Table.{Map}
-use Rattle.tks_vars.specs.Few.{put_behind, AreApart, put_at, IsChangedAt, Lacks}
+use Rattle.tks_vars.specs.Few.{put_behind, AreApart, IsChangedAt, Lacks}
 use Rattle.tks_vars.proofs.Entries.{order, put_last}
 use Rattle.tks_vars.proofs.Keeping.{same_or_other, put_here, put_elsewhere, taken_here, taken_elsewhere}
 
@@ -220,11 +219,6 @@ module _ {V : Type 0} (k : List ℕ) where
 
   -- ---- wherever the name is
 
-  -- what is put there, or behind them all, is put into the whole
-  pub put_one : (m : Map V) (v : V) (es : List (List ℕ × V)) (o : Option ℕ) → position is es ≡ o → put_behind m (put_at o (k, v) es) ≡ fin.insert (put_behind m es) k v
-  put_one m v es None e = put_at_end m v es (lacks es e)
-  put_one m v es (Some i) e = set_at m v es i e
-
   there : (m : Map V) (es : List (List ℕ × V)) (i : ℕ) → position is es ≡ Some i → fin.contains_key (put_behind m es) k ≡ true
   there m [] i e = absurd (true≢false (ap is_some (sym e)))
   there m (x ∷ es) i e = ap is_some (found_at m (x ∷ es) i x e)
@@ -239,16 +233,13 @@ module _ {V : Type 0} (k : List ℕ) where
       let whole = put_behind m es in
       ap (λ o. if is_some o then fin.len whole else fin.len whole + 1) (sym (found_behind m es h)) ∙ sym (fin.len-insert nat_list_cmp_total whole k v)
 
-  -- each entry still has a name of its own
-  pub stay_apart : (v : V) (es : List (List ℕ × V)) (o : Option ℕ) → position is es ≡ o → AreApart es → AreApart (put_at o (k, v) es)
-  stay_apart v es None e apart =
+  -- an entry of a name that the others don't have joins them
+  pub joined_apart : (v : V) (es : List (List ℕ × V)) → Lacks k es → AreApart es → AreApart ((k, v) ∷ es)
+  joined_apart v es h apart =
       let whole = put_behind fin.empty es in
-      length-append es ((k, v) ∷ []) ∙ ap (λ n. n + 1) apart
-      ∙ ap (λ o. if is_some o then fin.len whole else fin.len whole + 1) (sym (fin.get-empty order k)) ∙ len_behind fin.empty v es (lacks es e)
-      ∙ sym (ap fin.len (put_one fin.empty v es None e))
-  stay_apart v es (Some i) e apart =
-      length-set es i (k, v) ∙ apart ∙ len_at fin.empty v es i e
-      ∙ sym (ap fin.len (put_one fin.empty v es (Some i) e))
+      let grown : fin.len whole + 1 ≡ fin.len (fin.insert whole k v) =
+      ap (λ o. if is_some o then fin.len whole else fin.len whole + 1) (sym (fin.get-empty order k)) ∙ len_behind fin.empty v es h in
+      omega (arith, apart, grown)
 
   pub taken_everywhere : (m : Map V) (es : List (List ℕ × V)) → put_behind (fin.remove m k) (filter (λ e. not (is e)) es) ≡ fin.remove (put_behind m es) k
   taken_everywhere m [] = refl

@@ -9,3 +9,4 @@ pub mod Spelled
 pub mod Framing
 pub mod Growing
 pub mod Firsts
+pub mod Calling

@@ -1,9 +1,12 @@
 -- Names with what stands under them, in a list.
-use Rattle.std.specs.Prelude.{◌≡◌, ◌≢◌, ℕ, List, [], ◌∷◌, ◌++◌, length, Option, Some, None, slice_get, slice_set}
+use Rattle.std.specs.Prelude.{◌≡◌, ◌≢◌, ℕ, List, [], ◌∷◌, length, Some, slice_get, slice_set}
 use Rattle.std.specs.Coded.{Coded, coded×, coded_list, coded_ℕ}
 use Rattle.std.specs.FinMap as fin
 use Rattle.tks_vars.specs.Table.{Map}
+use Rattle.tks_vars.specs.declared.content.Content.TheVariants.{Scalar, Array}
 use Rattle.tks_vars.specs.declared.content.Local.{Local}
+use Rattle.tks_vars.specs.declared.content.Local.TheVariants.{Own, Link}
+use Rattle.tks_vars.specs.declared.procedure.Argument.{Argument}
 use Rattle.tks_vars.specs.contracts.content.Local as local
 
 -- a name, and what stands under it
@@ -23,11 +26,6 @@ module _ {V : Type 0} where
   abbrev pub AreApart : List (List ℕ × V) → Type 0
   AreApart es = length es ≡ fin.len (put_behind fin.empty es)
 
-  -- the entries with this one in the place of another, or behind them all
-  abbrev pub put_at : Option ℕ → List ℕ × V → List (List ℕ × V) → List (List ℕ × V)
-  put_at None e es = es ++ e ∷ []
-  put_at (Some place) e es = slice_set es place e
-
   -- no entry has the name
   abbrev pub Lacks : List ℕ → List (List ℕ × V) → Type 0
   Lacks name [] = Unit {0}
@@ -41,3 +39,19 @@ module _ {V : Type 0} where
     pub found : slice_get old place ≡ Some (name, before)
     pub given : gives before after answer
     pub now : new ≡ slice_set old place (name, after)
+
+-- The arguments of a call.
+
+-- the value of a scalar
+abbrev pub value_held : Local → List ℕ
+value_held (Own (Scalar value)) = value
+value_held (Own (Array elements)) = []
+value_held Link = []
+
+-- what the frame of the call holds of an argument
+abbrev pub entry_of : Argument → Entry
+entry_of x = (x.name, Own (Scalar x.value))
+
+-- the argument of which it holds this
+abbrev pub argument_of : Entry → Argument
+argument_of e = record { name = e.0; value = value_held e.1 }

@@ -1,6 +1,6 @@
-ghost use Rattle.std.specs.Prelude.{◌≡◌, ◌<◌, ◌++◌, [], ◌∷◌, length, get_or, slice_set, position, filter, not, IfOk, IfSome, OnOk, OnErr};
+ghost use Rattle.std.specs.Prelude.{◌≡◌, ◌<◌, ◌++◌, [], ◌∷◌, true, length, get_or, slice_set, position, filter, not, IfOk, IfSome, IfNone, OnOk, OnErr};
 ghost use Rattle.tks_text.specs.Text.{same_text};
-ghost use Rattle.tks_vars.specs.Few.{IsChangedAt, put_at};
+ghost use Rattle.tks_vars.specs.Few.{IsChangedAt, AreApart};
 
 use crate::content::Local;
 use std::alloc::{AllocError, Global};
@@ -56,9 +56,7 @@ impl Few {
         ensures bound { IfSome result (λ place. place < length self.now) }
         ensures value { result ≡ position (λ e. same_text e.0 name.now) self.now }
     {
-        self.entries
-            .iter()
-            .position(|entry| entry.0.as_bytes() == name)
+        place_in(self.entries.as_slice(), name)
     }
 
     /// The name at a place, with what stands under it.
@@ -86,21 +84,26 @@ impl Few {
         Ok(())
     }
 
-    /// Puts a value under a name, in the place of the first one with it, or behind them all where there is none.
-    pub fn put(&mut self, name: Txt, value: Local) -> Result<(), AllocError>
-        ensures ok { OnOk result (self.new ≡ put_at (position (λ e. same_text e.0 name) self.old) (name, value) self.old) }
-        ensures err { OnErr result (self.new ≡ self.old) }
+    /// Takes the last one out.
+    pub fn pop(&mut self) -> Option<(Txt, Local)>
+        ensures some { IfSome result (λ e. self.old ≡ self.new ++ e ∷ []) }
+        ensures none { IfNone result ((self.old ≡ []) × (self.new ≡ [])) }
     {
-        match self.place(name.as_bytes()) {
-            Some(place) => {
-                self.set(place, name, value);
-                Ok(())
-            }
-            None => {
-                self.push(name, value)?;
-                Ok(())
-            }
-        }
+        self.entries.pop()
+    }
+
+    /// The entries.
+    pub fn as_slice(&self) -> &[(Txt, Local)]
+        ensures { result.now ≡ self.now }
+    {
+        self.entries.as_slice()
+    }
+
+    /// Whether they are few, and no two have one name.
+    pub fn are_few_apart(&self) -> bool
+        ensures { result ≡ true → AreApart self.now }
+    {
+        self.entries.len() <= FEW && are_apart(self.entries.as_slice())
     }
 
     /// Takes a name out, wherever it is.
@@ -118,6 +121,28 @@ impl Few {
         let entry = &mut self.entries[place];
         change.change(&mut entry.1)
     }
+}
+
+// The place of the first entry with this name.
+fn place_in(entries: &[(Txt, Local)], name: &[u8]) -> Option<usize>
+    ensures bound { IfSome result (λ place. place < length entries.now) }
+    ensures value { result ≡ position (λ e. same_text e.0 name.now) entries.now }
+{
+    entries.iter().position(|entry| entry.0.as_bytes() == name)
+}
+
+// Whether no two entries have one name.
+fn are_apart(entries: &[(Txt, Local)]) -> bool
+    ensures { result ≡ true → AreApart entries.now }
+{
+    let mut rest = entries;
+    while let Some((entry, behind)) = rest.split_first() {
+        if place_in(behind, entry.0.as_bytes()).is_some() {
+            return false;
+        }
+        rest = behind;
+    }
+    true
 }
 
 impl Copied for Few {

@@ -15,6 +15,7 @@ mod table;
 mod vars;
 mod writing;
 
+pub use call::Arguments;
 pub use content::Content;
 pub use laws::{
     a_frame_leaves_nothing, a_link_is_the_global, an_element_has_an_index, frames_stay,

@@ -7,7 +7,7 @@ pub struct Parameter {
     pub default: Option<Txt>,
 }
 
-/// A parameter's name, and the value that a call gives it.
+/// A parameter's name, and the value that a call gives it. `Arguments` keeps them as a frame's entries, and contracts see these.
 #[derive(Drop)]
 pub struct Argument {
     pub name: Txt,

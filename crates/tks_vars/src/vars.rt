@@ -7,12 +7,12 @@ ghost use Rattle.tks_vars.specs.Growth.{with_more};
 ghost use Rattle.tks_vars.specs.Meets.{AnswersSo, IsValue};
 ghost use Rattle.tks_vars.specs.Variables.{no_variables, at_global_level, innermost, content_of, is_global, value_at, value_of, with_value, global_value_at, global_value_of, with_global_value, without, exists, with_global_link, pushed, pushed_global, frame_of, pushed_with, frame_size, popped, with_procedure, size_in, grown_by_value, grown_by_global_value, grown_by_link};
 
-use crate::call::frame_of;
+use crate::call::{Arguments, frame_of};
 use crate::content::{Content, Local};
 use crate::frame::Frame;
 use crate::growth::{lengthen_global, lengthen_local};
 use crate::name::named;
-use crate::procedure::{Argument, Procedure};
+use crate::procedure::Procedure;
 use crate::reading::{keep_global, keep_local};
 use crate::table::Table;
 use crate::writing::{link, take_global, take_local, write_global, write_local};
@@ -361,9 +361,9 @@ impl Vars {
         Ok(())
     }
 
-    /// Begins a frame with these scalars. Of two with one name the first stays.
-    pub fn push_frame_with(&mut self, arguments: Vec<Argument>) -> Result<(), AllocError>
-        ensures ok { OnOk result (self.new ≡ pushed_with arguments.items self.old) }
+    /// Begins the frame of a call with these arguments. Of two with one name the first stays.
+    pub fn push_frame_with(&mut self, arguments: Arguments) -> Result<(), AllocError>
+        ensures ok { OnOk result (self.new ≡ pushed_with arguments self.old) }
         ensures err { OnErr result (self.new ≡ self.old) }
     {
         let frame = frame_of(self.alloc, arguments)?;
