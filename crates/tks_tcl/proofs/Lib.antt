@@ -10,3 +10,4 @@ pub mod Added
 pub mod Leaving
 pub mod Integers
 pub mod Answering
+pub mod Linked

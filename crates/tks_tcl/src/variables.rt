@@ -460,6 +460,9 @@ fn link_each(variables: &mut Vars, names: &[Txt], limits: &Limits) -> Result<(),
         link(variables, name, limits)?;
         return Ok(());
     }
+    if variables.link_new(names, limits.items as usize)? {
+        return Ok(());
+    }
     let mut left = variables.try_clone()?;
     link_all(&mut left, names, limits)?;
     *variables = left;

@@ -10,3 +10,4 @@ pub mod Framing
 pub mod Growing
 pub mod Firsts
 pub mod Calling
+pub mod Linked

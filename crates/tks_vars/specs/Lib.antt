@@ -8,3 +8,4 @@ pub mod Meets
 pub mod Growth
 pub mod Setting
 pub mod Few
+pub mod Links

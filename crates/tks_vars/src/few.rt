@@ -1,4 +1,4 @@
-ghost use Rattle.std.specs.Prelude.{◌≡◌, ◌<◌, ◌++◌, [], ◌∷◌, true, length, get_or, slice_set, position, filter, not, IfOk, IfSome, IfNone, OnOk, OnErr};
+ghost use Rattle.std.specs.Prelude.{◌≡◌, ◌<◌, ◌++◌, [], ◌∷◌, true, length, take, get_or, slice_set, position, filter, not, IfOk, IfSome, IfNone, OnOk, OnErr};
 ghost use Rattle.tks_text.specs.Text.{same_text};
 ghost use Rattle.tks_vars.specs.Few.{IsChangedAt, AreApart};
 
@@ -90,6 +90,13 @@ impl Few {
         ensures none { IfNone result ((self.old ≡ []) × (self.new ≡ [])) }
     {
         self.entries.pop()
+    }
+
+    /// Leaves the first so many.
+    pub fn truncate(&mut self, len: usize)
+        ensures { self.new ≡ take len self.old }
+    {
+        self.entries.truncate(len);
     }
 
     /// The entries.

@@ -1,12 +1,14 @@
 //! The variables of a procedure's call.
-ghost use Rattle.std.specs.Prelude.{◌≡◌, ◌+◌, if◌then◌else◌, IfOk, IfSome, IfNone, None, OnOk, OnErr, option_copied};
+ghost use Rattle.std.specs.Prelude.{◌≡◌, ◌+◌, if◌then◌else◌, true, false, IfOk, IfSome, IfNone, None, OnOk, OnErr, option_copied};
 ghost use Rattle.std.specs.FinMap as map;
 ghost use Rattle.tks_share.specs.Maps.{IsChangedIn};
 ghost use Rattle.tks_vars.specs.Few.{put_behind, AreApart, Lacks};
+ghost use Rattle.tks_vars.specs.Links.{IsLinked};
 ghost use Rattle.tks_vars.specs.Table.{IsName};
 
 use crate::content::Local;
 use crate::few::{FEW, Few};
+use crate::links::add_links;
 use crate::table::Table;
 use std::alloc::{AllocError, Global};
 use std::marker::Model;
@@ -137,6 +139,23 @@ impl Frame {
                 self.len = len;
                 Ok(())
             }
+        }
+    }
+
+    /// Makes these names links, where all are new, there are no more than so many names then, and these are few. Tells whether it
+    /// did; otherwise nothing changes.
+    pub fn link_new(&mut self, names: &[Txt], most: usize) -> Result<bool, AllocError>
+        ensures made { IfOk result (λ made. made ≡ true → IsLinked most names.now self.old self.new) }
+        ensures unmade { IfOk result (λ made. made ≡ false → self.new ≡ self.old) }
+        ensures err { OnErr result (self.new ≡ self.old) }
+    {
+        let first = self.first.get_mut(self.alloc)?;
+        match add_links(first, &self.rest, self.len, names, most)? {
+            Some(len) => {
+                self.len = len;
+                Ok(true)
+            }
+            None => Ok(false),
         }
     }
 

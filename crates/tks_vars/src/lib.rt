@@ -7,6 +7,7 @@ mod few;
 mod frame;
 mod growth;
 mod laws;
+mod links;
 mod name;
 mod procedure;
 mod reading;

@@ -4,6 +4,7 @@ ghost use Rattle.tks_text.specs.Fault.{Gives};
 ghost use Rattle.tks_list.specs.Growing.{TakesElements};
 ghost use Rattle.tks_list.specs.Reading.{list_of};
 ghost use Rattle.tks_vars.specs.Growth.{with_more};
+ghost use Rattle.tks_vars.specs.Links.{AreLinked};
 ghost use Rattle.tks_vars.specs.Meets.{AnswersSo, IsValue};
 ghost use Rattle.tks_vars.specs.Variables.{no_variables, at_global_level, innermost, content_of, is_global, value_at, value_of, with_value, global_value_at, global_value_of, with_global_value, without, exists, with_global_link, pushed, pushed_global, frame_of, pushed_with, frame_size, popped, with_procedure, size_in, grown_by_value, grown_by_global_value, grown_by_link};
 
@@ -403,6 +404,24 @@ impl Vars {
         };
         link(frame, name)?;
         Ok(())
+    }
+
+    /// Makes these names of the present frame links, as `link_global` does, where all are new in it, it has no more than so many
+    /// variables then, and these are few. Tells whether it did; otherwise nothing changes.
+    pub fn link_new(&mut self, names: &[Txt], most: usize) -> Result<bool, AllocError>
+        ensures made { IfOk result (λ made. made ≡ true → AreLinked most names.now self.old self.new) }
+        ensures unmade { IfOk result (λ made. made ≡ false → self.new ≡ self.old) }
+        ensures err { OnErr result (self.new ≡ self.old) }
+    {
+        if innermost(&self.locals).is_none() {
+            return Ok(true);
+        }
+        let top = self.locals.len() - 1;
+        let Some(frame) = &mut self.locals[top] else {
+            return Ok(true);
+        };
+        let made = frame.link_new(names, most)?;
+        Ok(made)
     }
 
     /// The procedure of a name.
