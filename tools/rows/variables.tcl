@@ -27,10 +27,18 @@ ask {set n 7; proc f {} {set n 1; list $n}; list [f] $n} {proc f {} {info exists
     {proc f {} {set n 1; catch {global n} m; set m}; f} {proc f {} {global n m; set m 2; incr n $m}; list [f] $n $m} \
     {set a(1) x; proc f {} {global a; set a(2) y; info exists a(1)}; list [f] $a(2)} {proc f {} {global a; set a}; f} \
     {proc f {} {global a; unset a(1) a(2); info exists a}; f} {proc f {} {set z 1; proc g {} {info exists z}; g}; f} \
-    {proc f {} {set n 5; proc g {} {global n; set n}; g}; f} {proc f {x} {global x; set x}; catch {f 1} m; set m}
+    {proc f {} {set n 5; proc g {} {global n; set n}; g}; f} {proc f {x} {global x; set x}; catch {f 1} m; set m} \
+    {set b 2; set c 3; proc f {} {global b c d; list $b $c [info exists d]}; f} {global b c; list $b $c} \
+    {proc f {} {global b c b; incr b; list $b $c}; list [f] $b} \
+    {proc f {} {global b; global c b d; set d 9; list $b $c $d}; list [f] $d} \
+    {proc f {p q r s t} {global b c h i j; set j $p; list $b $c $j $t}; list [f 1 2 3 4 5] $j} \
+    {proc f {} {global k1 k2 k3 k4 k5 k6 k7 k8 k9; set k9 1; set k1 2; list $k1 $k9}; list [f] $k1 $k9} \
+    {proc f {} {global k1 k9 u; set u $k1$k9; unset k1 k9; list $u [info exists k1]}; list [f] [info exists k1] [info exists k9]} \
+    {proc f {p} {set q $p; unset p q; list [info exists p] [info exists q]}; f 1}
 foreach {script answer} {
     {global (x)} {ok {}}  {proc f {} {global (x)}; f} {error {E17 (x)}}  {proc f {} {global k(x)}; f} {error {E17 k(x)}}
     {global} {error {E10 global}}  {proc f {} {catch {global n k(x)}; info exists n}; f} {ok 0}
+    {proc f {} {set c 1; catch {global b c d}; list [info exists b] [info exists d] $c}; f} {ok {0 0 1}}
     {proc f {} {global n; set n 1; unset n; global n; incr n}; f} {ok 1}  {set n} {ok 1}  {global n; set n} {ok 1}
 } {
     row $script {*}$answer

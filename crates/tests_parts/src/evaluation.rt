@@ -5,6 +5,7 @@ use crate::counter::Counter;
 use std::alloc::Global;
 use tks_eval::{Ended, Host, Plan, eval, eval_plan};
 use tks_parse::parse;
+use tks_parsed::ParseTable;
 use tks_tcl::Stop;
 use tks_text::{Limits, Seq, Txt};
 use tks_vars::Vars;
@@ -12,7 +13,8 @@ use tks_vars::Vars;
 // How a script ends on a host from nothing. A script that can't be held is one that stops for want of memory.
 fn ended(alloc: Global, host: &mut Counter, script: &Txt, limits: &Limits) -> Result<Ended, Stop> {
     let script = parse(alloc, script)?;
-    eval(alloc, host, &mut Vars::new(alloc), script, limits)
+    let mut parsed = ParseTable::new(alloc);
+    eval(alloc, host, &mut Vars::new(alloc), &mut parsed, script, limits)
 }
 
 // What a script comes to: its code and its text, or why it stops.
@@ -166,7 +168,8 @@ fn dispatched(alloc: Global, window: u64, scripts: &str) -> Option<(u32, u64)> {
     let mut host = Counter { alloc, count: 0 };
     let plan = Plan::Dispatch(window, chosen);
     let limits = Limits::format1();
-    let ended = eval_plan(alloc, &mut host, &mut Vars::new(alloc), plan, &limits).ok()?;
+    let mut parsed = ParseTable::new(alloc);
+    let ended = eval_plan(alloc, &mut host, &mut Vars::new(alloc), &mut parsed, plan, &limits).ok()?;
     if ended.code == 0 && ended.text.is_empty() {
         Some((host.count, ended.fuel))
     } else {

@@ -49,12 +49,19 @@ impl Model for Branches {
     ghost view = { λ b. record { tests = b.tests; otherwise = b.otherwise } };
 }
 
-// Whether a word is one of those that part the others.
+// Whether a word is one of those that part the others. Most aren't, by their first byte.
 fn is_keyword(word: &Txt) -> bool
     ensures { result ≡ is_keyword word.now }
 {
     let word = word.as_bytes();
-    is_word(word, b"then") || is_word(word, b"elseif") || is_word(word, b"else")
+    let [first, ..] = word else {
+        return false;
+    };
+    match *first {
+        b't' => is_word(word, b"then"),
+        b'e' => is_word(word, b"elseif") || is_word(word, b"else"),
+        _ => false,
+    }
 }
 
 // The condition and the body at the front of these words, and the words behind them.
@@ -187,7 +194,7 @@ impl Machine {
         ensures goes { GoesSo H.meaning limits.now (resume H.meaning limits.now self.old.left self.old.stack (if_holds holds (evaluate H.meaning limits.now self.old.left (script_of body.now)) (script_does (evaluate H.meaning limits.now self.old.left) (option_copied otherwise.entry)) (H.state host.now) variables.now self.old.fuel)) result self.new (H.state host.now) variables.now }
     {
         if holds {
-            return Ok(Now::Open(self.table.script(alloc, body)?));
+            return Ok(Now::Open(self.table.parsed().script(alloc, body)?));
         }
         self.open_otherwise(alloc, host, variables, otherwise, limits)
     }
@@ -264,7 +271,7 @@ impl Machine {
     {
         match otherwise {
             None => Ok(Now::At(Ending::silent(alloc))),
-            Some(body) => Ok(Now::Open(self.table.script(alloc, body)?)),
+            Some(body) => Ok(Now::Open(self.table.parsed().script(alloc, body)?)),
         }
     }
 
@@ -284,7 +291,7 @@ impl Machine {
         ensures goes { GoesSo H.meaning limits.now (resume H.meaning limits.now self.old.left (frame.Branch body rest ∷ self.old.stack) (End 0 text (H.state host.now) variables.now self.old.fuel)) result self.new (H.state host.now) variables.now }
     {
         if truth_of(&text)? {
-            return Ok(Now::Open(self.table.script(alloc, &body)?));
+            return Ok(Now::Open(self.table.parsed().script(alloc, &body)?));
         }
         if rest.tests.is_empty() {
             return self.open_otherwise(alloc, host, variables, rest.otherwise.as_ref(), limits);
@@ -312,7 +319,7 @@ impl Machine {
             return Ok(Now::At(end));
         }
         if truth_of(&end.text)? {
-            return Ok(Now::Open(self.table.script(alloc, &body)?));
+            return Ok(Now::Open(self.table.parsed().script(alloc, &body)?));
         }
         self.next_branch(alloc, host, variables, rest, limits)
     }

@@ -269,7 +269,7 @@ impl Machine {
             [script, name] => (script, Some(name.try_clone()?)),
             _ => return Err(error_about(ErrorNumber::WrongWords, command)),
         };
-        let script = self.table.script(alloc, script)?;
+        let script = self.table.parsed().script(alloc, script)?;
         self.stack.push(Frame::Catch { name })?;
         Ok(Now::Open(script))
     }
@@ -312,7 +312,7 @@ impl Machine {
         ensures goes { GoesSo H.meaning limits.now (resume H.meaning limits.now self.old.left self.old.stack (eval_does limits.now (evaluate H.meaning limits.now self.old.left) words.now (H.state host.now) variables.now self.old.fuel)) result self.new (H.state host.now) variables.now }
     {
         let text = concatenated_within(alloc, words, limits)?;
-        Ok(Now::Open(self.table.script(alloc, &text)?))
+        Ok(Now::Open(self.table.parsed().script(alloc, &text)?))
     }
 
     // foreach name l b
@@ -375,7 +375,7 @@ impl Machine {
         if elements.is_empty() {
             return Ok(Now::At(Ending::silent(alloc)));
         }
-        let script = self.table.script(alloc, &body)?;
+        let script = self.table.parsed().script(alloc, &body)?;
         let mut elements = elements;
         'element: loop {
             let Some(element) = elements.next() else {
@@ -457,7 +457,14 @@ impl Machine {
             self.left = levels;
             return Ok(Now::At(Ending::silent(alloc)));
         };
-        match enter(alloc, &mut self.table, variables, &command, words, limits) {
+        match enter(
+            alloc,
+            self.table.parsed(),
+            variables,
+            &command,
+            words,
+            limits,
+        ) {
             Ok(script) => {
                 self.stack.push(Frame::Procedure { levels })?;
                 Ok(Now::Open(script))

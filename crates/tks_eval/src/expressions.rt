@@ -405,7 +405,7 @@ impl Machine {
         ensures spends { self.new.fuel ≤ self.old.fuel }
         ensures goes { GoesSo H.meaning limits.now (resume H.meaning limits.now self.old.left self.old.stack (result_told limits.now (expression_does limits.now (evaluate H.meaning limits.now self.old.left) text.now (H.state host.now) variables.now self.old.fuel))) result self.new (H.state host.now) variables.now }
     {
-        let expr = self.table.expr(alloc, text)?;
+        let expr = self.table.parsed().expr(alloc, text)?;
         if let Some(value) = value_at_once(alloc, &expr, variables, limits)? {
             let text = into_result(alloc, value)?;
             return Ok(Now::At(Ending { code: 0, text }));
@@ -420,7 +420,7 @@ impl Machine {
         ensures kept { self.new ≡ record self.old { fuel = self.new.fuel } }
     {
         self.take_step()?;
-        let expr = self.table.expr(alloc, condition)?;
+        let expr = self.table.parsed().expr(alloc, condition)?;
         Ok(expr)
     }
 

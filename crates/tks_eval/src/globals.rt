@@ -27,7 +27,7 @@ impl Machine {
         ensures goes { GoesSo H.meaning limits.now (resume H.meaning limits.now levels self.old.stack (global_does (evaluate H.meaning limits.now self.old.left) script (H.state host.now) variables.old self.old.fuel)) result self.new (H.state host.now) variables.new }
     {
         variables.push_global()?;
-        let script = self.table.script(alloc, &script)?;
+        let script = self.table.parsed().script(alloc, &script)?;
         self.stack.push(Frame::Global { levels })?;
         Ok(Now::Open(script))
     }

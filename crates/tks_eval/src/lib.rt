@@ -11,7 +11,6 @@ mod frame;
 mod globals;
 mod halt;
 mod host;
-mod known;
 mod laws;
 mod loops;
 mod machine;

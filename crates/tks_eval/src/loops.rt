@@ -11,12 +11,12 @@ use crate::expressions::holds_at_once;
 use crate::frame::{Ending, Frame, Now};
 use crate::halt::{Halt, error_about};
 use crate::host::Host;
-use crate::known::{KnownExpr, KnownScript};
 use crate::machine::Machine;
 use std::alloc::{AllocError, Global};
 use std::marker::Model;
 use std::rc::Rc;
 use tks_expr::{Expr, truth_of};
+use tks_parsed::{KnownExpr, KnownScript};
 use tks_text::{ErrorNumber, Limits, Txt};
 use tks_vars::Vars;
 
@@ -125,8 +125,8 @@ impl Machine {
         let [condition, body] = words else {
             return Err(error_about(ErrorNumber::WrongWords, command));
         };
-        let condition = self.table.known_expr(alloc, condition)?;
-        let body = self.table.known_script(alloc, body)?;
+        let condition = self.table.parsed().known_expr(alloc, condition)?;
+        let body = self.table.parsed().known_script(alloc, body)?;
         let turns = Loop::new(alloc, condition, body, None)?;
         self.next_turn(alloc, host, variables, turns, limits)
     }
@@ -148,10 +148,10 @@ impl Machine {
         let [start, condition, next, body] = words else {
             return Err(error_about(ErrorNumber::WrongWords, command));
         };
-        let start = self.table.script(alloc, start)?;
-        let condition = self.table.known_expr(alloc, condition)?;
-        let body = self.table.known_script(alloc, body)?;
-        let next = self.table.known_script(alloc, next)?;
+        let start = self.table.parsed().script(alloc, start)?;
+        let condition = self.table.parsed().known_expr(alloc, condition)?;
+        let body = self.table.parsed().known_script(alloc, body)?;
+        let next = self.table.parsed().known_script(alloc, next)?;
         let turns = Loop::new(alloc, condition, body, Some(next))?;
         self.stack.push(Frame::Turns(Stage::Start, turns))?;
         Ok(Now::Open(start))

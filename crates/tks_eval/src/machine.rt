@@ -10,9 +10,11 @@ use crate::frame::{Ending, Frame, Now};
 use crate::halt::Halt;
 use crate::host::{Host, Plan};
 use crate::rest::Rest;
-use crate::table::ParseTable;
+use crate::table::Tables;
 use std::alloc::Global;
+use std::mem;
 use tks_parse::Script;
+use tks_parsed::ParseTable;
 use tks_tcl::Stop;
 use tks_text::{Limits, ScriptFault, Txt};
 use tks_vars::Vars;
@@ -24,69 +26,101 @@ pub struct Machine {
     pub stack: Rest<Frame>,
     pub left: u32,
     pub fuel: u64,
-    /// The scripts that were parsed so far.
-    pub table: ParseTable,
+    /// What was read so far.
+    pub table: Tables,
 }
 
-/// Runs a script.
+/// Runs a script. What it parses joins what was parsed before, which is looked for first.
 pub fn eval<H: Host>(
     alloc: Global,
     host: &mut H,
     variables: &mut Vars,
+    parsed: &mut ParseTable,
     script: Script,
     limits: &Limits,
 ) -> Result<Ended, Stop>
     ensures same_place { H.place host.new ≡ H.place host.old }
     ensures ends { EndsSo (evaluate H.meaning limits.now limits.now.depth script (H.state host.old) variables.old limits.now.fuel) result (H.state host.new) variables.new }
 {
-    let machine = Machine::at_rest(alloc, limits);
-    let ended = machine.run(alloc, host, variables, Now::Open(script), limits)?;
-    Ok(ended)
+    let mut machine = Machine::at_rest(alloc, taken(alloc, parsed), limits);
+    let ended = machine.run(alloc, host, variables, Now::Open(script), limits);
+    *parsed = machine.into_parsed();
+    ended
 }
 
-/// Does what a plan says, with all the steps that an input has.
-#[tactic(auto, using(crate::proofs::Halts::fails_halts))]
+// What was parsed before, in place of which nothing is kept.
+fn taken(alloc: Global, parsed: &mut ParseTable) -> ParseTable {
+    mem::replace(parsed, ParseTable::new(alloc))
+}
+
+/// Does what a plan says, with all the steps that an input has, and parses as `eval` does.
 pub fn eval_plan<H: Host>(
     alloc: Global,
     host: &mut H,
     variables: &mut Vars,
+    parsed: &mut ParseTable,
     plan: Plan,
     limits: &Limits,
 ) -> Result<Ended, Stop>
     ensures same_place { H.place host.new ≡ H.place host.old }
     ensures ends { EndsSo (plan_does H.meaning (evaluate H.meaning limits.now limits.now.depth) plan (H.state host.old) variables.old limits.now.fuel) result (H.state host.new) variables.new }
 {
-    let mut machine = Machine::at_rest(alloc, limits);
-    match machine.run_plan(alloc, host, variables, plan, limits.depth, limits) {
-        Ok(now) => {
-            let ended = machine.run(alloc, host, variables, now, limits)?;
-            Ok(ended)
-        }
-        Err(Halt::Fault(fault)) => {
-            let ended = machine.run_behind(alloc, host, variables, fault, limits)?;
-            Ok(ended)
-        }
-        Err(Halt::Stop(why)) => Err(why),
-    }
+    let mut machine = Machine::at_rest(alloc, taken(alloc, parsed), limits);
+    let ended = machine.run_whole_plan(alloc, host, variables, plan, limits);
+    *parsed = machine.into_parsed();
+    ended
 }
 
 impl Machine {
     // Nothing waits.
-    fn at_rest(alloc: Global, limits: &Limits) -> Machine
+    fn at_rest(alloc: Global, parsed: ParseTable, limits: &Limits) -> Machine
         ensures { result ≡ record { stack = []; left = limits.now.depth; fuel = limits.now.fuel; table = tt } }
     {
         Machine {
             stack: Rest::new(alloc),
             left: limits.depth,
             fuel: limits.fuel,
-            table: ParseTable::new(alloc),
+            table: Tables::of(alloc, parsed),
+        }
+    }
+
+    // What was parsed so far.
+    fn into_parsed(self) -> ParseTable {
+        let Machine { table, .. } = self;
+        table.into_parsed()
+    }
+
+    // Does what a plan says, up to its end.
+    #[tactic(auto, using(crate::proofs::Halts::fails_halts))]
+    fn run_whole_plan<H: Host>(
+        &mut self,
+        alloc: Global,
+        host: &mut H,
+        variables: &mut Vars,
+        plan: Plan,
+        limits: &Limits,
+    ) -> Result<Ended, Stop>
+        requires { self.old ≡ record { stack = []; left = limits.now.depth; fuel = limits.now.fuel; table = tt } }
+        ensures same_place { H.place host.new ≡ H.place host.old }
+        ensures ends { EndsSo (plan_does H.meaning (evaluate H.meaning limits.now limits.now.depth) plan (H.state host.old) variables.old limits.now.fuel) result (H.state host.new) variables.new }
+    {
+        match self.run_plan(alloc, host, variables, plan, limits.depth, limits) {
+            Ok(now) => {
+                let ended = self.run(alloc, host, variables, now, limits)?;
+                Ok(ended)
+            }
+            Err(Halt::Fault(fault)) => {
+                let ended = self.run_behind(alloc, host, variables, fault, limits)?;
+                Ok(ended)
+            }
+            Err(Halt::Stop(why)) => Err(why),
         }
     }
 
     // Goes on behind an error up to the end of the whole.
     #[tactic(auto, using(crate::proofs::Halts::fails_halts))]
     fn run_behind<H: Host>(
-        self,
+        &mut self,
         alloc: Global,
         host: &mut H,
         variables: &mut Vars,
@@ -94,7 +128,7 @@ impl Machine {
         limits: &Limits,
     ) -> Result<Ended, Stop>
         ensures same_place { H.place host.new ≡ H.place host.old }
-        ensures ends { EndsSo (resume H.meaning limits.now self.left self.stack (fails limits.now fault (H.state host.old) variables.old self.fuel)) result (H.state host.new) variables.new }
+        ensures ends { EndsSo (resume H.meaning limits.now self.old.left self.old.stack (fails limits.now fault (H.state host.old) variables.old self.old.fuel)) result (H.state host.new) variables.new }
     {
         let end = failed(alloc, &fault, limits)?;
         let ended = self.run(alloc, host, variables, Now::At(end), limits)?;
@@ -104,7 +138,7 @@ impl Machine {
     // Goes on up to the end of the whole.
     #[tactic(auto, using(crate::proofs::Halts::fails_halts))]
     fn run<H: Host>(
-        self,
+        &mut self,
         alloc: Global,
         host: &mut H,
         variables: &mut Vars,
@@ -112,28 +146,27 @@ impl Machine {
         limits: &Limits,
     ) -> Result<Ended, Stop>
         ensures same_place { H.place host.new ≡ H.place host.old }
-        ensures ends { EndsSo (resume H.meaning limits.now self.left self.stack (outcome_now H.meaning limits.now self.left now (H.state host.old) variables.old self.fuel)) result (H.state host.new) variables.new }
+        ensures ends { EndsSo (resume H.meaning limits.now self.old.left self.old.stack (outcome_now H.meaning limits.now self.old.left now (H.state host.old) variables.old self.old.fuel)) result (H.state host.new) variables.new }
     {
-        let mut machine = self;
         let mut now = now;
         'steps: loop {
-            let before = machine.fuel;
+            let before = self.fuel;
             'turns: loop {
                 let next = match now {
-                    Now::At(end) => match machine.stack.next() {
+                    Now::At(end) => match self.stack.next() {
                         None => {
                             return Ok(Ended {
                                 code: end.code,
                                 text: end.text,
-                                fuel: machine.fuel,
+                                fuel: self.fuel,
                             });
                         }
-                        Some(frame) => machine.resume(alloc, host, variables, frame, end, limits),
+                        Some(frame) => self.resume(alloc, host, variables, frame, end, limits),
                     },
-                    Now::Open(script) => machine.open(alloc, host, variables, script, limits),
-                    Now::Value(expr) => machine.open_value(alloc, host, variables, expr, limits),
+                    Now::Open(script) => self.open(alloc, host, variables, script, limits),
+                    Now::Value(expr) => self.open_value(alloc, host, variables, expr, limits),
                     Now::Index(parts) => {
-                        machine.fill(alloc, host, variables, Txt::new(alloc), parts, limits)
+                        self.fill(alloc, host, variables, Txt::new(alloc), parts, limits)
                     }
                 };
                 now = match next {
@@ -141,7 +174,7 @@ impl Machine {
                     Err(Halt::Fault(fault)) => Now::At(failed(alloc, &fault, limits)?),
                     Err(Halt::Stop(why)) => return Err(why),
                 };
-                if machine.fuel != before {
+                if self.fuel != before {
                     continue 'steps;
                 }
             }

@@ -67,7 +67,7 @@ impl Machine {
         }
         self.take_step()?;
         variables.push_global()?;
-        let script = self.table.script(alloc, &script)?;
+        let script = self.table.parsed().script(alloc, &script)?;
         self.stack.push(Frame::Scripts {
             window,
             scripts,

@@ -3,17 +3,17 @@ ghost use Rattle.std.specs.FinMap as map;
 ghost use Rattle.std.specs.List.{list_all};
 ghost use Rattle.tks_tcl.specs.Cause.{after, fits};
 ghost use Rattle.tks_tcl.specs.Meets.{GivesSo};
-ghost use Rattle.tks_eval.specs.Procedures.{parameter_named, parameter, parameters_in, argument_for, takes_rest, arguments, with_arguments, entered, script_in, defined, is_taken, proc_form};
+ghost use Rattle.tks_eval.specs.Procedures.{parameter_named, parameter, parameters_in, takes_rest, arguments, with_arguments, entered, script_in, defined, is_taken, proc_form};
 
 use crate::host::Host;
 use crate::rest::Rest;
-use crate::table::ParseTable;
 use std::alloc::{AllocError, Global};
 use tks_list::join;
 use tks_parse::Script;
+use tks_parsed::ParseTable;
 use tks_tcl::{Interrupt, error_about, fits, is_built_in, list_in, wrong_words};
 use tks_text::{ErrorNumber, Limits, Seq, Txt};
-use tks_vars::{Argument, Parameter, Procedure, Vars, names_whole};
+use tks_vars::{Arguments, Parameter, Procedure, Vars, names_whole};
 
 // A parameter of this name.
 #[tactic(auto, using(tks_tcl::proofs::Causes::tells))]
@@ -58,16 +58,6 @@ fn parameters_in(alloc: Global, procedure: &Txt, text: &Txt) -> Result<Seq<Param
     Ok(parameters)
 }
 
-// What a parameter is given.
-fn argument_for(parameter: &Parameter, value: Txt) -> Result<Argument, AllocError>
-    ensures { IfOk result (λ a. a ≡ argument_for parameter.now value) }
-{
-    Ok(Argument {
-        name: parameter.name.try_clone()?,
-        value,
-    })
-}
-
 // Whether a parameter takes all words that are left.
 fn takes_rest(parameter: &Parameter, behind: &[Parameter]) -> bool
     ensures { result ≡ takes_rest parameter.now behind.now }
@@ -80,16 +70,16 @@ fn arguments(
     alloc: Global,
     parameters: &[Parameter],
     words: Rest<Txt>,
-) -> Result<Option<Seq<Argument>>, AllocError>
+) -> Result<Option<Arguments>, AllocError>
     ensures { IfOk result (λ given. given ≡ arguments [] parameters.now words) }
 {
-    let mut given = Seq::new(alloc);
+    let mut given = Arguments::new(alloc)?;
     let mut parameters = parameters;
     let mut words = words;
     while let Some((parameter, behind)) = parameters.split_first() {
         if takes_rest(parameter, behind) {
             let rest = join(alloc, words.into_items().as_slice())?;
-            given.push(argument_for(parameter, rest)?)?;
+            given.push(&parameter.name, rest)?;
             return Ok(Some(given));
         }
         let value = match words.next() {
@@ -99,7 +89,7 @@ fn arguments(
                 None => return Ok(None),
             },
         };
-        given.push(argument_for(parameter, value)?)?;
+        given.push(&parameter.name, value)?;
         parameters = behind;
     }
     if words.is_empty() {
@@ -110,32 +100,19 @@ fn arguments(
 }
 
 // Begins a frame with these arguments, where they pass no limit.
-fn push_frame(
-    variables: &mut Vars,
-    arguments: Seq<Argument>,
-    limits: &Limits,
-) -> Result<(), Interrupt>
+fn push_frame(variables: &mut Vars, arguments: Arguments, limits: &Limits) -> Result<(), Interrupt>
     ensures value { GivesSo (λ _. variables.new) result (with_arguments limits.now arguments variables.old) }
     ensures err { OnErr result (variables.new ≡ variables.old) }
 {
-    if !all_fit(arguments.as_slice(), limits) {
+    if !arguments.all_within(limits.text as usize) {
         return Err(Interrupt::TooLarge);
     }
-    variables.push_frame_with(arguments.into_items())?;
+    variables.push_frame_with(arguments)?;
     if variables.frame_len() > limits.items as usize {
         variables.pop_frame();
         return Err(Interrupt::TooLarge);
     }
     Ok(())
-}
-
-// Whether all values pass no limit.
-fn all_fit(arguments: &[Argument], limits: &Limits) -> bool
-    ensures { result ≡ list_all (λ x. fits limits.now x.value) arguments.now }
-{
-    arguments
-        .iter()
-        .all(|argument| fits(&argument.value, limits))
 }
 
 /// Begins a call of the procedure of this name, and gives the script that its body spells. An error leaves the variables as

@@ -358,7 +358,7 @@ impl Machine {
         ensures short { IfSome result (λ reached. ReachFalls (Ok reached) 0 (suc self.old.fuel) self.new.fuel) }
         ensures some { IfSome result (λ reached. result_told limits.now (expression_does limits.now (evaluate H.meaning limits.now self.old.left) text.now (H.state host.now) variables.now self.old.fuel) ≡ reached_does H.meaning limits.now self.old.left reached (H.state host.now) variables.now self.new.fuel) }
     {
-        let Ok(expr) = self.table.expr(alloc, text) else {
+        let Ok(expr) = self.table.parsed().expr(alloc, text) else {
             return None;
         };
         match value_at_once(alloc, &expr, variables, limits) {
@@ -391,7 +391,7 @@ impl Machine {
         if self.fuel == 0 {
             return None;
         }
-        let Ok(expr) = self.table.expr(alloc, condition) else {
+        let Ok(expr) = self.table.parsed().expr(alloc, condition) else {
             return None;
         };
         let Ok(Some(holds)) = holds_at_once(alloc, &expr, variables, limits) else {
@@ -426,7 +426,7 @@ impl Machine {
         let Some(text) = text else {
             return Some(Reached::Ended(Ending::silent(alloc)));
         };
-        let Ok(script) = self.table.script(alloc, text) else {
+        let Ok(script) = self.table.parsed().script(alloc, text) else {
             return None;
         };
         match self.run_at_once(alloc, host, variables, &script, true, limits) {

@@ -74,20 +74,20 @@ impl<T: Known> Places<T> {
         }
     }
 
-    // Notes that this is the place of the text that was asked for last.
-    fn went_to(&mut self, index: usize) {
-        if let Some(place) = self.places.get_mut(self.last) {
-            place.next = index;
-        }
-        self.last = index;
-    }
-
     // Where the next text is looked for first.
     fn expected(&self) -> usize {
         match self.places.get(self.last) {
             Some(place) => place.next,
             None => 0,
         }
+    }
+
+    // Notes that this is the place of the text that was asked for last.
+    fn went_to(&mut self, index: usize) {
+        if let Some(place) = self.places.get_mut(self.last) {
+            place.next = index;
+        }
+        self.last = index;
     }
 
     // What a text spells, if it is in this place.
@@ -114,15 +114,29 @@ impl<T: Known> Places<T> {
         None
     }
 
+    // What a text spells, if it is in any place. The search begins in this one.
+    fn find_from(&mut self, text: &Txt, first: usize) -> Option<T::Tree>
+        ensures { IfSome result (λ tree. T.spells text.now tree) }
+    {
+        let count = self.places.len();
+        let first = first.min(count);
+        match self.find_among(text, first, count) {
+            Some(tree) => Some(tree),
+            None => self.find_among(text, 0, first),
+        }
+    }
+
     /// What a text spells, if it is kept.
     pub fn find(&mut self, text: &Txt) -> Option<T::Tree>
         ensures { IfSome result (λ tree. T.spells text.now tree) }
     {
-        let count = self.places.len();
-        let first = self.expected().min(count);
-        match self.find_among(text, first, count) {
-            Some(tree) => Some(tree),
-            None => self.find_among(text, 0, first),
+        let expected = self.expected();
+        match self.tree_at(expected, text) {
+            Some(tree) => {
+                self.last = expected;
+                Some(tree)
+            }
+            None => self.find_from(text, expected),
         }
     }
 
