@@ -11,6 +11,7 @@ use std::alloc::{AllocError, Global};
 use tks_codec::Unread;
 use tks_codec::reading::{presence_of, text_of, u32_of};
 use tks_codec::writing::{put_presence, put_text, put_u32};
+use tks_share::Shared;
 use tks_text::{Seq, Txt};
 use tks_vars::Parameter;
 
@@ -33,6 +34,7 @@ fn parameter_of(alloc: Global, bytes: &[u8]) -> Result<(Parameter, &[u8]), Unrea
 {
     let (name, rest) = text_of(alloc, bytes)?;
     let (default, rest) = default_of(alloc, rest)?;
+    let name = Shared::new(alloc, name)?;
     Ok((Parameter { name, default }, rest))
 }
 
@@ -86,7 +88,7 @@ fn put_parts(out: &mut Vec<u8>, parameter: &Parameter) -> Result<(), AllocError>
     ensures puts { PutsSo result out.old.items out.new.items (flattened (parameter_parts parameter.now)) }
     ensures legal { OnOk result (kinds.parameter.Legal parameter.now) }
 {
-    put_text(out, &parameter.name)?;
+    put_text(out, parameter.name.get())?;
     put_default(out, &parameter.default)
 }
 

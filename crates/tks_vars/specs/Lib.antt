@@ -9,3 +9,4 @@ pub mod Growth
 pub mod Setting
 pub mod Few
 pub mod Links
+pub mod Naming

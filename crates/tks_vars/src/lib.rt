@@ -3,6 +3,7 @@
 
 mod call;
 mod content;
+mod entry_name;
 mod few;
 mod frame;
 mod growth;

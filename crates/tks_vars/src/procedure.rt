@@ -1,9 +1,10 @@
+use tks_share::Shared;
 use tks_text::{Seq, Txt};
 
-/// A parameter of a procedure, and the value that it has where a call gives none.
-#[derive(Debug, Drop)]
+/// A parameter of a procedure, and the value that it has where a call gives none. All calls have the name in common.
+#[derive(Drop)]
 pub struct Parameter {
-    pub name: Txt,
+    pub name: Shared<Txt>,
     pub default: Option<Txt>,
 }
 

@@ -3,7 +3,7 @@ use Rattle.std.specs.Prelude.{slice_set}
 use Rattle.std.specs.FinMap as map
 use Rattle.tks_vars.specs.Few.{put_behind}
 use Rattle.tks_vars.proofs.Firsts.{looked_up, set_at, lacks, len_at, len_behind}
-use Rattle.tks_vars.proofs.frame.Frame.insert_text.Goals as goal
+use Rattle.tks_vars.proofs.frame.Frame.insert_named.Goals as goal
 
 pub invariant_of-self-in-Some : goal.invariant_of-self-in-Some
 invariant_of-self-in-Some c =
