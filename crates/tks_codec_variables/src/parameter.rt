@@ -11,7 +11,6 @@ use std::alloc::{AllocError, Global};
 use tks_codec::Unread;
 use tks_codec::reading::{presence_of, text_of, u32_of};
 use tks_codec::writing::{put_presence, put_text, put_u32};
-use tks_share::Shared;
 use tks_text::{Seq, Txt};
 use tks_vars::Parameter;
 
@@ -34,8 +33,7 @@ fn parameter_of(alloc: Global, bytes: &[u8]) -> Result<(Parameter, &[u8]), Unrea
 {
     let (name, rest) = text_of(alloc, bytes)?;
     let (default, rest) = default_of(alloc, rest)?;
-    let name = Shared::new(alloc, name)?;
-    Ok((Parameter { name, default }, rest))
+    Ok((Parameter::new(alloc, name, default)?, rest))
 }
 
 // So many parameters. Room is made for each as it is read.
