@@ -29,6 +29,7 @@ use std::mem;
 use tks_app::Memories;
 use tks_bind::{BindFault, Binding, Bindings, History, Virtuals};
 use tks_event::{Event, Held, Sequence};
+use tks_parsed::ParseTable;
 use tks_queue::{Place, Queue};
 use tks_share::{Shared, SharedList};
 use tks_text::{Failure, Seq, Size, Txt};
@@ -39,7 +40,8 @@ use tks_vars::Vars;
 /// No number of a world is above this.
 const MAX_NUMBER: u64 = 1 << 62;
 
-/// What is kept between inputs. Copies share what none of them has changed.
+/// What is kept between inputs. Copies share what none of them has changed. Beside what contracts see, a world has what the scripts of
+/// its inputs parsed; no copy of it has that.
 pub struct World {
     alloc: Global,
     accepted: u64,
@@ -49,6 +51,7 @@ pub struct World {
     event_loop: EventLoop,
     memories: Shared<Memories>,
     grid: Size,
+    parsed: ParseTable,
 }
 
 // Written out, so that to let go of a world is one step for whoever owns it.
@@ -63,6 +66,7 @@ impl Drop for World {
             event_loop: _,
             memories: _,
             grid: _,
+            parsed: _,
         } = self;
     }
 }
@@ -106,6 +110,7 @@ impl World {
             event_loop: EventLoop::new(alloc)?,
             memories: Shared::new(alloc, Memories::first(alloc, names)?)?,
             grid,
+            parsed: ParseTable::new(alloc),
         })
     }
 
@@ -228,6 +233,7 @@ impl World {
             event_loop,
             memories: Shared::new(alloc, memories)?,
             grid,
+            parsed: ParseTable::new(alloc),
         })
     }
 
@@ -622,6 +628,21 @@ impl World {
         mem::replace(&mut self.memories, memories)
     }
 
+    /// Takes out what the scripts of earlier inputs parsed.
+    pub fn take_parsed(&mut self) -> ParseTable
+        ensures { self.new ≡ self.old }
+    {
+        mem::replace(&mut self.parsed, ParseTable::new(self.alloc))
+    }
+
+    /// Keeps what was parsed for further inputs, but of texts of at most 4,096 bytes alone.
+    pub fn put_parsed(&mut self, parsed: ParseTable)
+        ensures { self.new ≡ self.old }
+    {
+        self.parsed = parsed;
+        self.parsed.keep_short();
+    }
+
     /// An equal world. The two share all that they hold, so this takes next to no time, whatever the world holds; what one of
     /// them changes is copied first.
     pub fn try_clone(&self) -> Result<World, AllocError>
@@ -636,6 +657,7 @@ impl World {
             event_loop: self.event_loop.try_clone()?,
             memories: self.memories.share()?,
             grid: self.grid,
+            parsed: ParseTable::new(self.alloc),
         })
     }
 }
