@@ -23,10 +23,8 @@ fn number(alloc: Global, number: Option<usize>) -> Result<Txt, Failure> {
 // Puts a procedure with this body and one parameter, whose default is 1.
 fn define(alloc: Global, variables: &mut Vars, name: &Txt, body: Txt) -> Result<(), Failure> {
     let mut params = Seq::new(alloc);
-    params.push(Parameter {
-        name: Txt::from_text(alloc, b"n")?,
-        default: Some(decimal_of(alloc, 1)?),
-    })?;
+    let name = Txt::from_text(alloc, b"n")?;
+    params.push(Parameter::new(alloc, name, Some(decimal_of(alloc, 1)?))?)?;
     variables.set_procedure(name, Procedure { params, body })?;
     Ok(())
 }

@@ -16,18 +16,11 @@ const NOTHING: &[u8] = b"\x00\x00\x00\x00\x00\x00\x00\x00";
 // The procedure.
 fn procedure(alloc: Global) -> Option<Procedure> {
     let mut params = Seq::new(alloc);
-    params
-        .push(Parameter {
-            name: text(alloc, b"a")?,
-            default: None,
-        })
-        .ok()?;
-    params
-        .push(Parameter {
-            name: text(alloc, b"b")?,
-            default: Some(text(alloc, b"1")?),
-        })
-        .ok()?;
+    let first = Parameter::new(alloc, text(alloc, b"a")?, None).ok()?;
+    params.push(first).ok()?;
+    let one = text(alloc, b"1")?;
+    let second = Parameter::new(alloc, text(alloc, b"b")?, Some(one)).ok()?;
+    params.push(second).ok()?;
     Some(Procedure {
         params,
         body: text(alloc, b"set a")?,

@@ -18,6 +18,7 @@ use tks_vars::{Arguments, Parameter, Procedure, Vars, names_whole};
 // A parameter of this name.
 #[tactic(auto, using(tks_tcl::proofs::Causes::tells))]
 fn parameter_named(
+    alloc: Global,
     procedure: &Txt,
     name: &Txt,
     default: Option<Txt>,
@@ -27,20 +28,17 @@ fn parameter_named(
     if name.is_empty() || !names_whole(name) {
         return Err(error_about(ErrorNumber::BadName, procedure));
     }
-    Ok(Parameter {
-        name: name.try_clone()?,
-        default,
-    })
+    Ok(Parameter::new(alloc, name.try_clone()?, default)?)
 }
 
 // A parameter: a name, or a name and a default.
 #[tactic(auto, using(tks_tcl::proofs::Causes::tells))]
-fn parameter(procedure: &Txt, fields: &[Txt]) -> Result<Parameter, Interrupt>
+fn parameter(alloc: Global, procedure: &Txt, fields: &[Txt]) -> Result<Parameter, Interrupt>
     ensures { GivesSo (λ p. p) result (parameter procedure.now fields.now) }
 {
     match fields {
-        [name] => parameter_named(procedure, name, None),
-        [name, default] => parameter_named(procedure, name, Some(default.try_clone()?)),
+        [name] => parameter_named(alloc, procedure, name, None),
+        [name, default] => parameter_named(alloc, procedure, name, Some(default.try_clone()?)),
         _ => Err(error_about(ErrorNumber::BadName, procedure)),
     }
 }
@@ -53,7 +51,7 @@ fn parameters_in(alloc: Global, procedure: &Txt, text: &Txt) -> Result<Seq<Param
     let mut parameters = Seq::new(alloc);
     for word in words.as_slice() {
         let fields = list_in(alloc, word)?;
-        parameters.push(parameter(procedure, fields.as_slice())?)?;
+        parameters.push(parameter(alloc, procedure, fields.as_slice())?)?;
     }
     Ok(parameters)
 }
@@ -62,7 +60,7 @@ fn parameters_in(alloc: Global, procedure: &Txt, text: &Txt) -> Result<Seq<Param
 fn takes_rest(parameter: &Parameter, behind: &[Parameter]) -> bool
     ensures { result ≡ takes_rest parameter.now behind.now }
 {
-    behind.is_empty() && parameter.name.as_bytes() == b"args".as_slice()
+    behind.is_empty() && parameter.name.get().as_bytes() == b"args".as_slice()
 }
 
 // The values that the words of a call give to parameters, or none where the number of words is wrong.
