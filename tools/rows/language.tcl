@@ -3,7 +3,7 @@
 #
 #     tclsh language.tcl BASE
 set here [file dirname [info script]]
-foreach part {sessions lists substitution operators expressions variables commands evaluation} {
+foreach part {sessions lists substitution operators expressions variables commands evaluation parsed} {
     if {[file exists $here/$part.tcl]} { source $here/$part.tcl }
 }
 rows::write [lindex $argv 0]

@@ -160,6 +160,35 @@ fn a_session_of_turns(rt: HostRuntime) {
     assert_eq!(rt; differing(rt.alloc(), &limits, &SESSION), "none");
 }
 
+// What one input parsed is there for others: a procedure that a key and timers run is made anew, and a turn is refused.
+const PARSED: [(&str, &str); 13] = [
+    (
+        "proc f {x} {global r; lappend r $x}; bind . <Key> {f %K}; f 0",
+        "1 0 0",
+    ),
+    ("key a", "2 0 "),
+    ("turn", "3 0 event KeyPress ."),
+    (
+        "proc f {x} {global r; lappend r -$x}; after 0 {f t}",
+        "4 0 after#0",
+    ),
+    ("key a", "5 0 "),
+    ("turn", "6 0 event KeyPress ."),
+    ("turn", "7 0 timer after#0"),
+    ("proc f {x} {while 1 {}}; after 0 {f t}", "8 0 after#1"),
+    ("turn", "budget"),
+    ("turn", "budget"),
+    ("proc f {x} {global r; lappend r +$x}", "9 0 "),
+    ("turn", "10 0 timer after#1"),
+    ("set r", "11 0 0 a -a -t +t"),
+];
+
+#[test]
+fn what_was_parsed_is_there_for_others(rt: HostRuntime) {
+    let limits = Limits::format1();
+    assert_eq!(rt; differing(rt.alloc(), &limits, &PARSED), "none");
+}
+
 #[test]
 fn limits_of_events_are_kept(rt: HostRuntime) {
     let limits = Limits {

@@ -15,6 +15,7 @@ use tks_app::{AppBody, AppMeaning, Apps, Memories};
 use tks_eval::{Ended, eval};
 use tks_input::{Refused, Reply};
 use tks_parse::{Script, parse};
+use tks_parsed::ParseTable;
 use tks_share::Shared;
 use tks_state::World;
 use tks_tcl::{Stop, fits};
@@ -67,6 +68,7 @@ fn run_lent<T: AppMeaning, B: AppBody>(
     alloc: Global,
     host: &mut WorldHost<T, B>,
     variables: Vars,
+    parsed: &mut ParseTable,
     script: Script,
     limits: &Limits,
 ) -> Result<Reply, Refused>
@@ -74,7 +76,7 @@ fn run_lent<T: AppMeaning, B: AppBody>(
     ensures { ReachesSo (concluded (script_ends T.meaning limits.now script host.old variables)) result host.new.world }
 {
     let mut variables = variables;
-    match run_script(alloc, host, &mut variables, script, limits) {
+    match run_script(alloc, host, &mut variables, parsed, script, limits) {
         Ok(ended) => {
             let reply = conclude(host, variables, ended.code, ended.text)?;
             Ok(reply)
@@ -95,13 +97,32 @@ pub fn step_script<T: AppMeaning, B: AppBody>(
     ensures refused { IfErr result (λ why. RefusedSo why (script_step (record { names = apps.now; meaning = T.meaning }) world.old text.now limits.now)) }
     ensures unchanged { OnErr result (world.new ≡ world.old) }
 {
+    let mut parsed = world.take_parsed();
+    let answer = run_in_copy(alloc, world, apps, &mut parsed, text, limits);
+    world.put_parsed(parsed);
+    answer
+}
+
+// The same, over what was parsed before.
+fn run_in_copy<T: AppMeaning, B: AppBody>(
+    alloc: Global,
+    world: &mut World,
+    apps: &Apps<T, B>,
+    parsed: &mut ParseTable,
+    text: &Txt,
+    limits: &Limits,
+) -> Result<Reply, Refused>
+    ensures accepted { IfOk result (λ reply. script_step (record { names = apps.now; meaning = T.meaning }) world.old text.now limits.now ≡ Accepts world.new reply) }
+    ensures refused { IfErr result (λ why. RefusedSo why (script_step (record { names = apps.now; meaning = T.meaning }) world.old text.now limits.now)) }
+    ensures unchanged { OnErr result (world.new ≡ world.old) }
+{
     if text.len() > limits.text as usize {
         return Err(Refused::BadInput);
     }
     let script = parse(alloc, text)?;
     let (host, variables) = lend(alloc, world, apps, limits)?;
     let mut host = host;
-    let reply = run_lent(alloc, &mut host, variables, script, limits)?;
+    let reply = run_lent(alloc, &mut host, variables, parsed, script, limits)?;
     *world = host.world;
     Ok(reply)
 }
@@ -111,12 +132,13 @@ pub fn run_script<T: AppMeaning, B: AppBody>(
     alloc: Global,
     host: &mut WorldHost<T, B>,
     variables: &mut Vars,
+    parsed: &mut ParseTable,
     script: Script,
     limits: &Limits,
 ) -> Result<Ended, Stop>
     ensures { EndsSo (script_ends T.meaning limits.now script host.old variables.old) result host.new variables.new }
 {
-    let ended = eval(alloc, host, variables, script, limits)?;
+    let ended = eval(alloc, host, variables, parsed, script, limits)?;
     match ended.code {
         2 => Ok(Ended { code: 0, ..ended }),
         3 | 4 => outside_loop(alloc, ended.fuel, limits),

@@ -18,7 +18,7 @@ use tks_cmd::begin;
 use tks_eval::{Ended, Host, eval_plan};
 use tks_event::Event;
 use tks_input::{Refused, Reply};
-use tks_parse::parse;
+use tks_parsed::ParseTable;
 use tks_state::World;
 use tks_tcl::Stop;
 use tks_text::{Limits, Txt};
@@ -29,13 +29,14 @@ fn run_later<T: AppMeaning, B: AppBody>(
     alloc: Global,
     host: &mut WorldHost<T, B>,
     variables: &mut Vars,
+    parsed: &mut ParseTable,
     script: &Txt,
     limits: &Limits,
 ) -> Result<Ended, Stop>
     ensures { EndsSo (script_runs T.meaning limits.now script.now host.old variables.old) result host.new variables.new }
 {
-    let script = parse(alloc, script)?;
-    let ended = run_script(alloc, host, variables, script, limits)?;
+    let script = parsed.script(alloc, script)?;
+    let ended = run_script(alloc, host, variables, parsed, script, limits)?;
     if ended.code != 0 {
         host.fault(&ended.text)?;
     }
@@ -51,6 +52,7 @@ fn run_event<T: AppMeaning, B: AppBody>(
     alloc: Global,
     host: &mut WorldHost<T, B>,
     variables: &mut Vars,
+    parsed: &mut ParseTable,
     event: Event,
     limits: &Limits,
 ) -> Result<Ended, Stop>
@@ -58,7 +60,7 @@ fn run_event<T: AppMeaning, B: AppBody>(
     ensures { EndsSo (event_runs T.meaning limits.now event host.old variables.old) result host.new variables.new }
 {
     let plan = begin(alloc, &mut host.world, event, limits)?;
-    let ended = eval_plan(alloc, host, variables, plan, limits)?;
+    let ended = eval_plan(alloc, host, variables, parsed, plan, limits)?;
     Ok(ended)
 }
 
@@ -67,6 +69,7 @@ fn run_thing<T: AppMeaning, B: AppBody>(
     alloc: Global,
     host: &mut WorldHost<T, B>,
     variables: &mut Vars,
+    parsed: &mut ParseTable,
     thing: Thing,
     limits: &Limits,
 ) -> Result<Ended, Stop>
@@ -75,11 +78,11 @@ fn run_thing<T: AppMeaning, B: AppBody>(
 {
     match thing {
         Thing::Event(event) => {
-            let ended = run_event(alloc, host, variables, event, limits)?;
+            let ended = run_event(alloc, host, variables, parsed, event, limits)?;
             Ok(ended)
         }
         Thing::Timer(_, script) | Thing::Idle(_, script) => {
-            let ended = run_later(alloc, host, variables, &script, limits)?;
+            let ended = run_later(alloc, host, variables, parsed, &script, limits)?;
             Ok(ended)
         }
     }
@@ -90,6 +93,7 @@ fn finish<T: AppMeaning, B: AppBody>(
     alloc: Global,
     host: &mut WorldHost<T, B>,
     variables: Vars,
+    parsed: &mut ParseTable,
     thing: Thing,
     text: Txt,
     limits: &Limits,
@@ -99,7 +103,7 @@ fn finish<T: AppMeaning, B: AppBody>(
     ensures { ReachesSo (finished text (thing_does T.meaning limits.now thing host.old variables)) result host.new.world }
 {
     let mut variables = variables;
-    match run_thing(alloc, host, &mut variables, thing, limits) {
+    match run_thing(alloc, host, &mut variables, parsed, thing, limits) {
         Ok(_) => {
             let reply = conclude(host, variables, 0, text)?;
             Ok(reply)
@@ -114,6 +118,7 @@ fn turn_lent<T: AppMeaning, B: AppBody>(
     alloc: Global,
     host: &mut WorldHost<T, B>,
     variables: Vars,
+    parsed: &mut ParseTable,
     limits: &Limits,
 ) -> Result<Reply, Refused>
     requires { variables.locals ≡ [] }
@@ -123,7 +128,7 @@ fn turn_lent<T: AppMeaning, B: AppBody>(
         return Err(Refused::Quiet);
     };
     let text = told(alloc, &host.world, &thing)?;
-    finish(alloc, host, variables, thing, text, limits)
+    finish(alloc, host, variables, parsed, thing, text, limits)
 }
 
 /// Does what comes next, in a copy of the world.
@@ -137,12 +142,30 @@ pub fn step_turn<T: AppMeaning, B: AppBody>(
     ensures refused { IfErr result (λ why. RefusedSo why (turn_step (record { names = apps.now; meaning = T.meaning }) limits.now world.old)) }
     ensures unchanged { OnErr result (world.new ≡ world.old) }
 {
+    let mut parsed = world.take_parsed();
+    let answer = turn_in_copy(alloc, world, apps, &mut parsed, limits);
+    world.put_parsed(parsed);
+    answer
+}
+
+// The same, over what was parsed before.
+fn turn_in_copy<T: AppMeaning, B: AppBody>(
+    alloc: Global,
+    world: &mut World,
+    apps: &Apps<T, B>,
+    parsed: &mut ParseTable,
+    limits: &Limits,
+) -> Result<Reply, Refused>
+    ensures accepted { IfOk result (λ reply. turn_step (record { names = apps.now; meaning = T.meaning }) limits.now world.old ≡ Accepts world.new reply) }
+    ensures refused { IfErr result (λ why. RefusedSo why (turn_step (record { names = apps.now; meaning = T.meaning }) limits.now world.old)) }
+    ensures unchanged { OnErr result (world.new ≡ world.old) }
+{
     if is_quiet(world) {
         return Err(Refused::Quiet);
     }
     let (host, variables) = lend(alloc, world, apps, limits)?;
     let mut host = host;
-    let reply = turn_lent(alloc, &mut host, variables, limits)?;
+    let reply = turn_lent(alloc, &mut host, variables, parsed, limits)?;
     *world = host.world;
     Ok(reply)
 }

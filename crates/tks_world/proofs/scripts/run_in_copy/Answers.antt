@@ -5,7 +5,7 @@ use Rattle.tks_cmd.proofs.Results.{err_is}
 use Rattle.tks_world.specs.Scripts.{script_step}
 use Rattle.tks_world.specs.Meets.{RefusedSo}
 use Rattle.tks_world.proofs.Stepping.{runs}
-use Rattle.tks_world.proofs.scripts.step_script.Goals as goal
+use Rattle.tks_world.proofs.scripts.run_in_copy.Goals as goal
 
 pub returns-in_err-reply-clause-refused : goal.returns-in_err-reply-clause-refused
 returns-in_err-reply-clause-refused g c =

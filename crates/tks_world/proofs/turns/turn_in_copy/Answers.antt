@@ -5,7 +5,7 @@ use Rattle.tks_cmd.proofs.Results.{err_is}
 use Rattle.tks_world.specs.Turns.{turn_step}
 use Rattle.tks_world.specs.Meets.{RefusedSo}
 use Rattle.tks_world.proofs.Stepping.{turns_lent}
-use Rattle.tks_world.proofs.turns.step_turn.Goals as goal
+use Rattle.tks_world.proofs.turns.turn_in_copy.Goals as goal
 
 pub returns-in_err-reply-clause-refused : goal.returns-in_err-reply-clause-refused
 returns-in_err-reply-clause-refused g c =
