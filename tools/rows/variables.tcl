@@ -34,11 +34,14 @@ ask {set n 7; proc f {} {set n 1; list $n}; list [f] $n} {proc f {} {info exists
     {proc f {p q r s t} {global b c h i j; set j $p; list $b $c $j $t}; list [f 1 2 3 4 5] $j} \
     {proc f {} {global k1 k2 k3 k4 k5 k6 k7 k8 k9; set k9 1; set k1 2; list $k1 $k9}; list [f] $k1 $k9} \
     {proc f {} {global k1 k9 u; set u $k1$k9; unset k1 k9; list $u [info exists k1]}; list [f] [info exists k1] [info exists k9]} \
-    {proc f {p} {set q $p; unset p q; list [info exists p] [info exists q]}; f 1}
+    {proc f {p} {set q $p; unset p q; list [info exists p] [info exists q]}; f 1} \
+    {set {} 5; proc f {} {global b {} c; list [set {}] $b $c}; f} {proc f {b args} {global c d; list $b $args $c}; f 7 8 9} \
+    {proc f {} {global b c; unset b; list [info exists b] [set b 8]}; list [f] $b} {global b k(1) b; list $b}
 foreach {script answer} {
     {global (x)} {ok {}}  {proc f {} {global (x)}; f} {error {E17 (x)}}  {proc f {} {global k(x)}; f} {error {E17 k(x)}}
     {global} {error {E10 global}}  {proc f {} {catch {global n k(x)}; info exists n}; f} {ok 0}
     {proc f {} {set c 1; catch {global b c d}; list [info exists b] [info exists d] $c}; f} {ok {0 0 1}}
+    {proc f {} {list [catch {global b k(1) c}] [info exists b] [info exists c]}; f} {ok {1 0 0}}
     {proc f {} {global n; set n 1; unset n; global n; incr n}; f} {ok 1}  {set n} {ok 1}  {global n; set n} {ok 1}
 } {
     row $script {*}$answer
