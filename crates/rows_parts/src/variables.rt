@@ -23,8 +23,9 @@ fn number(alloc: Global, number: Option<usize>) -> Result<Txt, Failure> {
 // Puts a procedure with this body and one parameter, whose default is 1.
 fn define(alloc: Global, variables: &mut Vars, name: &Txt, body: Txt) -> Result<(), Failure> {
     let mut params = Seq::new(alloc);
-    let name = Txt::from_text(alloc, b"n")?;
-    params.push(Parameter::new(alloc, name, Some(decimal_of(alloc, 1)?))?)?;
+    let number = Txt::from_text(alloc, b"n")?;
+    let one = decimal_of(alloc, 1)?;
+    params.push(Parameter::new(alloc, number, Some(one))?)?;
     variables.set_procedure(name, Procedure { params, body })?;
     Ok(())
 }

@@ -14,7 +14,14 @@ use tks_vars::Vars;
 fn ended(alloc: Global, host: &mut Counter, script: &Txt, limits: &Limits) -> Result<Ended, Stop> {
     let script = parse(alloc, script)?;
     let mut parsed = ParseTable::new(alloc);
-    eval(alloc, host, &mut Vars::new(alloc), &mut parsed, script, limits)
+    eval(
+        alloc,
+        host,
+        &mut Vars::new(alloc),
+        &mut parsed,
+        script,
+        limits,
+    )
 }
 
 // What a script comes to: its code and its text, or why it stops.
@@ -169,7 +176,15 @@ fn dispatched(alloc: Global, window: u64, scripts: &str) -> Option<(u32, u64)> {
     let plan = Plan::Dispatch(window, chosen);
     let limits = Limits::format1();
     let mut parsed = ParseTable::new(alloc);
-    let ended = eval_plan(alloc, &mut host, &mut Vars::new(alloc), &mut parsed, plan, &limits).ok()?;
+    let ended = eval_plan(
+        alloc,
+        &mut host,
+        &mut Vars::new(alloc),
+        &mut parsed,
+        plan,
+        &limits,
+    )
+    .ok()?;
     if ended.code == 0 && ended.text.is_empty() {
         Some((host.count, ended.fuel))
     } else {
