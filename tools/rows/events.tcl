@@ -162,6 +162,15 @@ foreach text {
 } {
     row_of_sequence $text
 }
+# Separators behind the last word, and those that stand behind no type and no detail.
+foreach text {
+    <a-> <a---> {<a >} {<a> } {<Key >} <Key-> <Key--> <Key-a-> {<Key-a- >} {<Key - a -- >} <KeyPress--a-> <1-> <Button-> <Double-1-->
+    <Control-a-> {<Control-a >} <Control-Key-> {<Double-Control-a - ->} {<ButtonRelease-2 - >} <Triple-Shift-Key-Return--> {<FocusOut >}
+    <minus-> <Key-6-> <Key-a->b {<a-> <b- >} <a->> <-> <--> {< >} <Control-> <B1-> <Double-> <Double-Control-> <Shift-1-2-> <Key-nosuch->
+    <a- {<a -} <a-<b> <<V>-> {<<V> >}
+} {
+    row_of_sequence $text
+}
 # More than eight.
 foreach text {
     abcdefghi <Quadruple-1><Quadruple-1><1> <Key><Key><Key><Key><Key><Key><Key><Key><Key> {a b c d e f g <Double-h>}
@@ -175,19 +184,19 @@ foreach text {abcdefghij<Key-nosuch> <Quadruple-1><Quadruple-1><1><Key <Key><Key
 }
 foreach text {
     a <Key-a> <1> <Double-1> <Shift-Control-x> <<V>> <Alt-ButtonRelease-2> <KeyPress> <FocusIn> ab <a><b> <<V>>a {} <
-    <Triple-Shift-Key-Return> <B3-M2-Button> <Key-nosuch> <Control-Alt-Shift-Key-a>
+    <Triple-Shift-Key-Return> <B3-M2-Button> <Key-nosuch> <Control-Alt-Shift-Key-a> <Key-> {<Double-1 - >} <Control-a-> <Control->
 } {
     row_of_pattern $text
 }
-# What this project alone rules: no separator at the ends of a pattern's words, one repeat word, names without spaces and `<`, the
-# modifiers, types and keysyms that it has; no white space around a pattern that stands alone.
+# What this project alone rules: one repeat word, names without spaces and `<`, the modifiers, types and keysyms that it has; no white
+# space around a pattern that stands alone.
 foreach text {
-    <<<>> <Key-> {<Key >} <Key-a-> <a-> {<Control-a >} <Double-Triple-1> <Double-Double-1> {<<a b>>} <Meta-a> <Any-a> <Motion>
-    <Enter> <MouseWheel> <Configure> <Command-a> <M-a> <KP_Enter> <Button-> <Extended-a> <Key--> <F13>
+    <<<>> <Double-Triple-1> <Double-Double-1> {<<a b>>} <Meta-a> <Any-a> <Motion> <Enter> <MouseWheel> <Configure> <Command-a> <M-a>
+    <KP_Enter> <Extended-a> <F13>
 } {
     row "bind $text" [error_of 40 $text]
 }
-foreach text {{ a} {a } { <Key-a>} {<Key-a> } { <<V>>} {<<V>> } <Key->} {row "generate $text" [error_of 40 $text]}
+foreach text {{ a} {a } { <Key-a>} {<Key-a> } { <<V>>} {<<V>> }} {row "generate $text" [error_of 40 $text]}
 foreach {name lines} [list stdin $in stdout $out] {
     set file [open [file join $folder $name] w]
     fconfigure $file -translation lf

@@ -14,8 +14,8 @@ use tks_desk::{
     swap_word,
 };
 use tks_disk::{Disk, FileDisk, FileDiskFault};
-use tks_session::{Session, SessionFault};
-use tks_terminal::Terminal;
+use tks_durable::{Durable, SessionFault};
+use tks_session::Terminal;
 use tks_text::{Limits, Size, Txt};
 
 /// The status where reading or writing a standard stream failed.
@@ -100,7 +100,7 @@ fn serve_on<R: BufRead, W: Write, D: Disk + Drop, B: AppBody>(
         grid,
         apps,
     };
-    match Session::open(alloc, disk, terminal) {
+    match Durable::open(alloc, disk, terminal) {
         Ok(mut session) => {
             let end = run(alloc, reader, writer, &mut session);
             status_behind(writer, &end)

@@ -25,8 +25,8 @@ use std::process::ExitCode;
 use tks_app::{AppAnswer, AppBody, AppClosure};
 use tks_desk::{Own, next_number, own_apps, run, swap_word};
 use tks_disk::{Disk, MemoryDisk};
-use tks_session::Session;
-use tks_terminal::Terminal;
+use tks_durable::Durable;
+use tks_session::Terminal;
 use tks_text::{Limits, Size, Txt};
 use worlds::{Task, put_world};
 
@@ -114,7 +114,7 @@ fn put_session<D: Disk + Drop, B: AppBody>(
         grid: grid_of(of_world.unwrap_or(heading))?,
         apps: own_apps(alloc, next, swap).ok()?,
     };
-    match Session::open(alloc, disk, terminal) {
+    match Durable::open(alloc, disk, terminal) {
         Ok(mut session) if of_world.is_some() => {
             put_world_left(alloc, &mut session, lines, task, written)
         }
@@ -141,7 +141,7 @@ fn grid_of(heading: &str) -> Option<Size> {
 // Adds what a session answers to lines.
 fn put_answers<D: Disk, B: AppBody>(
     alloc: Global,
-    session: &mut Session<D, Terminal<Own, B>>,
+    session: &mut Durable<D, Terminal<Own, B>>,
     lines: &str,
     written: &mut Vec<u8>,
 ) -> Option<()> {
@@ -153,7 +153,7 @@ fn put_answers<D: Disk, B: AppBody>(
 // Adds the bytes of the world that lines leave, and what is told of them.
 fn put_world_left<D: Disk, B: AppBody>(
     alloc: Global,
-    session: &mut Session<D, Terminal<Own, B>>,
+    session: &mut Durable<D, Terminal<Own, B>>,
     lines: &str,
     task: &Option<Task>,
     written: &mut Vec<u8>,

@@ -2,8 +2,8 @@
 
 use crate::worlds::spelled;
 use std::alloc::Global;
-use tks_codec::CodecFault;
-use tks_codec_world::read_world;
+use tks_codec::read_world;
+use tks_spelling::CodecFault;
 use tks_text::Size;
 
 /// What bytes are read as.

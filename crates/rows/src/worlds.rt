@@ -3,7 +3,7 @@
 use crate::{damage, sound};
 use std::alloc::Global;
 use tests_disk::Dice;
-use tks_codec_world::write_world;
+use tks_codec::write_world;
 use tks_state::World;
 use tks_text::Size;
 

@@ -36,7 +36,7 @@ fn answer(alloc: Global, options: &mut Options, line: &str) -> Option<String> {
     let mut shown = String::new(alloc);
     match options.call(words.as_slice()) {
         Ok(Said::Text(text)) => push_text(&mut shown, &text)?,
-        Ok(Said::Eval(_)) => return None,
+        Ok(Said::Run(_)) => return None,
         Err(Failure::Script(fault)) => push_fault(alloc, &mut shown, &fault)?,
         Err(Failure::NoMemory) => return None,
     }

@@ -1,3 +1,4 @@
+//! The disk in memory beside a plain one, by random calls and crashes.
 use super::*;
 use std::alloc::Global;
 use tks_disk::{Disk, Fuse, Left, MemoryDisk, Side};

@@ -1,2 +1,3 @@
+-- What the tests' own types mean.
 pub mod Counter
 pub mod Swap

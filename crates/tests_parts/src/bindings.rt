@@ -54,7 +54,7 @@ fn virtual_events(alloc: Global, keys: &mut Keys) -> Option<bool> {
         .event_delete_sequence(&name, &sequence(alloc, b"b")?)
         .ok()?;
     let after = keys.fires(b"b", 0, b"")?;
-    keys.virtuals.event_delete(&name);
+    keys.virtuals.event_delete(&name).ok()?;
     Some(before && after && keys.virtuals.len() == 0)
 }
 

@@ -5,7 +5,7 @@ use crate::counter::Counter;
 use std::alloc::Global;
 use tks_eval::{Ended, Host, Plan, eval, eval_plan};
 use tks_parse::parse;
-use tks_parsed::ParseTable;
+use tks_parse_table::ParseTable;
 use tks_tcl::Stop;
 use tks_text::{Limits, Seq, Txt};
 use tks_vars::Vars;

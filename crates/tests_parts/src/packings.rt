@@ -3,7 +3,7 @@
 use crate::texts::text;
 use std::alloc::Global;
 use tks_pack::{Content, Fill, Packing, Padding, Settings, Side};
-use tks_text::{Class, Seq};
+use tks_text::Class;
 use tks_tree::Tree;
 
 // Whether a packing keeps its one content and that it doesn't propagate.
@@ -12,12 +12,10 @@ fn packing_is_restored(alloc: Global) -> Option<bool> {
     let window = tree.create(&text(alloc, ".a")?, Class::Frame).ok()?;
     let mut settings = Settings::new();
     settings.padx = Padding::of(3);
-    let mut contents = Seq::new(alloc);
+    let mut contents = Vec::new(alloc);
     contents.push(Content { window, settings }).ok()?;
-    let packing = Packing::restore(alloc, contents, false);
-    let [content] = packing.contents() else {
-        return Some(false);
-    };
+    let packing = Packing::restore(alloc, contents, false).ok()?;
+    let content = packing.contents().next()?;
     Some(content.window == window && content.settings.padx.cells() == 3 && !packing.propagates())
 }
 

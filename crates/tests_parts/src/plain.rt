@@ -77,11 +77,4 @@ impl Plain {
         }
         first
     }
-
-    pub fn copy(&self) -> Option<Plain> {
-        Some(Plain {
-            kept: self.kept.clone().ok()?,
-            next: self.next,
-        })
-    }
 }

@@ -54,12 +54,6 @@ impl PlainQueue {
     pub fn drop_window(&mut self, window: u64) {
         self.letters.retain(|waiting| waiting.window != window);
     }
-
-    pub fn copy(&self) -> Option<PlainQueue> {
-        Some(PlainQueue {
-            letters: self.letters.clone().ok()?,
-        })
-    }
 }
 
 /// A virtual event with one letter as its data.
@@ -125,12 +119,11 @@ fn queues_agree(queue: &Queue, plain: &PlainQueue) -> bool {
     at == plain.letters.len() && at == queue.len()
 }
 
-/// Makes a random call on both, or sets a mark, goes back to it or forgets it. `then` is the plain queue of the mark.
+/// Makes a random call on both.
 pub fn queue_call_agrees(
     alloc: Global,
     queue: &mut Queue,
     plain: &mut PlainQueue,
-    then: &mut PlainQueue,
     dice: &mut Dice,
 ) -> Option<bool> {
     let window = dice.roll(3) as u64;
@@ -142,31 +135,12 @@ pub fn queue_call_agrees(
             plain.put(place, letter, window)?;
             true
         }
-        10..=16 => has_letter(&queue.take().ok()?, plain.take()),
-        17 => {
-            queue.drop_window(window);
+        10..=18 => has_letter(&queue.take().ok()?, plain.take()),
+        _ => {
+            queue.drop_window(window).ok()?;
             plain.drop_window(window);
             true
         }
-        _ => marks(queue, plain, then, dice)?,
     };
     Some(agrees && queues_agree(queue, plain))
-}
-
-fn marks(
-    queue: &mut Queue,
-    plain: &mut PlainQueue,
-    then: &mut PlainQueue,
-    dice: &mut Dice,
-) -> Option<bool> {
-    if !queue.is_marked() {
-        queue.mark();
-        *then = plain.copy()?;
-    } else if dice.roll(2) == 0 {
-        queue.back_to();
-        *plain = then.copy()?;
-    } else {
-        queue.forget();
-    }
-    Some(true)
 }

@@ -4,7 +4,6 @@ use crate::plain_queue::{PlainQueue, has_letter, put_letter, queue_call_agrees};
 use std::alloc::Global;
 use tests_disk::Dice;
 use tks_queue::{Place, Queue};
-use tks_share::Copied;
 
 #[test]
 fn the_queue_does_what_a_plain_list_does(rt: HostRuntime) {
@@ -13,10 +12,8 @@ fn the_queue_does_what_a_plain_list_does(rt: HostRuntime) {
         let mut dice = Dice::new(seed);
         let mut queue = Queue::new(alloc);
         let mut plain = PlainQueue::new(alloc);
-        let mut then = PlainQueue::new(alloc);
         for call in 0..200 {
-            let agrees = queue_call_agrees(alloc, &mut queue, &mut plain, &mut then, &mut dice)
-                == Some(true);
+            let agrees = queue_call_agrees(alloc, &mut queue, &mut plain, &mut dice) == Some(true);
             assert!(rt; agrees, "seed {seed}, call {call}");
         }
     }
@@ -47,8 +44,8 @@ fn put_five(alloc: Global, queue: &mut Queue) -> Option<()> {
 // Whether they and their copy come out in the order of their places.
 fn come_in_order(alloc: Global, queue: &mut Queue) -> Option<bool> {
     put_five(alloc, queue)?;
-    let mut copy = queue.copied(alloc).ok()?;
-    queue.drop_window(1);
+    let mut copy = queue.share().ok()?;
+    queue.drop_window(1).ok()?;
     let is_whole = copy.len() == 5 && take_all(&mut copy, b"h123t") == Some(true);
     Some(is_whole && take_all(queue, b"h123t")?)
 }

@@ -40,7 +40,7 @@ fn takes(alloc: Global, timers: &mut Timers, plain: &mut Plain, dice: &mut Dice)
         _ => Some(dice.roll(400) as u64),
     };
     if dice.roll(4) == 0 {
-        timers.cancel_script(&script_of(alloc, letter)?);
+        timers.cancel_script(&script_of(alloc, letter)?).ok()?;
         if let Some(id) = plain.with_letter(letter) {
             plain.take_out(id);
         }
@@ -81,31 +81,16 @@ fn answer_alike(timers: &Timers, plain: &Plain, dice: &mut Dice) -> Option<bool>
     )
 }
 
-/// Makes a random call on both, or sets a mark, goes back to it or forgets it. `then` is the plain list of the mark.
+/// Makes a random call on both.
 pub fn call_agrees(
     alloc: Global,
     timers: &mut Timers,
     plain: &mut Plain,
-    then: &mut Plain,
     dice: &mut Dice,
 ) -> Option<bool> {
     let agrees = match dice.roll(20) {
         0..=9 => keeps(alloc, timers, plain, dice)?,
-        10..=17 => takes(alloc, timers, plain, dice)?,
-        _ => {
-            if timers.is_marked() {
-                if dice.roll(2) == 0 {
-                    timers.back_to();
-                    *plain = then.copy()?;
-                } else {
-                    timers.forget();
-                }
-            } else {
-                timers.mark();
-                *then = plain.copy()?;
-            }
-            true
-        }
+        _ => takes(alloc, timers, plain, dice)?,
     };
     Some(agrees && answer_alike(timers, plain, dice)?)
 }

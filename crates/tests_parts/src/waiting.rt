@@ -5,7 +5,6 @@ use crate::texts::text_of_bytes as text;
 use crate::trial::call_agrees;
 use std::alloc::Global;
 use tests_disk::Dice;
-use tks_share::Copied;
 use tks_text::{ErrorNumber, Failure, Txt};
 use tks_timer::{Timers, Waiting};
 
@@ -16,10 +15,8 @@ fn timers_do_what_a_plain_list_does(rt: HostRuntime) {
         let mut dice = Dice::new(seed);
         let mut timers = Timers::new(alloc);
         let mut plain = Plain::new(alloc);
-        let mut then = Plain::new(alloc);
         for call in 0..200 {
-            let agrees = call_agrees(alloc, &mut timers, &mut plain, &mut then, &mut dice)
-                == Some(true);
+            let agrees = call_agrees(alloc, &mut timers, &mut plain, &mut dice) == Some(true);
             assert!(rt; agrees, "seed {seed}, call {call}");
         }
     }
@@ -66,7 +63,7 @@ fn tells(alloc: Global, timers: &mut Timers) -> Option<bool> {
     let before = ids_are(timers, &[0, 1])
         && is_timer(timers, 0, &first, b"a b")
         && is_idle(timers, 1, &second, b"c");
-    timers.cancel_script(&text(alloc, b"a b")?);
+    timers.cancel_script(&text(alloc, b"a b")?).ok()?;
     Some(before && ids_are(timers, &[1]) && is_nothing(timers, 0, &first))
 }
 
@@ -77,16 +74,13 @@ fn after_info_tells_what_waits(rt: HostRuntime) {
 }
 
 // Of those that are due, the first due, then that of the least id.
-fn run_in_order(timers: &mut Timers) -> bool {
+fn run_in_order(timers: &mut Timers) -> Option<bool> {
     let first = timers.due(2).is_none() && timers.due(9) == Some(1);
-    timers.cancel(1);
+    timers.cancel(1).ok()?;
     let second = timers.due(9) == Some(2);
-    timers.cancel(2);
-    first
-        && second
-        && timers.due(9) == Some(0)
-        && timers.timer_count() == 1
-        && timers.idle_count() == 0
+    timers.cancel(2).ok()?;
+    let is_last = timers.due(9) == Some(0) && timers.timer_count() == 1;
+    Some(first && second && is_last && timers.idle_count() == 0)
 }
 
 // Whether the copy of such timers runs so, and leaves them.
@@ -94,8 +88,8 @@ fn runs_in_order(alloc: Global, timers: &mut Timers) -> Option<bool> {
     timers.after(5, text(alloc, b"a")?).ok()?;
     timers.after(3, text(alloc, b"b")?).ok()?;
     timers.after(3, text(alloc, b"c")?).ok()?;
-    let mut copy = timers.copied(alloc).ok()?;
-    Some(run_in_order(&mut copy) && timers.timer_count() == 3)
+    let mut copy = timers.share().ok()?;
+    Some(run_in_order(&mut copy)? && timers.timer_count() == 3)
 }
 
 #[test]

@@ -1,11 +1,11 @@
 -- A machine whose state is a text, to which scripts are added, as long as it stays within a limit.
-use Rattle.std.specs.Prelude.{ℕ, ◌+◌, nat_le, Bool, List, [], ◌∷◌, ◌++◌, codes, length, if◌then◌else◌, Option, Some, None}
+use Rattle.std.specs.Prelude.{ℕ, ◌+◌, nat_le, List, [], ◌∷◌, ◌++◌, codes, length, if◌then◌else◌, Option, Some, None}
 use Rattle.tks_text.specs.Text.{is_text}
-use Rattle.tks_codec.specs.declared.header.Header.{Header}
+use Rattle.tks_spelling.specs.declared.header.Header.{Header}
 use Rattle.tks_input.specs.declared.input.Input.{Input}
 use Rattle.tks_input.specs.declared.input.Input.TheVariants.{Script, KeyPress, KeyRelease, Press, Release, Clock, Turn}
 use Rattle.tks_input.specs.declared.reply.Refused.TheVariants.{BadInput, Quiet, TooLarge}
-use Rattle.tks_session.specs.Machine.{Meaning, Stepped, accepts, refuses}
+use Rattle.tks_durable.specs.Machine.{Meaning, Stepped, accepts, refuses}
 
 -- more is added where the text stays within the limit
 abbrev pub longer : ℕ → List ℕ → List ℕ → Stepped (List ℕ)

@@ -3,10 +3,12 @@ ghost use Rattle.std.specs.Prelude.{◌≤◌, ◌^◌};
 
 use std::alloc::Global;
 use tks_codec_events::{
-    bindings_of, event_of, held_of, history_of, memories_of, put_bindings, put_event, put_held,
-    put_history, put_memories, put_queue, put_sequence, put_virtuals, put_waiting, queue_of,
-    sequence_of, virtuals_of, waiting_of,
+    bindings_of, event_of, held_of, history_of, put_bindings, put_event, put_held, put_history,
+    put_queue, put_sequence, put_virtuals, put_waiting, queue_of, sequence_of, virtuals_of,
+    waiting_of,
 };
+use tks_codec_variables::{put_table, table_of};
+use tks_spelling::Texts;
 
 // What was written, and the bytes behind what was read.
 fn with_rest(mut out: Vec<u8>, rest: &[u8]) -> Option<Vec<u8>> {
@@ -98,12 +100,12 @@ pub fn held_again(alloc: Global, bytes: &[u8]) -> Option<Vec<u8>> {
     with_rest(out, rest)
 }
 
-/// Memories.
+/// Texts under names, as the memories of an application.
 pub fn memories_again(alloc: Global, bytes: &[u8]) -> Option<Vec<u8>> {
     let mut out = Vec::new(alloc);
-    let Ok((memories, rest)) = memories_of(alloc, bytes) else {
+    let Ok((memories, rest)) = table_of(alloc, Texts, bytes) else {
         return None;
     };
-    put_memories(&mut out, &memories).ok()?;
+    put_table(&mut out, Texts, &memories).ok()?;
     with_rest(out, rest)
 }

@@ -1,7 +1,7 @@
 //! Bytes that spell no variables.
 use std::alloc::Global;
-use tks_codec::Unread;
 use tks_codec_variables::variables_of;
+use tks_spelling::Unread;
 
 // How many bytes are left from the one at fault on; none where they are read.
 fn left(alloc: Global, bytes: &[u8]) -> Option<usize> {

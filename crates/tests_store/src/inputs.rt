@@ -2,8 +2,8 @@
 
 use crate::spelling::{Read, header_of, header_spelled, input_of, input_spelled, text};
 use std::alloc::Global;
-use tks_codec::Header;
 use tks_input::Input;
+use tks_spelling::Header;
 use tks_text::{Seq, Size};
 
 const SCRIPT: &[u8] = b"\x01\x00\x00\x00\x07set x 5";

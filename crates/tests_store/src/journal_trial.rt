@@ -3,9 +3,9 @@ ghost use Rattle.std.specs.Prelude.{◌≡◌, ◌<◌, ◌^◌, ℕ, IfSome, le
 ghost use Rattle.tks_journal.specs.Journal.{SpelledAs};
 
 use std::alloc::Global;
-use tks_codec::Header;
 use tks_disk::{Disk, Side};
 use tks_journal::{Frames, Journal, OpenError, Opened, SideFault, Stored, open, spell};
+use tks_spelling::Header;
 use tks_text::{Seq, Size};
 
 /// A header of this generation, and its spelling.

@@ -1,12 +1,13 @@
+//! A machine that is easy to foresee: a text to which scripts are added.
 ghost use Rattle.std.specs.Prelude.{◌≡◌, IfOk, IfErr, OnErr};
-ghost use Rattle.tks_session.specs.Machine.{accepts};
-ghost use Rattle.tks_session.specs.Refusing.{RefusedAs};
+ghost use Rattle.tks_durable.specs.Machine.{accepts};
+ghost use Rattle.tks_durable.specs.Refusing.{RefusedAs};
 ghost use Rattle.tests_store.specs.Logging.{logging, longer};
 
 use std::alloc::{AllocError, Global};
-use tks_codec::Header;
+use tks_durable::Machine;
 use tks_input::{Input, Refused, Reply};
-use tks_session::Machine;
+use tks_spelling::Header;
 use tks_text::{Seq, Size, Txt};
 
 // Adds more to a text, as long as it stays within the limit.

@@ -57,10 +57,10 @@ fn two(
 fn is_packed(alloc: Global, tree: &Tree, packings: &[Packing], padx: u16) -> Option<bool> {
     let path = Txt::from_bytes(alloc, b".a").ok()?;
     let window = tree.resolve(&path).ok()?;
-    if packings.len() != 2 || packings[0].contents().len() != 1 {
+    if packings.len() != 2 || packings[0].len() != 1 {
         return None;
     }
-    let content = packings[0].contents()[0];
+    let content = packings[0].contents().next()?;
     let asks = packings[0].propagates() && !packings[1].propagates();
     let is_that = window.number() == 3 && content.window.number() == 3;
     Some(is_that && content.settings.padx.cells() == padx && asks)

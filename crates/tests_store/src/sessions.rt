@@ -4,8 +4,8 @@ use crate::crashes::left;
 use crate::log::Log;
 use std::alloc::Global;
 use tks_disk::{Disk, Fuse, Left, MemoryDisk, Side};
+use tks_durable::{Drained, Durable, SessionFault};
 use tks_input::{Input, Refused, Reply};
-use tks_session::{Drained, Session, SessionFault};
 use tks_text::Txt;
 
 fn script(alloc: Global, bytes: &[u8]) -> Option<Input> {
@@ -13,7 +13,7 @@ fn script(alloc: Global, bytes: &[u8]) -> Option<Input> {
 }
 
 // Posts letters, and commits at each dot, until a call fails. How many were acknowledged last.
-fn lives<D: Disk>(alloc: Global, session: &mut Session<D, Log>, acts: &[u8]) -> Option<u64> {
+fn lives<D: Disk>(alloc: Global, session: &mut Durable<D, Log>, acts: &[u8]) -> Option<u64> {
     let mut told = session.acknowledged();
     for act in acts {
         if *act == b'.' {
@@ -36,7 +36,7 @@ const LOG: Log = Log {
 
 // A session's life on this disk: how many letters were acknowledged, and the disk.
 fn lived<D: Disk + Drop>(alloc: Global, disk: D, log: Log, acts: &[u8]) -> (Option<u64>, D) {
-    match Session::open(alloc, disk, log) {
+    match Durable::open(alloc, disk, log) {
         Ok(mut session) => {
             let told = lives(alloc, &mut session, acts);
             (told, session.close().0)
@@ -53,7 +53,7 @@ fn opens_to_prefix<D: Disk + Drop>(
     letters: &[u8],
     told: u64,
 ) -> Option<bool> {
-    match Session::open(alloc, disk, log) {
+    match Durable::open(alloc, disk, log) {
         Ok(session) => {
             let world = session.world().as_bytes();
             Some(
@@ -156,7 +156,7 @@ fn filled_opens<D: Disk + Drop>(
     let mut disk = disk;
     disk.write_at(Side::A, 0, a).ok()?;
     disk.write_at(Side::B, 0, b).ok()?;
-    match Session::open(alloc, disk, LOG) {
+    match Durable::open(alloc, disk, LOG) {
         Ok(session) => Some(Ok(session.world().as_bytes().to_vec(alloc).ok()?)),
         Err(refused) => Some(Err(refused.fault)),
     }
@@ -281,7 +281,7 @@ fn faults_come_in_their_order(rt: HostRuntime) {
 // What a session says of one input more.
 fn posts<D: Disk>(
     alloc: Global,
-    session: &mut Session<D, Log>,
+    session: &mut Durable<D, Log>,
     bytes: &[u8],
 ) -> Option<Result<u64, Refused>> {
     let input = script(alloc, bytes)?;
@@ -291,7 +291,7 @@ fn posts<D: Disk>(
     }
 }
 
-fn refuses<D: Disk>(alloc: Global, session: &mut Session<D, Log>) -> Option<bool> {
+fn refuses<D: Disk>(alloc: Global, session: &mut Durable<D, Log>) -> Option<bool> {
     session.stands();
     let quiet = session.post(&Input::Turn).err() == Some(Refused::Quiet);
     let large = posts(alloc, session, b"abcdefg")? == Err(Refused::TooLarge);
@@ -305,7 +305,7 @@ fn refuses<D: Disk>(alloc: Global, session: &mut Session<D, Log>) -> Option<bool
 }
 
 fn refusals<D: Disk + Drop>(alloc: Global, disk: D) -> Option<bool> {
-    match Session::open(alloc, disk, LOG) {
+    match Durable::open(alloc, disk, LOG) {
         Ok(mut session) => refuses(alloc, &mut session),
         Err(_) => None,
     }
@@ -318,7 +318,7 @@ fn refused_inputs_change_nothing(rt: HostRuntime) {
 }
 
 // Drains so many turns, and what was told of them: the sum of the replies' numbers.
-fn drains<D: Disk>(session: &mut Session<D, Log>, turns: u64) -> (Drained, u64) {
+fn drains<D: Disk>(session: &mut Durable<D, Log>, turns: u64) -> (Drained, u64) {
     let mut sum: u64 = 0;
     let mut tell = |reply: &Reply| sum = sum.saturating_add(reply.number);
     let drained = session.drain(turns, &mut tell);
@@ -330,7 +330,7 @@ fn ended(turns: u64, ended: Option<Refused>, sum: u64) -> (Drained, u64) {
 }
 
 // Of a session that is empty.
-fn turns_are_told<D: Disk>(alloc: Global, session: &mut Session<D, Log>) -> Option<bool> {
+fn turns_are_told<D: Disk>(alloc: Global, session: &mut Durable<D, Log>) -> Option<bool> {
     let quiet = drains(session, 9) == ended(0, Some(Refused::Quiet), 0);
     let none = drains(session, 0) == ended(0, None, 0);
     let letter = posts(alloc, session, b"a")? == Ok(1);
@@ -345,7 +345,7 @@ fn drained<D: Disk + Drop>(alloc: Global, disk: D) -> Option<bool> {
         limit: 6,
         pending: 10,
     };
-    match Session::open(alloc, disk, log) {
+    match Durable::open(alloc, disk, log) {
         Ok(mut session) => turns_are_told(alloc, &mut session),
         Err(_) => None,
     }
@@ -358,7 +358,7 @@ fn turns_are_told_one_by_one(rt: HostRuntime) {
 }
 
 // Whether a session whose commit fails runs no turn then; none where it doesn't fail.
-fn runs_no_turn<D: Disk>(alloc: Global, session: &mut Session<D, Log>) -> Option<bool> {
+fn runs_no_turn<D: Disk>(alloc: Global, session: &mut Durable<D, Log>) -> Option<bool> {
     session.post(&script(alloc, b"a")?).ok()?;
     if session.commit().is_ok() {
         return None;
@@ -372,7 +372,7 @@ fn runs_no_turn<D: Disk>(alloc: Global, session: &mut Session<D, Log>) -> Option
 
 // The same of a session on this disk; none where it isn't opened either.
 fn failed_on<D: Disk + Drop>(alloc: Global, disk: D) -> Option<bool> {
-    match Session::open(alloc, disk, LOG) {
+    match Durable::open(alloc, disk, LOG) {
         Ok(mut session) => runs_no_turn(alloc, &mut session),
         Err(_) => None,
     }

@@ -1,7 +1,7 @@
 //! Inputs and headers, read and written again.
 use std::alloc::Global;
-use tks_codec::{CodecFault, Header, read_header, read_input, write_header, write_input};
 use tks_input::Input;
+use tks_spelling::{CodecFault, Header, read_header, read_input, write_header, write_input};
 use tks_text::Txt;
 
 /// What reading comes to: the value's spelling, as it is written again, or where the fault is.

@@ -6,7 +6,7 @@ use crate::turns::input_of;
 use crate::worlds::{first_world, shown};
 use std::alloc::Global;
 use tks_app::Apps;
-use tks_codec_world::write_world;
+use tks_codec::write_world;
 use tks_text::Limits;
 use tks_world::{Input, Refused, World, step};
 

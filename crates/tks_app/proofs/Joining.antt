@@ -1,12 +1,11 @@
 -- A command that joins others, in the place of its name.
 use Rattle.std.proofs.Common.{◌≡◌, ℕ, zero, suc, Bool, true, false, ◌||◌, if◌then◌else◌, List, [], ◌∷◌, insert, length, Ordering, Less, Equal, Greater, refl, sym, ap, ◌∙◌, true≢false}
 use Rattle.std.specs.Ordering.{is_lt, nat_cmp, ordering_reverse}
-use Rattle.std.specs.Cmp.{IsTotalOrder}
 use Rattle.std.specs.Cmp.Lexicographic.{slice_cmp, bytes_decides}
 use Rattle.std.proofs.lemmas.Cmp.{nat_list_cmp_total}
 use Rattle.std.proofs.lemmas.Map.Lookups.{exact_bytes}
 use Rattle.tks_text.specs.Text.{same_text}
-use Rattle.tks_app.specs.Applications.{is_name, has, comes_before, place_for, with_name, Leads, AreNames, Joins}
+use Rattle.tks_app.specs.Applications.{has, comes_before, place_for, with_name, Leads, AreNames, Joins}
 
 either_false : (b c : Bool) → (b || c) ≡ false → (b ≡ false) × (c ≡ false)
 either_false false c h = (refl, h)

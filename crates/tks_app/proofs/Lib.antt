@@ -1,3 +1,2 @@
+pub mod Firsts
 mod Joining
-mod Places
-pub mod Rising

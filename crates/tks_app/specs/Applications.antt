@@ -4,7 +4,7 @@ use Rattle.std.specs.Prelude.{◌≡◌, ℕ, suc, Bool, true, false, not, ◌&&
 use Rattle.std.specs.List.{list_all}
 use Rattle.std.specs.Ordering.{is_lt, nat_cmp}
 use Rattle.std.specs.Cmp.Lexicographic.{slice_cmp}
-use Rattle.tks_text.specs.Text.{same_text}
+use Rattle.tks_text.specs.Text.{same_text, begins_dot}
 use Rattle.tks_tcl.specs.Names.{is_built_in}
 use Rattle.tks_app.specs.declared.answer.AppAnswer.{AppAnswer}
 use Rattle.tks_app.specs.declared.apps.AddRefusal.{AddRefusal}
@@ -17,10 +17,6 @@ Meaning = List ℕ → List ℕ → List (List ℕ) → AppAnswer
 -- a letter, a digit, an underscore or a dot
 abbrev pub is_name_byte : ℕ → Bool
 is_name_byte c = (nat_le 65 c && nat_le c 90) || (nat_le 97 c && nat_le c 122) || (nat_le 48 c && nat_le c 57) || (c == 95) || (c == 46)
-
-abbrev pub begins_dot : List ℕ → Bool
-begins_dot [] = false
-begins_dot (c ∷ name) = c == 46
 
 -- 1 to 64 letters, digits, underscores and dots, of which the first is no dot; no built-in command has this name
 abbrev pub is_name : List ℕ → Bool

@@ -1,3 +1,4 @@
+//! What a command answers.
 use tks_text::Txt;
 
 /// How a command of the application ends.

@@ -1,15 +1,16 @@
 //! Commands by name.
 ghost use Rattle.std.specs.Prelude.{◌≡◌, ◌≤◌, ◌<◌, ◌-◌, ◌^◌, [], length, true, is_some, IfOk, IfErr, IfSome, OnOk, OnErr};
 ghost use Rattle.std.specs.List.{list_all};
-ghost use Rattle.tks_app.specs.Applications.{is_name_byte, begins_dot, is_name, has, comes_before, place_for, with_name, AreNames, Joins, RefusedFor};
+ghost use Rattle.tks_app.specs.Applications.{is_name_byte, is_name, has, comes_before, place_for, with_name, AreNames, Joins, RefusedFor};
 ghost use Rattle.tks_app.specs.declared.apps.AddRefusal.TheVariants.{NoMemory};
 
 use crate::{AppAnswer, AppBody, AppClosure, AppCommand, AppMeaning};
 use std::alloc::{AllocError, Global};
+use std::fmt;
 use std::marker::Model;
 use thiserror::Error;
 use tks_tcl::is_built_in;
-use tks_text::{Seq, Txt};
+use tks_text::{Seq, Txt, begins_dot};
 
 /// How many bytes a name has at most.
 const NAME_LEN: usize = 64;
@@ -29,16 +30,6 @@ fn are_name_bytes(bytes: &[u8]) -> bool
     ensures { result ≡ list_all is_name_byte bytes.now }
 {
     bytes.iter().all(|byte| is_name_byte(*byte))
-}
-
-// Whether the first byte is a dot.
-fn begins_dot(name: &[u8]) -> bool
-    ensures { result ≡ begins_dot name.now }
-{
-    match name {
-        [] => false,
-        [first, ..] => *first == b'.',
-    }
 }
 
 /// Whether a command of an application may have this name: 1 to 64 letters, digits, `_` or `.`, of which the first is no
@@ -75,11 +66,22 @@ pub enum AddRefusal {
     NoMemory,
 }
 
-/// A command that didn't join the others.
-#[derive(Drop)]
+/// A command that didn't join the others, and why.
+#[derive(Drop, Error)]
+#[error("{why}")]
 pub struct AddFault<T: AppMeaning, B: AppBody = AppClosure> {
     pub command: AppCommand<T, B>,
     pub why: AddRefusal,
+}
+
+// A command can't be shown, since what it runs is a closure: its name stands for it.
+impl<T: AppMeaning, B: AppBody> fmt::Debug for AddFault<T, B> {
+    fn fmt<W: fmt::Write>(&self, f: &mut fmt::Formatter<W>) -> fmt::Result {
+        f.debug_struct("AddFault")
+            .field("command", self.command.name())
+            .field("why", &self.why)
+            .finish()
+    }
 }
 
 /// The commands of an application, each of another name, and fewer than 2^32. Contracts see their names, which rise by

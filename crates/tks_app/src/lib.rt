@@ -11,4 +11,4 @@ pub use answer::{AppAnswer, AppCode};
 pub use apps::{AddFault, AddRefusal, Apps, is_name};
 pub use body::{AppBody, AppClosure};
 pub use command::{AppCommand, AppMeaning};
-pub use memories::{Memories, Memory, are_memories};
+pub use memories::Memories;

@@ -1,12 +1,10 @@
 -- Bindings by their index.
 use Rattle.std.specs.List.{remove}
 use Rattle.std.proofs.Common.{◌≡◌, ◌≤◌, ◌<◌, ℕ, suc, Bool, true, false, List, [], ◌∷◌, ◌++◌, length, slice_set, refl, ap, arith}
-use Rattle.std.proofs.lemmas.List.Edits.{length-remove}
-use Rattle.tks_text.specs.Text.{same_text}
 use Rattle.tks_event.specs.declared.pattern.Pattern.{Pattern}
 use Rattle.tks_bind.specs.declared.binding.Binding.{Binding}
-use Rattle.tks_bind.specs.Binding.{is_for, placed, without, without_tag}
-use Rattle.tks_bind.specs.Indexes.{index_of, index_tagged}
+use Rattle.tks_bind.specs.Binding.{is_for, placed, without}
+use Rattle.tks_bind.specs.Indexes.{index_of}
 
 -- where it is there, it is replaced
 pub placed_there : (b : Binding) (bs : List Binding) → index_of b.tag b.sequence bs < length bs → slice_set bs (index_of b.tag b.sequence bs) b ≡ placed b bs
@@ -46,27 +44,3 @@ none_taken tag s (c ∷ cs) h = by (is_for tag s c) refl h (none_taken tag s cs)
         → c ∷ cs ≡ without tag s (c ∷ cs)
     by true e i rest = absurd (let j : suc (length cs) ≤ 0 = rw e at i in omega arith)
     by false e i rest = rw e (let j : suc (length cs) ≤ suc (index_of tag s cs) = rw e at i in ap (λ r. c ∷ r) (rest (omega arith)))
-
--- ---- the bindings of a tag
-
-pub tagged_taken : (tag : List ℕ) (bs : List Binding) → index_tagged tag bs < length bs → without_tag tag (remove bs (index_tagged tag bs)) ≡ without_tag tag bs
-tagged_taken tag [] h = absurd (omega arith)
-tagged_taken tag (c ∷ cs) h = by (same_text c.tag tag) refl h (tagged_taken tag cs)
-  where
-    by : (t : Bool) → same_text c.tag tag ≡ t → index_tagged tag (c ∷ cs) < suc (length cs)
-        → (index_tagged tag cs < length cs → without_tag tag (remove cs (index_tagged tag cs)) ≡ without_tag tag cs)
-        → without_tag tag (remove (c ∷ cs) (index_tagged tag (c ∷ cs))) ≡ without_tag tag (c ∷ cs)
-    by true e i rest = rw e refl
-    by false e i rest = rw (e, e) (let j : suc (index_tagged tag cs) < suc (length cs) = rw e at i in ap (λ r. c ∷ r) (rest (omega arith)))
-
-pub none_tagged : (tag : List ℕ) (bs : List Binding) → length bs ≤ index_tagged tag bs → without_tag tag bs ≡ bs
-none_tagged tag [] h = refl
-none_tagged tag (c ∷ cs) h = by (same_text c.tag tag) refl h (none_tagged tag cs)
-  where
-    by : (t : Bool) → same_text c.tag tag ≡ t → suc (length cs) ≤ index_tagged tag (c ∷ cs) → (length cs ≤ index_tagged tag cs → without_tag tag cs ≡ cs)
-        → without_tag tag (c ∷ cs) ≡ c ∷ cs
-    by true e i rest = absurd (let j : suc (length cs) ≤ 0 = rw e at i in omega arith)
-    by false e i rest = rw e (let j : suc (length cs) ≤ suc (index_tagged tag cs) = rw e at i in ap (λ r. c ∷ r) (rest (omega arith)))
-
-pub one_less : (bs : List Binding) (i : ℕ) → i < length bs → length (remove bs i) < length bs
-one_less bs i h = let n = length-remove bs i h in omega (arith, n)

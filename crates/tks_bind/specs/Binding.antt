@@ -11,11 +11,6 @@ pub record Content : Type 0 where
   pub bindings : List Binding
   pub next : ℕ
 
--- what there is now, and, where a mark stands, what there was at the mark
-pub record Views : Type 0 where
-  pub present : Content
-  pub at_mark : Option Content
-
 abbrev pub nothing : Content
 nothing = record { bindings = []; next = 0 }
 
@@ -65,8 +60,3 @@ bound tag sequence (p ∷ more) c = set tag sequence (made (script_for tag seque
 abbrev pub spelled : List ℕ → List Binding → List (List ℕ)
 spelled tag [] = []
 spelled tag (b ∷ bs) = if same_text b.tag tag then canonical b.sequence ∷ spelled tag bs else spelled tag bs
-
--- without the bindings of a tag
-abbrev pub without_tag : List ℕ → List Binding → List Binding
-without_tag tag [] = []
-without_tag tag (b ∷ bs) = if same_text b.tag tag then without_tag tag bs else b ∷ without_tag tag bs

@@ -3,7 +3,7 @@ use Rattle.std.specs.Prelude.{ℕ, ◌-◌, ◌&&◌, ◌||◌, not, nat_lt, Boo
 use Rattle.tks_text.specs.Text.{same_text}
 use Rattle.tks_event.specs.declared.pattern.Pattern.{Pattern}
 use Rattle.tks_bind.specs.declared.binding.Binding.{Binding}
-use Rattle.tks_bind.specs.declared.scene.Looked.{Looked}
+use Rattle.tks_bind.specs.declared.scene.Scene.{Scene as Held}
 use Rattle.tks_bind.specs.declared.virtual_event.VirtualEvent.{VirtualEvent}
 use Rattle.tks_bind.specs.Percents.{is_virtual}
 use Rattle.tks_bind.specs.VirtualEvents.{sequences_of}
@@ -13,9 +13,9 @@ use Rattle.tks_bind.specs.Choice.{Way}
 use Rattle.tks_bind.specs.Beating.{beats}
 use Rattle.tks_bind.specs.Chosen.{Scene, name_of}
 
--- what the code looks at
-abbrev pub scene_of : Looked → Scene
-scene_of l = record { bindings = l.bindings.now.present; tag = l.tag.now; event = l.event.now; history = l.history.now; virtuals = l.virtuals.now.present }
+-- the scene that the code holds
+abbrev pub scene_of : Held → Scene
+scene_of s = record { bindings = s.bindings.now; tag = s.tag.now; event = s.event.now; history = s.history.now; virtuals = s.virtuals.now }
 
 -- whether a name is this one
 abbrev pub is_this : Option (List ℕ) → List ℕ → Bool

@@ -1,5 +1,4 @@
 pub mod History
-pub mod Log
 pub mod Matching
 pub mod Occurs
 pub mod Choice

@@ -1,15 +1,14 @@
 -- What holds of all bindings and of all virtual events (bind(n), event(n); that bindings have numbers is this project's own
 -- rule).
-use Rattle.std.specs.Prelude.{ℕ, ◌≡◌, ◌==◌, ◌≤◌, ◌^◌, Bool, true, false, ◌&&◌, ◌||◌, not, nat_lt, List, [], ◌∷◌, IfSome}
+use Rattle.std.specs.Prelude.{ℕ, ◌≡◌, ◌==◌, ◌≤◌, ◌^◌, Bool, true, false, ◌&&◌, ◌||◌, not, nat_lt, List, [], ◌∷◌}
 use Rattle.std.specs.List.{AllByRecursion, list_all}
-use Rattle.tks_mark.specs.Views as marks
 use Rattle.tks_text.specs.Text.{same_text}
 use Rattle.tks_event.specs.Equality.{equal_patterns}
 use Rattle.tks_event.specs.Sequences.{is_name}
 use Rattle.tks_event.specs.declared.pattern.Pattern.{Pattern}
 use Rattle.tks_bind.specs.declared.binding.Binding.{Binding}
 use Rattle.tks_bind.specs.declared.virtual_event.VirtualEvent.{VirtualEvent}
-use Rattle.tks_bind.specs.Binding.{Content, Views, is_for}
+use Rattle.tks_bind.specs.Binding.{Content, is_for}
 use Rattle.tks_bind.specs.Distinct.{all_differ}
 use Rattle.tks_bind.specs.VirtualEvents.{is_of_name}
 
@@ -25,11 +24,6 @@ are_bindings next bs = list_all (λ b. nat_lt b.number next) bs && all_differ di
 pub record AreBindings (c : Content) : Type 0 where
   pub next : c.next ≤ 2 ^ 62
   pub bindings : are_bindings c.next c.bindings ≡ true
-
--- of those that there are, and of those that there were at the mark
-pub record WellFormedBindings (v : Views) : Type 0 where
-  pub present : AreBindings v.present
-  pub at_mark : IfSome v.at_mark AreBindings
 
 -- whether all but the one of a tag and a sequence have lesser numbers than this
 abbrev pub others_are_below : ℕ → List ℕ → List Pattern → List Binding → Bool
@@ -69,8 +63,3 @@ are_virtuals vs = all_differ names_differ vs
 pub record AreVirtuals (vs : List VirtualEvent) : Type 0 where
   pub names : are_virtuals vs ≡ true
   pub legal : AllByRecursion (λ v. is_virtual_event v ≡ true) vs
-
--- of those that there are, and of those that there were at the mark
-pub record WellFormedVirtuals (v : marks.Views VirtualEvent) : Type 0 where
-  pub present : AreVirtuals v.present
-  pub at_mark : IfSome v.at_mark AreVirtuals

@@ -1,9 +1,8 @@
+//! One binding.
 ghost use Rattle.std.specs.Prelude.{◌≡◌};
 ghost use Rattle.tks_bind.specs.Binding.{is_for};
 
-use std::alloc::{AllocError, Global};
 use tks_event::{Sequence, are_equal};
-use tks_share::Copied;
 use tks_text::Txt;
 
 /// A script that a tag has for a sequence of events.
@@ -22,16 +21,5 @@ impl Binding {
         ensures { result ≡ is_for tag.now sequence.now self.now }
     {
         self.tag == *tag && are_equal(self.sequence.as_slice(), sequence.as_slice())
-    }
-}
-
-impl Copied for Binding {
-    fn copied(&self, alloc: Global) -> Result<Binding, AllocError> {
-        Ok(Binding {
-            number: self.number,
-            tag: self.tag.try_clone()?,
-            sequence: self.sequence.try_clone(alloc)?,
-            script: self.script.try_clone()?,
-        })
     }
 }

@@ -1,3 +1,4 @@
+//! Faults of bindings.
 use std::alloc::AllocError;
 use thiserror::Error;
 

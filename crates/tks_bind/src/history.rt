@@ -1,8 +1,7 @@
 //! The history of events.
-ghost use Rattle.std.specs.Prelude.{◌≡◌, true, [], ◌++◌, ◌∷◌, length, ◌-◌, ◌≤◌, Some, None, IsSome, is_some, IfSome, IfOk, IfErr, OnOk, OnErr};
+ghost use Rattle.std.specs.Prelude.{◌≡◌, true, [], ◌++◌, ◌∷◌, length, ◌-◌, ◌≤◌, IfOk, IfErr, OnOk, OnErr};
 ghost use Rattle.tks_event.specs.Legality.{is_event, AreEvents};
 ghost use Rattle.tks_bind.specs.History.{latest, with_event};
-ghost use Rattle.tks_bind.specs.Log.{trimmed, cut_at};
 
 use std::alloc::{AllocError, AllocFailed, Global};
 use std::marker::Model;
@@ -12,162 +11,104 @@ use tks_share::Copied;
 /// How many events a history holds at most.
 pub const MAX_HISTORY: usize = 32;
 
-/// The last physical events that were delivered, at most 32, each one that there is. It knows what it was at a mark.
+/// The last physical events that were delivered, at most 32, each one that there is.
 pub struct History {
-    alloc: Global,
-    // All since some moment: the history is the last of them.
-    log: Vec<Event>,
-    // How many there were at the mark.
-    mark: Option<usize>,
+    events: Vec<Event>,
 }
 
 // Written out, so that to let go of it is one step for whoever owns it.
 impl Drop for History {
     fn drop(self) {
-        let History {
-            alloc: _,
-            log: _,
-            mark: _,
-        } = self;
+        let History { events: _ } = self;
     }
 }
 
 impl Model for History {
-    ghost use Rattle.tks_mark.specs.Views.{Views};
+    ghost use Rattle.std.specs.Prelude.{List};
     ghost use Rattle.tks_event.specs.declared.event.Event.{Event};
-    ghost use Rattle.tks_bind.specs.History.{latest};
-    ghost use Rattle.tks_bind.specs.Log.{then_of, Within};
 
-    ghost Value = { Views Event };
+    ghost Value = { List Event };
 
-    ghost view = { λ h. record { present = latest h.log.items; at_mark = then_of h.mark h.log.items } };
+    ghost view = { λ h. h.events.items };
 
+    ghost use Rattle.std.specs.Prelude.{◌≤◌, length};
     ghost use Rattle.tks_event.specs.Legality.{AreEvents};
 
-    ghost invariant = { λ h. Within h.mark h.log.items × AreEvents h.log.items };
+    ghost invariant = { λ h. (length h.events.items ≤ 32) × AreEvents h.events.items };
 }
 
 impl History {
-    /// No event, and no mark.
+    /// No event.
     pub fn new(alloc: Global) -> History
-        ensures { result ≡ record { present = []; at_mark = None } }
+        ensures { result ≡ [] }
     {
         History {
-            alloc,
-            log: Vec::new(alloc),
-            mark: None,
+            events: Vec::new(alloc),
         }
     }
 
-    /// The history of these events, the latest last, with no mark, so that one is made again from what it had. Of more
-    /// than 32 events it holds the last.
-    pub fn restore(alloc: Global, events: Vec<Event>) -> History
+    /// The history of these events, the latest last, so that one is made again from what it had. Of more than 32 events it
+    /// holds the last.
+    #[tactic(auto, using(crate::proofs::Latest::latest_within))]
+    pub fn restore(events: Vec<Event>) -> History
         requires { AreEvents events.items }
-        ensures { result ≡ record { present = latest events.items; at_mark = None } }
+        ensures { result ≡ latest events.items }
     {
-        History {
-            alloc,
-            log: events,
-            mark: None,
-        }
+        let mut events = events;
+        trim(&mut events);
+        History { events }
     }
 
     /// The events, the latest last.
-    #[tactic(auto, using(crate::proofs::Latest::latest_within))]
     pub fn events(&self) -> &[Event]
-        ensures value { result.now ≡ self.now.present }
+        ensures value { result.now ≡ self.now }
         ensures within { length result.now ≤ 32 }
-        ensures legal { AreEvents self.now.present }
+        ensures legal { AreEvents self.now }
     {
-        self.log.split_at(old_count(&self.log)).1
+        &self.events
     }
 
     /// Adds an event that is delivered; where there were 32, the oldest goes. Where memory is refused, it hands the
     /// event back.
+    #[tactic(auto, using(crate::proofs::Latest::latest_within))]
     pub fn add(&mut self, event: Event) -> Result<(), AllocFailed<Event>>
         requires { is_event event ≡ true }
-        ensures ok { OnOk result (self.new ≡ record self.old { present = with_event event self.old.present }) }
+        ensures ok { OnOk result (self.new ≡ with_event event self.old) }
         ensures err { OnErr result (self.new ≡ self.old) }
         ensures handed_back { IfErr result (λ refused. refused.value ≡ event) }
     {
-        match self.log.push(event) {
+        match self.events.push(event) {
             Ok(()) => {
-                trim(&mut self.log, self.mark.is_some());
+                trim(&mut self.events);
                 Ok(())
             }
             Err(refused) => Err(refused),
         }
     }
-
-    /// Whether a mark stands.
-    pub fn is_marked(&self) -> bool
-        ensures { result ≡ is_some self.now.at_mark }
-    {
-        self.mark.is_some()
-    }
-
-    /// Sets the mark. It takes no memory.
-    pub fn mark(&mut self)
-        requires { self.old.at_mark ≡ None }
-        ensures { self.new ≡ record self.old { at_mark = Some self.old.present } }
-    {
-        self.mark = Some(self.log.len());
-    }
-
-    /// Makes the history what it was at the mark, and takes the mark away. It takes no memory.
-    pub fn back_to(&mut self)
-        requires { IsSome self.old.at_mark }
-        ensures { IfSome self.old.at_mark (λ events. self.new ≡ record { present = events; at_mark = None }) }
-    {
-        cut(&mut self.log, self.mark);
-        self.mark = None;
-    }
-
-    /// Takes the mark away, and leaves the history as it is. It takes no memory.
-    pub fn forget(&mut self)
-        ensures { self.new ≡ record self.old { at_mark = None } }
-    {
-        self.mark = None;
-        trim(&mut self.log, false);
-    }
 }
 
 impl Copied for History {
-    // What it was at a mark is copied too.
     fn copied(&self, alloc: Global) -> Result<History, AllocError> {
         Ok(History {
-            alloc,
-            log: copied(alloc, &self.log)?,
-            mark: self.mark,
+            events: copied(alloc, &self.events)?,
         })
     }
 }
 
-// How many events are too old for the history.
-fn old_count(log: &[Event]) -> usize
-    ensures value { result ≡ length log.now - 32 }
-    ensures within { result ≤ length log.now }
+// How many events are too old for a history.
+fn old_count(events: &[Event]) -> usize
+    ensures value { result ≡ length events.now - 32 }
+    ensures within { result ≤ length events.now }
 {
-    log.len().saturating_sub(MAX_HISTORY)
+    events.len().saturating_sub(MAX_HISTORY)
 }
 
-// Drops the events that are too old, where no mark stands.
-fn trim(log: &mut Vec<Event>, is_marked: bool)
-    ensures { log.new.items ≡ trimmed is_marked log.old.items }
+// Drops the events that are too old.
+fn trim(events: &mut Vec<Event>)
+    ensures { events.new.items ≡ latest events.old.items }
 {
-    if !is_marked {
-        let old = old_count(log);
-        log.drain(..old);
-    }
-}
-
-// Drops the events that came since the mark.
-fn cut(log: &mut Vec<Event>, mark: Option<usize>)
-    ensures { log.new.items ≡ cut_at mark log.old.items }
-{
-    if let Some(count) = mark {
-        log.truncate(count);
-    }
+    let old = old_count(events);
+    events.drain(..old);
 }
 
 // Equal events.

@@ -1,3 +1,4 @@
+//! Laws of the choice among bindings.
 ghost use Rattle.std.specs.Prelude.{List, ℕ, true, [], ◌∷◌, ◌≡◌};
 ghost use Rattle.tks_list.specs.ListText.{Splits};
 ghost use Rattle.tks_event.specs.declared.event.Event.{Event};

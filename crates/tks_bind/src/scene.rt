@@ -12,20 +12,20 @@ use crate::virtuals::Virtuals;
 use crate::way::{Way, beats};
 use std::slice::from_ref;
 use tks_event::{Event, Kind, Sequence};
-use tks_mark::Marked;
+use tks_share::SharedList;
 use tks_text::Txt;
 
 /// What is looked at where a binding is chosen.
 #[derive(Clone, Copy)]
-pub struct Looked<'a> {
-    pub bindings: &'a Marked<Binding>,
+pub struct Scene<'a> {
+    pub bindings: &'a SharedList<Binding>,
     pub tag: &'a Txt,
     pub event: &'a Event,
     pub history: &'a [Event],
     pub virtuals: &'a Virtuals,
 }
 
-impl<'a> Looked<'a> {
+impl<'a> Scene<'a> {
     // Whether the event meets a sequence.
     fn meets(&self, sequence: &Sequence) -> bool
         requires { length self.now.history.now ≤ 32 }
@@ -100,7 +100,7 @@ impl<'a> Looked<'a> {
         requires { length self.now.history.now ≤ 32 }
         ensures { result ≡ is_beaten (scene_of self.now) (way_of other.entry) (scene_of self.now).bindings }
     {
-        for binding in self.bindings.items() {
+        for binding in self.bindings.iter() {
             if self.is_beaten_by(other, binding) {
                 return true;
             }
@@ -148,7 +148,7 @@ impl<'a> Looked<'a> {
         ensures { option_copied result ≡ latest_of (scene_of self.now) (scene_of self.now).bindings }
     {
         let mut latest = None;
-        for binding in self.bindings.items() {
+        for binding in self.bindings.iter() {
             if self.wins(binding) {
                 latest = Some(later(latest, binding));
             }

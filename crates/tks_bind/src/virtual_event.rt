@@ -1,10 +1,10 @@
+//! One virtual event.
 ghost use Rattle.std.specs.Prelude.{◌≡◌, [], ◌∷◌, ◌++◌, IfOk};
 ghost use Rattle.tks_bind.specs.VirtualEvents.{has_sequence, is_of_name, other_sequences};
 
 use crate::field::is_virtual;
 use std::alloc::{AllocError, Global};
 use tks_event::{Sequence, are_equal};
-use tks_share::Copied;
 use tks_text::{Seq, Txt};
 
 /// An event that scripts make up, and the sequences by which it is met as well.
@@ -30,15 +30,6 @@ impl VirtualEvent {
         Ok(VirtualEvent {
             name,
             sequences: kept,
-        })
-    }
-}
-
-impl Copied for VirtualEvent {
-    fn copied(&self, alloc: Global) -> Result<VirtualEvent, AllocError> {
-        Ok(VirtualEvent {
-            name: self.name.try_clone()?,
-            sequences: copied(alloc, self.sequences.as_slice())?,
         })
     }
 }

@@ -1,23 +1,22 @@
 //! The virtual events.
-ghost use Rattle.std.specs.Prelude.{◌≡◌, ◌<◌, ◌^◌, true, false, [], ◌∷◌, length, Some, None, IsSome, is_some, IfSome, IfOk, OnOk, OnErr, option_copied, slice_get};
+ghost use Rattle.std.specs.Prelude.{◌≡◌, ◌<◌, ◌^◌, true, false, [], ◌∷◌, length, Some, None, IfOk, OnOk, OnErr, option_copied, slice_get};
 ghost use Rattle.tks_bind.specs.VirtualEvents.{is_of_name, sequences_of, added, deleted, deleted_sequence};
 ghost use Rattle.tks_bind.specs.VirtualIndexes.{index_of, found};
 ghost use Rattle.std.specs.List.{AllByRecursion};
 ghost use Rattle.tks_event.specs.Sequences.{is_name};
-ghost use Rattle.tks_bind.specs.WellFormed.{is_virtual_event, are_virtuals, WellFormedVirtuals};
+ghost use Rattle.tks_bind.specs.WellFormed.{is_virtual_event, are_virtuals, AreVirtuals};
 
 use crate::virtual_event::{VirtualEvent, has_sequence, others, with_one_more};
 use std::alloc::{AllocError, Global};
 use std::marker::Model;
 use tks_event::Sequence;
-use tks_mark::{Items, Marked};
-use tks_share::Copied;
+use tks_share::{Items, SharedList};
 use tks_text::{Seq, Txt};
 
-/// The virtual events that have sequences, in the order in which they were added. They know what they were at a mark.
+/// The virtual events that have sequences, in the order in which they were added. Copies share what they have in common.
 pub struct Virtuals {
     alloc: Global,
-    events: Marked<VirtualEvent>,
+    events: SharedList<VirtualEvent>,
 }
 
 // Written out, so that to let go of it is one step for whoever owns it.
@@ -31,60 +30,71 @@ impl Drop for Virtuals {
 }
 
 impl Model for Virtuals {
-    ghost use Rattle.tks_mark.specs.Views.{Views};
+    ghost use Rattle.std.specs.Prelude.{List};
     ghost use Rattle.tks_bind.specs.declared.virtual_event.VirtualEvent.{VirtualEvent};
 
-    ghost Value = { Views VirtualEvent };
+    ghost Value = { List VirtualEvent };
 
     ghost view = { λ v. v.events };
 
-    ghost use Rattle.tks_bind.specs.WellFormed.{WellFormedVirtuals};
+    ghost use Rattle.tks_bind.specs.WellFormed.{AreVirtuals};
 
-    ghost invariant = { λ v. WellFormedVirtuals v.events };
+    ghost invariant = { λ v. AreVirtuals v.events };
 }
 
 impl Virtuals {
-    /// No virtual event, and no mark.
+    /// No virtual event.
     pub fn new(alloc: Global) -> Virtuals
-        ensures { result ≡ record { present = []; at_mark = None } }
+        ensures { result ≡ [] }
     {
         Virtuals {
             alloc,
-            events: Marked::new(alloc),
+            events: SharedList::new(alloc),
         }
     }
 
-    /// These virtual events, in order, with no mark, so that they are made again from what there was. Their names differ,
-    /// and each has sequences of physical events, which differ.
+    /// These virtual events, in order, so that they are made again from what there was. Their names differ, and each has
+    /// sequences of physical events, which differ.
     pub fn restore(alloc: Global, events: Vec<VirtualEvent>) -> Result<Virtuals, AllocError>
         requires names { are_virtuals events.items ≡ true }
         requires legal { AllByRecursion (λ v. is_virtual_event v ≡ true) events.items }
-        ensures { IfOk result (λ made. made ≡ record { present = events.items; at_mark = None }) }
+        ensures { IfOk result (λ made. made ≡ events.items) }
     {
         Ok(Virtuals {
             alloc,
-            events: Marked::of(alloc, events)?,
+            events: SharedList::of(alloc, events)?,
+        })
+    }
+
+    /// The same virtual events, held once more. It takes no memory, whatever they are.
+    pub fn share(&self) -> Result<Virtuals, AllocError>
+        ensures { IfOk result (λ same. same ≡ self.now) }
+    {
+        Ok(Virtuals {
+            alloc: self.alloc,
+            events: self.events.share()?,
         })
     }
 
     /// The virtual events, in the order in which they were added.
     pub fn events(&self) -> Items<'_, VirtualEvent>
-        ensures { result ≡ self.now.present }
+        ensures value { result ≡ self.now }
+        ensures formed { AreVirtuals self.now }
     {
-        self.events.items()
+        self.events.iter()
     }
 
     /// How many virtual events have sequences.
     pub fn len(&self) -> usize
-        ensures value { result ≡ length self.now.present }
-        ensures short { length self.now.present < 2 ^ 32 }
+        ensures value { result ≡ length self.now }
+        ensures short { length self.now < 2 ^ 32 }
     {
         self.events.len()
     }
 
     /// The sequences by which a virtual event is met, in the order in which they were added.
     pub fn sequences(&self, name: &Txt) -> &[Sequence]
-        ensures { result.now ≡ sequences_of name.now self.now.present }
+        ensures { result.now ≡ sequences_of name.now self.now }
     {
         match found(&self.events, name) {
             Some(event) => event.sequences.as_slice(),
@@ -96,7 +106,7 @@ impl Virtuals {
     pub fn event_add(&mut self, name: &Txt, sequence: &Sequence) -> Result<(), AllocError>
         requires name { is_name name.now ≡ true }
         requires physical { is_of_name sequence.now ≡ false }
-        ensures ok { OnOk result (self.new ≡ record self.old { present = added name.now sequence.now self.old.present }) }
+        ensures ok { OnOk result (self.new ≡ added name.now sequence.now self.old) }
         ensures err { OnErr result (self.new ≡ self.old) }
     {
         let index = index_of(&self.events, name);
@@ -112,19 +122,21 @@ impl Virtuals {
             name: event.name.try_clone()?,
             sequences: with_one_more(self.alloc, event.sequences.as_slice(), sequence)?,
         };
-        self.events.replace(index, more)?;
+        self.events.set(index, more)?;
         Ok(())
     }
 
-    /// Takes a virtual event's sequences away. It takes no memory.
+    /// Takes a virtual event's sequences away.
     #[tactic(auto, using(crate::proofs::Virtually::deleted_there, crate::proofs::Virtually::deleted_none))]
-    pub fn event_delete(&mut self, name: &Txt)
-        ensures { self.new ≡ record self.old { present = deleted name.now self.old.present } }
+    pub fn event_delete(&mut self, name: &Txt) -> Result<(), AllocError>
+        ensures ok { OnOk result (self.new ≡ deleted name.now self.old) }
+        ensures err { OnErr result (self.new ≡ self.old) }
     {
         let index = index_of(&self.events, name);
         if index < self.events.len() {
-            self.events.remove(index);
+            self.events.remove(index)?;
         }
+        Ok(())
     }
 
     /// Takes a sequence of a virtual event away. Where none is left, the name goes too.
@@ -133,7 +145,7 @@ impl Virtuals {
         name: &Txt,
         sequence: &Sequence,
     ) -> Result<(), AllocError>
-        ensures ok { OnOk result (self.new ≡ record self.old { present = deleted_sequence name.now sequence.now self.old.present }) }
+        ensures ok { OnOk result (self.new ≡ deleted_sequence name.now sequence.now self.old) }
         ensures err { OnErr result (self.new ≡ self.old) }
     {
         let index = index_of(&self.events, name);
@@ -142,56 +154,15 @@ impl Virtuals {
         };
         let left = others(self.alloc, event.sequences.as_slice(), sequence)?;
         if left.is_empty() {
-            self.events.remove(index);
+            self.events.remove(index)?;
             return Ok(());
         }
         let event = VirtualEvent {
             name: event.name.try_clone()?,
             sequences: left,
         };
-        self.events.replace(index, event)?;
+        self.events.set(index, event)?;
         Ok(())
-    }
-
-    /// Whether a mark stands.
-    pub fn is_marked(&self) -> bool
-        ensures value { result ≡ is_some self.now.at_mark }
-        ensures formed { WellFormedVirtuals self.now }
-    {
-        self.events.is_marked()
-    }
-
-    /// Sets the mark. It takes no memory.
-    pub fn mark(&mut self)
-        requires { self.old.at_mark ≡ None }
-        ensures { self.new ≡ record self.old { at_mark = Some self.old.present } }
-    {
-        self.events.mark();
-    }
-
-    /// Makes all what it was at the mark, and takes the mark away. It takes no memory.
-    pub fn back_to(&mut self)
-        requires { IsSome self.old.at_mark }
-        ensures { IfSome self.old.at_mark (λ events. self.new ≡ record { present = events; at_mark = None }) }
-    {
-        self.events.back_to();
-    }
-
-    /// Takes the mark away, and leaves all as it is. It takes no memory.
-    pub fn forget(&mut self)
-        ensures { self.new ≡ record self.old { at_mark = None } }
-    {
-        self.events.forget();
-    }
-}
-
-impl Copied for Virtuals {
-    // What they were at a mark is copied too.
-    fn copied(&self, alloc: Global) -> Result<Virtuals, AllocError> {
-        Ok(Virtuals {
-            alloc,
-            events: self.events.copied(alloc)?,
-        })
     }
 }
 
@@ -208,12 +179,12 @@ fn first(alloc: Global, name: &Txt, sequence: &Sequence) -> Result<VirtualEvent,
 }
 
 // The index of the virtual event of a name, or the end.
-fn index_of(events: &Marked<VirtualEvent>, name: &Txt) -> usize
-    ensures { result ≡ index_of name.now events.now.present }
+fn index_of(events: &SharedList<VirtualEvent>, name: &Txt) -> usize
+    ensures { result ≡ index_of name.now events.now }
 {
     let len = events.len();
     let mut left = len;
-    for event in events.items() {
+    for event in events.iter() {
         if event.name == *name {
             return len - left;
         }
@@ -222,10 +193,10 @@ fn index_of(events: &Marked<VirtualEvent>, name: &Txt) -> usize
     len
 }
 
-fn found<'a>(events: &'a Marked<VirtualEvent>, name: &Txt) -> Option<&'a VirtualEvent>
-    ensures { option_copied result ≡ found name.now events.now.present }
+fn found<'a>(events: &'a SharedList<VirtualEvent>, name: &Txt) -> Option<&'a VirtualEvent>
+    ensures { option_copied result ≡ found name.now events.now }
 {
-    for event in events.items() {
+    for event in events.iter() {
         if event.name == *name {
             return Some(event);
         }

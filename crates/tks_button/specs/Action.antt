@@ -4,7 +4,7 @@ use Rattle.tks_opt.specs.Options.{Options, value_in}
 use Rattle.tks_opt.specs.Values.{named_in, state_named}
 use Rattle.tks_opt.specs.declared.name.OptionName.TheVariants as name
 use Rattle.tks_opt.specs.declared.said.Said.{Said}
-use Rattle.tks_opt.specs.declared.said.Said.TheVariants.{Text, Eval}
+use Rattle.tks_opt.specs.declared.said.Said.TheVariants.{Text, Run}
 use Rattle.tks_opt.specs.declared.state.State.{State}
 use Rattle.tks_opt.specs.declared.state.State.TheVariants as state
 use Rattle.tks_button.specs.Sizes.{said_by}
@@ -31,4 +31,4 @@ is_disabled t = says_disabled (option_and_then state_named (value_in t.values na
 
 -- `invoke` runs what `-command` says; where the button is disabled it runs nothing, and answers the empty text
 abbrev pub invoked : Options → Said
-invoked t = if is_disabled t then Text [] else Eval (said_by t name.Command)
+invoked t = if is_disabled t then Text [] else Run (said_by t name.Command)

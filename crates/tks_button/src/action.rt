@@ -69,5 +69,5 @@ pub fn invoked(alloc: Global, options: &Options) -> Result<Said, AllocError>
         return Ok(Said::Text(Txt::new(alloc)));
     }
     let script = options.own_value(OptionName::Command).try_clone()?;
-    Ok(Said::Eval(script))
+    Ok(Said::Run(script))
 }

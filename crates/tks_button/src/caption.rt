@@ -1,3 +1,4 @@
+//! Labels, buttons and checkbuttons: widgets with a caption (label(n), button(n), checkbutton(n)).
 ghost use Rattle.std.specs.Prelude.{◌≡◌, true, IfOk, OnErr, option_map};
 ghost use Rattle.tks_text.specs.Fault.{Gives};
 ghost use Rattle.tks_text.specs.declared.class.Class.TheVariants as class;

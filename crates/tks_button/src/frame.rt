@@ -1,3 +1,4 @@
+//! Frames (frame(n)).
 ghost use Rattle.std.specs.Prelude.{◌≡◌, true, IfOk, OnErr};
 ghost use Rattle.tks_text.specs.Fault.{Gives};
 ghost use Rattle.tks_text.specs.declared.class.Class.TheVariants as class;

@@ -1,3 +1,4 @@
+//! Laws of checkbuttons and of captions.
 ghost use Rattle.std.specs.Prelude.{ℕ, List, Bool, Some, Ok, map, ◌≡◌};
 ghost use Rattle.tks_opt.specs.Options.{Options};
 ghost use Rattle.tks_opt.specs.declared.name.OptionName.TheVariants as name;

@@ -3,7 +3,8 @@ use Rattle.std.proofs.Common.{◌≡◌, ℕ, Bool, true, false, cond, if◌then
 use Rattle.tks_text.specs.Fault.{fault_text}
 use Rattle.tks_text.specs.declared.fault.ErrorNumber.TheVariants.{WrongWords}
 use Rattle.tks_text.specs.declared.limits.Limits.{Limits}
-use Rattle.tks_tcl.specs.Cause.{Cause, Fault, OverLimit, after, fits}
+use Rattle.tks_tcl.specs.Cause.{Cause, Fault, OverLimit, after}
+use Rattle.tks_text.specs.Limits.{fits}
 use Rattle.tks_vars.specs.Variables.{Variables}
 use Rattle.tks_state.specs.World.{World}
 use Rattle.tks_eval.specs.Outcome.{Answer, Unknown, Comes, PassesLimit}
@@ -18,9 +19,8 @@ use Rattle.tks_state.specs.declared.kept.Kept.{Kept}
 use Rattle.tks_cmd.specs.Changes.{Changed, Outcome, outcome, plan_of, beside, silent, creation}
 use Rattle.tks_cmd.specs.Commands.{command_named, command_does, named_does, words_do, may_come, answered, does}
 use Rattle.tks_cmd.specs.EventCommands.{event_command_does, planned}
-use Rattle.tks_cmd.specs.Links.{called}
 use Rattle.tks_cmd.specs.Packing.{pack_does}
-use Rattle.tks_cmd.specs.Widgets.{window_does}
+use Rattle.tks_cmd.specs.Widgets.{window_does, called}
 use Rattle.tks_cmd.specs.Windows.{are_paired, new_widget, added, room, made, make_does, destroy_does}
 use Rattle.tks_cmd.proofs.EventLaws.{NoError, PlansWell, event_command_well}
 use Rattle.tks_cmd.specs.declared.commands.Command.{Command}
@@ -45,7 +45,7 @@ planned_well variables (Err cause) well = tt
 
 plan_well : (s : Said) → NoError (plan_of s)
 plan_well (said.Text text) = refl
-plan_well (said.Eval script) = tt
+plan_well (said.Run script) = tt
 
 module _ (limits : Limits) where
   make_well : (kind : WindowKind) (name : List ℕ) (words : List (List ℕ)) (w : World) (variables : Variables) → Well (make_does limits kind name words w variables)

@@ -34,7 +34,7 @@ use Rattle.tks_cmd.specs.Events.{event_read, sent, generated, generate_does}
 use Rattle.tks_cmd.specs.VirtualEvents as virtuals
 use Rattle.tks_cmd.specs.VirtualEvents.{name_read, all_read, with_all, virtuals_within, added, add_does, delete_does}
 use Rattle.tks_cmd.specs.Focus.{path_at, focus_event, focus_moved, focus_given, focus_on, focus_does, focus_next_does, focus_previous_does}
-use Rattle.tks_cmd.specs.After.{id_text, delay_read, timers_within, idles_within, timer_kept, idle_kept, script_read, delay_does, idle_does, cancel_does, info_does, form_does, some_does, after_does}
+use Rattle.tks_cmd.specs.After.{id_text, delay_read, timers_within, idles_within, timer_kept, idle_kept, script_read, delay_does, idle_does, cancelled_id, cancelled, cancel_does, info_does, form_does, some_does, after_does}
 use Rattle.tks_cmd.specs.EventCommands.{told, event_form_does, event_does, event_command_does}
 use Rattle.tks_cmd.specs.declared.events.When.{When}
 use Rattle.tks_cmd.specs.declared.events.When.TheVariants as when
@@ -247,9 +247,12 @@ module _ (limits wider : Limits) (wide : Wider limits wider) where
   idle_does_keeps : (words : List (List ℕ)) (w : World) → Keeps (idle_does limits words w) (idle_does wider words w)
   idle_does_keeps words w = after_keeps (script_keeps_read words) (λ script. after_keeps (idle_keeps script w) (λ x. itself (Ok (id_text x.0, x.1))))
 
+  cancel_keeps : (words : List (List ℕ)) (w : World) → Keeps (cancel_does limits words w) (cancel_does wider words w)
+  cancel_keeps words w = after_keeps (script_keeps_read words) (λ script. itself (silent (cancelled (cancelled_id script words w.timers) w)))
+
   after_form_keeps : (form : List ℕ) (words : List (List ℕ)) (w : World) → Keeps (form_does limits form words w) (form_does wider form words w)
   after_form_keeps form words w =
-      if_keeps (same_text form (codes "cancel")) (itself (cancel_does words w))
+      if_keeps (same_text form (codes "cancel")) (cancel_keeps words w)
       (if_keeps (same_text form (codes "idle")) (idle_does_keeps words w) (delay_keeps form words w))
 
   some_keeps : (name form : List ℕ) (words : List (List ℕ)) (w : World) → Keeps (some_does limits name form words w) (some_does wider name form words w)

@@ -1,9 +1,10 @@
 -- Commands on windows leave the frames below the innermost.
-use Rattle.std.proofs.Common.{ℕ, Bool, true, false, ◌&&◌, if◌then◌else◌, codes, List, [], ◌∷◌, Option, Some, None, option_map, Result, Ok, Err, IfOk, subst}
+use Rattle.std.proofs.Common.{ℕ, Bool, true, false, ◌&&◌, ◌||◌, not, if◌then◌else◌, codes, List, [], ◌∷◌, Option, Some, None, option_map, Result, Ok, Err, IfOk, subst}
 use Rattle.tks_text.specs.Text.{same_text}
 use Rattle.tks_text.specs.Fault.{fault_text}
 use Rattle.tks_text.specs.declared.limits.Limits.{Limits}
-use Rattle.tks_tcl.specs.Cause.{Cause, Fault, OverLimit, after, fits, value_or_fault}
+use Rattle.tks_tcl.specs.Cause.{Cause, Fault, OverLimit, after, value_or_fault}
+use Rattle.tks_text.specs.Limits.{fits}
 use Rattle.tks_tcl.specs.Variables.{stores_global}
 use Rattle.tks_tcl.proofs.Framing.{follows, follows_on, one_of, Left, stores_global_stay}
 use Rattle.tks_vars.specs.Laws.{FramesStay}
@@ -25,9 +26,9 @@ use Rattle.tks_cmd.specs.Changes.{Changed, Outcome, outcome, plan_of, beside, si
 use Rattle.tks_cmd.specs.Commands.{command_named, command_does, named_does, words_do, may_come, answered}
 use Rattle.tks_cmd.specs.Contents.{holds_within}
 use Rattle.tks_cmd.specs.EventCommands.{event_command_does}
-use Rattle.tks_cmd.specs.Links.{Linked, is_lacking, global_set, made_global, told, stored, settled, configured_pair, configured, assigned_to, first_assigned_to, first_value, told_words, action_does, configure_does, called}
+use Rattle.tks_cmd.specs.Links.{Linked, is_lacking, global_set, made_global, told, stored, settled, assigned_to, first_assigned_to, first_value}
 use Rattle.tks_cmd.specs.Packing.{pack_does}
-use Rattle.tks_cmd.specs.Widgets.{window_does}
+use Rattle.tks_cmd.specs.Widgets.{window_does, sets_link, configured_pair, configured, told_words, action_does, configure_does, called}
 use Rattle.tks_cmd.specs.Windows.{are_paired, new_widget, added, room, made, make_does, destroy_does, first_widget}
 use Rattle.tks_cmd.specs.Laws.{LeavesFrames}
 use Rattle.tks_cmd.specs.declared.commands.Command.{Command}
@@ -53,24 +54,24 @@ module _ (limits : Limits) where
   made_stays : (name text : List ℕ) (v : Variables) → IfOk (made_global limits name text v) (FramesStay v)
   made_stays name text v = one_of (FramesStay v) (is_lacking (global_value_of v name)) _ _ (set_stays name text v) (itself v)
 
-  told_stays : (link : Option (List ℕ)) (name before now : List ℕ) (v : Variables) → IfOk (told limits link name before now v) (FramesStay v)
-  told_stays None name before now v = made_stays name now v
-  told_stays (Some link) name before now v =
-      one_of (FramesStay v) (same_text link name) _ _ (one_of (FramesStay v) (same_text before now) _ _ (itself v) (set_stays name now v)) (made_stays name now v)
+  told_stays : (sets : Bool) (link : Option (List ℕ)) (name before now : List ℕ) (v : Variables) → IfOk (told limits sets link name before now v) (FramesStay v)
+  told_stays sets None name before now v = made_stays name now v
+  told_stays sets (Some link) name before now v =
+      one_of (FramesStay v) (sets || not (same_text link name)) _ _ (made_stays name now v) (one_of (FramesStay v) (same_text before now) _ _ (itself v) (set_stays name now v))
 
   -- ---- changes of a widget
 
-  stored_stays : (link : Option (List ℕ)) (w next : Widget) (v : Variables) → IfOk (stored limits link w next v) (Beside v)
-  stored_stays None w next v = itself v
-  stored_stays (Some name) w next v =
-      follows_on (FramesStay v) (Beside v) (told limits (link_of w) name (text_of (seen v w)) (text_of next) v) _ (told_stays (link_of w) name (text_of (seen v w)) (text_of next) v) (λ u k. k)
+  stored_stays : (sets : Bool) (link : Option (List ℕ)) (w next : Widget) (v : Variables) → IfOk (stored limits sets link w next v) (Beside v)
+  stored_stays sets None w next v = itself v
+  stored_stays sets (Some name) w next v =
+      follows_on (FramesStay v) (Beside v) (told limits sets (link_of w) name (text_of (seen v w)) (text_of next) v) _ (told_stays sets (link_of w) name (text_of (seen v w)) (text_of next) v) (λ u k. k)
 
-  settled_stays : (w next : Widget) (v : Variables) → IfOk (settled limits w next v) (Beside v)
+  settled_stays : (sets : Bool) (w next : Widget) (v : Variables) → IfOk (settled limits sets w next v) (Beside v)
   unfolding settled
-  settled_stays w next v = one_of (Beside v) (fits limits (text_of next) && holds_within limits next) _ _ (stored_stays (link_of next) w next v) tt
+  settled_stays sets w next v = one_of (Beside v) (fits limits (text_of next) && holds_within limits next) _ _ (stored_stays sets (link_of next) w next v) tt
 
   pair_stays : (pair : List (List ℕ)) (x : Linked) → IfOk (configured_pair limits pair x) (Beside x.1)
-  pair_stays pair x = follows (Beside x.1) (value_or_fault (widgets.configured (seen x.1 x.0) pair)) _ (λ next. settled_stays x.0 next x.1)
+  pair_stays pair x = follows (Beside x.1) (value_or_fault (widgets.configured (seen x.1 x.0) pair)) _ (λ next. settled_stays (sets_link pair) x.0 next x.1)
 
   configured_stays : (pairs : List (List ℕ)) (u : Variables) (x : Linked) → FramesStay u x.1 → IfOk (configured limits pairs x) (Beside u)
   unfolding configured
@@ -97,7 +98,7 @@ module _ (limits : Limits) where
   unfolding told_words
   words_stay words u x h =
       follows (BesideSaid u) (value_or_fault (widgets.called (seen x.1 x.0) words)) _ (λ y.
-      follows_on (Beside x.1) (BesideSaid u) (settled limits x.0 y.1 x.1) _ (settled_stays x.0 y.1 x.1) (λ z k. both h k))
+      follows_on (Beside x.1) (BesideSaid u) (settled limits false x.0 y.1 x.1) _ (settled_stays false x.0 y.1 x.1) (λ z k. both h k))
 
   action_stays : (words : List (List ℕ)) (x : Linked) → IfOk (action_does limits words x) (BesideSaid x.1)
   unfolding action_does

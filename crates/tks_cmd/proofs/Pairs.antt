@@ -2,7 +2,8 @@
 use Rattle.std.proofs.Common.{◌≡◌, ℕ, ◌≤◌, List, [], ◌∷◌, length, take, drop, Result, Ok, Err, refl, sym, ap, ◌∙◌, arith}
 use Rattle.tks_text.specs.declared.limits.Limits.{Limits}
 use Rattle.tks_tcl.specs.Cause.{Cause, after}
-use Rattle.tks_cmd.specs.Links.{Linked, configured_pair, configured}
+use Rattle.tks_cmd.specs.Links.{Linked}
+use Rattle.tks_cmd.specs.Widgets.{configured_pair, configured}
 
 module _ (limits : Limits) where
   -- a pair, and those behind it

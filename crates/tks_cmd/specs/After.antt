@@ -80,17 +80,18 @@ abbrev pub id_alone : List (List ℕ) → Option ℕ
 id_alone (word ∷ []) = id_of word
 id_alone words = None
 
--- the script that words make is looked for first, then the id
-abbrev pub cancelled_id : List (List ℕ) → Content → Option ℕ
-cancelled_id words c = or_else (with_script (concatenated words) c) (id_alone words)
+-- the script is looked for first, then the id that a word alone is
+abbrev pub cancelled_id : List ℕ → List (List ℕ) → Content → Option ℕ
+cancelled_id script words c = or_else (with_script script c) (id_alone words)
 
 -- without the script of an id, where there is one
 abbrev pub cancelled : Option ℕ → World → World
 cancelled None w = w
 cancelled (Some id) w = without_id id w
 
-abbrev pub cancel_does : List (List ℕ) → World → Result Changed Cause
-cancel_does words w = silent (cancelled (cancelled_id words w.timers) w)
+-- the words make a script as those of `after idle` do, which passes no limit
+abbrev pub cancel_does : Limits → List (List ℕ) → World → Result Changed Cause
+cancel_does limits words w = after (script_read limits words) (λ script. silent (cancelled (cancelled_id script words w.timers) w))
 
 -- ---- after info ?id?
 
@@ -128,7 +129,7 @@ info_does command words w = wrong_words command
 module _ (limits : Limits) where
   abbrev pub form_does : List ℕ → List (List ℕ) → World → Result Changed Cause
   form_does form words w =
-      if same_text form (codes "cancel") then cancel_does words w
+      if same_text form (codes "cancel") then cancel_does limits words w
       else (if same_text form (codes "idle") then idle_does limits words w
       else delay_does limits form words w)
 

@@ -1,14 +1,15 @@
 -- `bind` and `bindtags` (bind(n), bindtags(n); which errors there are, their order and the limits are this project's own).
 use Rattle.std.specs.Prelude.{ℕ, ◌^◌, Bool, not, ◌||◌, ◌&&◌, nat_le, nat_lt, if◌then◌else◌, List, [], ◌∷◌, length, Option, Some, None, Result, Ok, Err}
 use Rattle.tks_text.specs.declared.limits.Limits.{Limits}
-use Rattle.tks_tcl.specs.Cause.{Cause, OverLimit, after, value_or_fault, wrong_words, fits}
+use Rattle.tks_tcl.specs.Cause.{Cause, OverLimit, after, value_or_fault, wrong_words}
+use Rattle.tks_text.specs.Limits.{fits}
 use Rattle.tks_tcl.specs.Words.{list_in}
 use Rattle.tks_list.specs.Quoting.{joined}
 use Rattle.tks_event.specs.Reading.{sequence_of}
 use Rattle.tks_event.specs.Sequences.{is_some_text}
 use Rattle.tks_event.specs.declared.pattern.Pattern.{Pattern}
 use Rattle.tks_bind.specs.Binding.{Content, script_for, made, spelled}
-use Rattle.tks_tree.specs.Path.{begins_dot}
+use Rattle.tks_text.specs.Text.{begins_dot}
 use Rattle.tks_tree.specs.Windows.{of_number, on_window}
 use Rattle.tks_state.specs.World.{World, bound_to, tagged}
 use Rattle.tks_cmd.specs.Changes.{Changed, silent}

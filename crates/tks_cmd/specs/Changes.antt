@@ -22,7 +22,7 @@ outcome p w variables = record { plan = p; world = w; variables = variables }
 -- a text is the answer itself, a script is run for it
 abbrev pub plan_of : Said → Plan
 plan_of (said.Text text) = plan.Answer 0 text
-plan_of (said.Eval script) = plan.Eval script
+plan_of (said.Run script) = plan.Eval script
 
 -- of a command that looks at no variables: the answer, and the world that is left
 abbrev pub Changed : Type 0

@@ -3,7 +3,8 @@ use Rattle.std.specs.Prelude.{ℕ, Bool, true, if◌then◌else◌, codes, List,
 use Rattle.tks_text.specs.Text.{same_text}
 use Rattle.tks_text.specs.Fault.{fault_text}
 use Rattle.tks_text.specs.declared.limits.Limits.{Limits}
-use Rattle.tks_tcl.specs.Cause.{Cause, Fault, OverLimit, fits}
+use Rattle.tks_tcl.specs.Cause.{Cause, Fault, OverLimit}
+use Rattle.tks_text.specs.Limits.{fits}
 use Rattle.tks_vars.specs.Variables.{Variables}
 use Rattle.tks_tree.specs.Windows.{of_path}
 use Rattle.tks_state.specs.World.{World}

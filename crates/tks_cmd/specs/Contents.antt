@@ -1,7 +1,7 @@
 -- What widgets hold beside a text that may be a global's, within the limits (this project's own rule).
 use Rattle.std.specs.Prelude.{ℕ, Bool, true, ◌&&◌, nat_le, length}
 use Rattle.tks_text.specs.declared.limits.Limits.{Limits}
-use Rattle.tks_tcl.specs.Cause.{fits}
+use Rattle.tks_text.specs.Limits.{fits}
 use Rattle.tks_state.specs.declared.widget.Widget.{Widget}
 use Rattle.tks_state.specs.declared.widget.Widget.TheVariants as widget
 

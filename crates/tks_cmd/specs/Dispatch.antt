@@ -8,7 +8,8 @@ use Rattle.tks_event.specs.declared.event.Event.{Event}
 use Rattle.tks_bind.specs.Choosing.{chosen}
 use Rattle.tks_bind.specs.Percents.{is_of_key, is_virtual, percents}
 use Rattle.tks_bind.specs.declared.binding.Binding.{Binding}
-use Rattle.tks_tree.specs.Path.{root_path, begins_dot}
+use Rattle.tks_tree.specs.Path.{root_path}
+use Rattle.tks_text.specs.Text.{begins_dot}
 use Rattle.tks_tree.specs.Windows.{Window, of_number, on_window, has_path}
 use Rattle.tks_state.specs.Windows.{kept_of, on_kept}
 use Rattle.tks_state.specs.World.{World, with_event, scene}

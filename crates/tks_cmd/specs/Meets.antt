@@ -3,7 +3,8 @@ use Rattle.std.specs.Prelude.{◌≡◌, true, false, Option, Some, None, Result
 use Rattle.tks_text.specs.Fault.{fault_text}
 use Rattle.tks_text.specs.declared.fault.ScriptFault.{ScriptFault}
 use Rattle.tks_text.specs.declared.limits.Limits.{Limits}
-use Rattle.tks_tcl.specs.Cause.{Cause, Fault, OverLimit, fits}
+use Rattle.tks_tcl.specs.Cause.{Cause, Fault, OverLimit}
+use Rattle.tks_text.specs.Limits.{fits}
 use Rattle.tks_tcl.specs.declared.interrupt.Interrupt.{Interrupt}
 use Rattle.tks_tcl.specs.declared.interrupt.Interrupt.TheVariants as interrupt
 use Rattle.tks_tcl.specs.declared.stop.Stop.{Stop}

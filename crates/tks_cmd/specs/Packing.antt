@@ -1,7 +1,7 @@
 -- The forms of `pack` (pack(n); which errors there are, and their order, are this project's own).
 use Rattle.std.specs.Prelude.{ℕ, ℤ, pos, negsuc, Bool, true, false, not, ◌&&◌, ◌==◌, is_some, if◌then◌else◌, codes, List, [], ◌∷◌, ◌++◌, take, drop, Option, Some, None, Result, Ok}
 use Rattle.std.specs.List.{prefix_len}
-use Rattle.tks_text.specs.Text.{same_text}
+use Rattle.tks_text.specs.Text.{same_text, begins_dot}
 use Rattle.tks_tcl.specs.Cause.{Cause, after, value_or_fault, wrong_words}
 use Rattle.tks_tcl.specs.Words.{truth_text, integer_in}
 use Rattle.tks_list.specs.Quoting.{joined}
@@ -9,7 +9,6 @@ use Rattle.tks_text.specs.Truth.{truth_of_word}
 use Rattle.tks_pack.specs.Settings.{default_settings, with_options}
 use Rattle.tks_pack.specs.Packing.{Packed, nothing_packed}
 use Rattle.tks_pack.specs.declared.packing.Content.{Content}
-use Rattle.tks_tree.specs.Path.{begins_dot}
 use Rattle.tks_tree.specs.Windows.{Window, of_number, on_window, resolved, parent}
 use Rattle.tks_state.specs.Windows.{kept_of, on_kept}
 use Rattle.tks_state.specs.World.{World, packed, unpacked, with_propagation}

@@ -18,7 +18,8 @@ use Rattle.tks_state.specs.declared.widget.Widget.{Widget}
 use Rattle.tks_state.specs.declared.widget.Widget.TheVariants as widget
 use Rattle.tks_eval.specs.declared.host.Plan.TheVariants as plan
 use Rattle.tks_cmd.specs.Changes.{Changed, Outcome, outcome, silent, not_on_root, creation}
-use Rattle.tks_cmd.specs.Links.{Linked, configured, first_value}
+use Rattle.tks_cmd.specs.Links.{Linked, first_value}
+use Rattle.tks_cmd.specs.Widgets.{configured}
 use Rattle.tks_cmd.specs.declared.windows.WindowKind.{WindowKind}
 use Rattle.tks_cmd.specs.declared.windows.WindowKind.TheVariants as kind
 

@@ -13,7 +13,7 @@ use itoa::Buffer;
 use std::alloc::{AllocError, Global};
 use tks_list::join;
 use tks_state::World;
-use tks_tcl::{Interrupt, concatenated, concatenated_within, error_about, integer_in, wrong_words};
+use tks_tcl::{Interrupt, concatenated_within, error_about, integer_in, wrong_words};
 use tks_text::{ErrorNumber, Limits, ScriptFault, Seq, Txt, decimal_of, integer_of};
 use tks_timer::{AfterFault, Timers, Waiting};
 
@@ -209,11 +209,15 @@ fn id_alone(alloc: Global, words: &[Txt]) -> Result<Option<u64>, AllocError>
 }
 
 // The id of what words cancel: that of the script that they make, or else the one that a word alone is.
-fn cancelled_id(alloc: Global, words: &[Txt], timers: &Timers) -> Result<Option<u64>, AllocError>
-    ensures { IfOk result (λ id. id ≡ cancelled_id words.now timers.now.present) }
+fn cancelled_id(
+    alloc: Global,
+    script: &Txt,
+    words: &[Txt],
+    timers: &Timers,
+) -> Result<Option<u64>, AllocError>
+    ensures { IfOk result (λ id. id ≡ cancelled_id script.now words.now timers.now) }
 {
-    let script = concatenated(alloc, words)?;
-    match timers.find(&script) {
+    match timers.find(script) {
         Some(id) => Ok(Some(id)),
         None => id_alone(alloc, words),
     }
@@ -230,18 +234,24 @@ fn cancel(world: &mut World, id: Option<u64>) -> Result<(), AllocError>
 }
 
 // after cancel id, after cancel script ..
-fn run_cancel(alloc: Global, words: &[Txt], world: &mut World) -> Result<Txt, Interrupt>
-    ensures value { GivesSo (λ t. (t, world.new)) result (cancel_does words.now world.old) }
+fn run_cancel(
+    alloc: Global,
+    words: &[Txt],
+    world: &mut World,
+    limits: &Limits,
+) -> Result<Txt, Interrupt>
+    ensures value { GivesSo (λ t. (t, world.new)) result (cancel_does limits.now words.now world.old) }
     ensures kept { KeepsSo result world.old world.new }
 {
-    let id = cancelled_id(alloc, words, world.timers())?;
+    let script = script_read(alloc, words, limits)?;
+    let id = cancelled_id(alloc, &script, words, world.timers())?;
     cancel(world, id)?;
     Ok(Txt::new(alloc))
 }
 
 // The ids of all scripts that wait, rising.
 fn sorted_ids(timers: &Timers) -> Result<Vec<u64>, AllocError>
-    ensures { IfOk result (λ found. found.items ≡ in_order (ids timers.now.present)) }
+    ensures { IfOk result (λ found. found.items ≡ in_order (ids timers.now)) }
 {
     let found = timers.ids()?;
     Ok(found)
@@ -260,7 +270,7 @@ fn id_texts(alloc: Global, ids: &[u64]) -> Result<Seq<Txt>, AllocError>
 
 // The list of the ids of all scripts that wait.
 fn ids_text(alloc: Global, timers: &Timers) -> Result<Txt, AllocError>
-    ensures { IfOk result (λ t. t ≡ ids_text timers.now.present) }
+    ensures { IfOk result (λ t. t ≡ ids_text timers.now) }
 {
     let ids = sorted_ids(timers)?;
     let texts = id_texts(alloc, ids.as_slice())?;
@@ -292,7 +302,7 @@ fn waiting_text(alloc: Global, waiting: Waiting<'_>) -> Result<Txt, AllocError>
 // The script that a text names by its id, and what it waits for.
 #[tactic(auto, using(tks_tcl::proofs::Causes::tells))]
 fn about(alloc: Global, text: &Txt, timers: &Timers) -> Result<Txt, Interrupt>
-    ensures { GivesSo (λ t. t) result (kept_told text.now timers.now.present) }
+    ensures { GivesSo (λ t. t) result (kept_told text.now timers.now) }
 {
     let Some(id) = id_of(alloc, text)? else {
         return Err(error_about(ErrorNumber::NoSuchAfterId, text));
@@ -337,7 +347,7 @@ fn run_form(
 {
     let name = form.as_bytes();
     if name == b"cancel".as_slice() {
-        let text = run_cancel(alloc, words, world)?;
+        let text = run_cancel(alloc, words, world, limits)?;
         Ok(text)
     } else if name == b"idle".as_slice() {
         let text = run_idle(alloc, words, world, limits)?;

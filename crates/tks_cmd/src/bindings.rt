@@ -7,14 +7,14 @@ ghost use Rattle.tks_cmd.specs.Bindings.{tag_read, sequence_read, or_empty, scri
 ghost use Rattle.tks_cmd.specs.Meets.{KeepsSo};
 
 use crate::dispatch::tags_of;
-use crate::packing::{begins_dot, window_of};
+use crate::packing::window_of;
 use std::alloc::{AllocError, Global};
 use tks_bind::BindFault;
 use tks_event::{Sequence, parse_sequence};
 use tks_list::join;
 use tks_state::World;
 use tks_tcl::{Interrupt, list_in, wrong_words};
-use tks_text::{Limits, Seq, Txt};
+use tks_text::{Limits, Seq, Txt, begins_dot};
 use tks_tree::WindowId;
 
 // Whether scripts may be bound for a tag: one that begins with a dot must be the path of a window.

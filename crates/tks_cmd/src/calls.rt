@@ -1,3 +1,4 @@
+//! A command on windows, given its words: the one that its first word names.
 ghost use Rattle.std.specs.Prelude.{◌≡◌};
 ghost use Rattle.tks_eval.specs.Meets.{AnswersSo};
 ghost use Rattle.tks_cmd.specs.Commands.{words_do, may_come, does};
@@ -8,8 +9,8 @@ use crate::widgets::run_window;
 use std::alloc::Global;
 use tks_eval::Plan;
 use tks_state::World;
-use tks_tcl::{Interrupt, Stop, fits};
-use tks_text::{Limits, ScriptFault, Txt};
+use tks_tcl::{Interrupt, Stop};
+use tks_text::{Limits, ScriptFault, Txt, fits};
 use tks_vars::Vars;
 
 // What words come to; none where the first is neither a command's name nor a window's path.

@@ -1,3 +1,4 @@
+//! The commands on windows that have a name.
 ghost use Rattle.std.specs.Prelude.{◌≡◌};
 ghost use Rattle.tks_tcl.specs.Meets.{GivesSo};
 ghost use Rattle.tks_cmd.specs.Changes.{outcome};

@@ -3,8 +3,7 @@ ghost use Rattle.std.specs.Prelude.{◌≡◌};
 ghost use Rattle.tks_cmd.specs.Contents.{may_hold, holds_within};
 
 use tks_state::Widget;
-use tks_tcl::fits;
-use tks_text::Limits;
+use tks_text::{Limits, fits};
 
 // Whether a list of so many passes no limit.
 fn may_hold(count: usize, limits: &Limits) -> bool

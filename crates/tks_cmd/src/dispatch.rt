@@ -6,14 +6,13 @@ ghost use Rattle.tks_state.specs.Windows.{kept_of, on_kept};
 ghost use Rattle.tks_cmd.specs.Dispatch.{delivered, remembered, default_tags, tags_of, is_passed, with_more, script_of, tag_script, tag_scripts, event_scripts, begun};
 ghost use Rattle.tks_cmd.specs.Meets.{LimitsSo};
 
-use crate::packing::begins_dot;
 use std::alloc::{AllocError, Global};
 use tks_bind::{Binding, is_of_key, is_virtual, percents};
 use tks_eval::Plan;
 use tks_event::Event;
 use tks_state::World;
-use tks_tcl::{Stop, fits};
-use tks_text::{Limits, Seq, Txt};
+use tks_tcl::Stop;
+use tks_text::{Limits, Seq, Txt, begins_dot, fits, texts_again};
 use tks_tree::{Window, WindowId};
 
 // Makes of an event the one that is delivered: one of a key goes to the window that has the focus.
@@ -62,17 +61,6 @@ fn default_tags(alloc: Global, window: &Window<'_>) -> Result<Seq<Txt>, AllocErr
     }
     tags.push(Txt::from_text(alloc, b"all")?)?;
     Ok(tags)
-}
-
-// Equal texts.
-fn texts_again(alloc: Global, texts: &[Txt]) -> Result<Seq<Txt>, AllocError>
-    ensures { IfOk result (λ copies. copies ≡ texts.now) }
-{
-    let mut copies = Seq::new(alloc);
-    for text in texts {
-        copies.push(text.try_clone()?)?;
-    }
-    Ok(copies)
 }
 
 /// The tags of a window, in the order in which their scripts run.

@@ -19,7 +19,7 @@ use tks_opt::number_within;
 use tks_queue::Place;
 use tks_state::World;
 use tks_tcl::{Interrupt, Stop, error_about, wrong_words};
-use tks_text::{ErrorNumber, Limits, Txt, decimal_of, integer_of};
+use tks_text::{ErrorNumber, Limits, MAX_TIME, Txt, decimal_of, integer_of};
 use tks_tree::WindowId;
 
 /// When a generated event is delivered.
@@ -31,9 +31,6 @@ pub enum When {
     Queued(Place),
 }
 
-/// The time that none reaches, in milliseconds.
-const MAX_TIME: i64 = 1 << 62;
-
 /// How far from 0 a column or a row may lie.
 const MAX_PLACE: i64 = 100_000;
 
@@ -42,7 +39,7 @@ fn time_of(text: &Txt) -> Option<u64>
     ensures { result ≡ time_of text.now }
 {
     match integer_of(text) {
-        Ok(Some(time)) if 0 <= time && time < MAX_TIME => Some(time as u64),
+        Ok(Some(time)) if 0 <= time && time as u64 <= MAX_TIME => Some(time as u64),
         _ => None,
     }
 }

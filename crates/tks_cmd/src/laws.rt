@@ -1,3 +1,4 @@
+//! Laws of commands on windows.
 ghost use Rattle.tks_cmd.specs.Laws.{AnswersStay, ErrorsChangeNothing, LeavesFrames};
 ghost use Rattle.tks_text.specs.Limits.{Wider};
 ghost use Rattle.tks_text.specs.declared.limits.Limits.{Limits};

@@ -3,7 +3,6 @@ ghost use Rattle.std.specs.Prelude.{◌≡◌, ◌≤◌, ◌^◌, ◌++◌, ◌
 ghost use Rattle.tks_tcl.specs.Words.{truth_text};
 ghost use Rattle.tks_tcl.specs.Meets.{GivesSo};
 ghost use Rattle.tks_text.specs.Truth.{truth_of_word};
-ghost use Rattle.tks_tree.specs.Path.{begins_dot};
 ghost use Rattle.tks_cmd.specs.Packing.{window_of, windows_of, stands_in_one, or_on_root, content_of, contents_of, packed_each, begins_dash, window_count, options_read, packed_all, configure_does, unpacked_all, forget_does, packing_of, path_of, paths_of, slaves_text, slaves_does, truth_read, propagate_does, form_does, pack_does};
 ghost use Rattle.tks_cmd.specs.Meets.{KeepsSo};
 
@@ -11,9 +10,10 @@ use crate::windows::{are_paired, not_on_root};
 use std::alloc::{AllocError, Global};
 use tks_list::join;
 use tks_pack::{Content, Settings, with_options};
+use tks_share::Items;
 use tks_state::World;
 use tks_tcl::{Interrupt, integer_in, wrong_words};
-use tks_text::{Seq, Txt, truth_of_word};
+use tks_text::{Seq, Txt, begins_dot, truth_of_word};
 use tks_tree::{Tree, WindowId};
 
 /// The window of a path, which must be there.
@@ -176,8 +176,12 @@ fn push_path(paths: &mut Seq<Txt>, tree: &Tree, window: WindowId) -> Result<(), 
 }
 
 // The paths of packed windows.
-fn paths_of(alloc: Global, tree: &Tree, contents: &[Content]) -> Result<Seq<Txt>, AllocError>
-    ensures { IfOk result (λ paths. paths ≡ paths_of tree.now.windows contents.now) }
+fn paths_of(
+    alloc: Global,
+    tree: &Tree,
+    contents: Items<'_, Content>,
+) -> Result<Seq<Txt>, AllocError>
+    ensures { IfOk result (λ paths. paths ≡ paths_of tree.now.windows contents.entry) }
 {
     let mut paths = Seq::new(alloc);
     for content in contents {
@@ -193,7 +197,7 @@ fn slaves_text(alloc: Global, world: &World, window: WindowId) -> Result<Txt, Al
     let Some(kept) = world.kept(window) else {
         return Ok(Txt::new(alloc));
     };
-    let paths = paths_of(alloc, world.tree(), kept.packing.get().contents())?;
+    let paths = paths_of(alloc, world.tree(), kept.packing.contents())?;
     let text = join(alloc, paths.as_slice())?;
     Ok(text)
 }
@@ -217,7 +221,7 @@ fn propagates(world: &World, window: WindowId) -> bool
     ensures { result ≡ (packing_of world.now window).propagates }
 {
     match world.kept(window) {
-        Some(kept) => kept.packing.get().propagates(),
+        Some(kept) => kept.packing.propagates(),
         None => true,
     }
 }
@@ -264,13 +268,6 @@ fn truth_text(alloc: Global, is_true: bool) -> Result<Txt, AllocError>
     ensures { IfOk result (λ t. t ≡ truth_text is_true) }
 {
     Txt::from_text(alloc, if is_true { b"1" } else { b"0" })
-}
-
-/// Whether a word begins as paths do.
-pub fn begins_dot(word: &[u8]) -> bool
-    ensures { result ≡ begins_dot word.now }
-{
-    matches!(word, [b'.', ..])
 }
 
 // What a form answers, given the word behind the command's name and the others.

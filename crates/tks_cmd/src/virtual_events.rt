@@ -188,7 +188,7 @@ fn bracketed(alloc: Global, name: &Txt) -> Result<Txt, AllocError>
 
 // The virtual events, by their names in double brackets.
 fn names(alloc: Global, virtuals: &Virtuals) -> Result<Seq<Txt>, AllocError>
-    ensures { IfOk result (λ l. l ≡ names virtuals.now.present) }
+    ensures { IfOk result (λ l. l ≡ names virtuals.now) }
 {
     let mut names = Seq::new(alloc);
     for event in virtuals.events() {

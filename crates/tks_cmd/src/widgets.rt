@@ -1,19 +1,223 @@
-//! The windows' own commands.
-ghost use Rattle.std.specs.Prelude.{◌≡◌};
+//! The windows' own commands: `configure`, and what else a widget answers, with the globals that it is linked to.
+ghost use Rattle.std.specs.Prelude.{◌≡◌, Some, OnErr, IfOk};
 ghost use Rattle.tks_tcl.specs.Meets.{GivesSo};
+ghost use Rattle.tks_state.specs.Widget.{class_of};
+ghost use Rattle.tks_state.specs.Links.{seen};
 ghost use Rattle.tks_cmd.specs.Changes.{outcome, plan_of};
-ghost use Rattle.tks_cmd.specs.Widgets.{window_does};
+ghost use Rattle.tks_cmd.specs.Widgets.{sets_link, configured_pair, configured, told_words, assigned_does, action_does, configure_does, called, window_does};
 ghost use Rattle.tks_cmd.specs.Meets.{KeepsSo};
 
-use crate::links::call;
+use crate::links::{set_global, settle};
 use std::alloc::Global;
+use std::mem;
+use tks_button::Assignment;
 use tks_eval::Plan;
-use tks_opt::Said;
-use tks_state::World;
-use tks_tcl::Interrupt;
+use tks_opt::{Said, are_pairs};
+use tks_state::{Widget, World};
+use tks_tcl::{Interrupt, wrong_words};
 use tks_text::{Limits, Txt};
 use tks_tree::WindowId;
 use tks_vars::Vars;
+
+// Whether a pair of an option and its value sets the link.
+fn sets_link(pair: &[Txt]) -> bool
+    ensures { result ≡ sets_link pair.now }
+{
+    match pair {
+        [] => false,
+        [name, ..] => name.as_bytes() == b"-textvariable".as_slice(),
+    }
+}
+
+// Gives a widget, as it is seen, a pair of an option and its value.
+fn configure_seen(
+    alloc: Global,
+    pair: &[Txt],
+    widget: &Widget,
+    next: &mut Widget,
+    variables: &mut Vars,
+    limits: &Limits,
+) -> Result<(), Interrupt>
+    requires seen { next.old ≡ seen variables.old widget.now }
+    ensures value { GivesSo (λ _. (next.new, variables.new)) result (configured_pair limits.now pair.now (widget.now, variables.old)) }
+    ensures err { OnErr result (variables.new ≡ variables.old) }
+    ensures class { class_of next.new ≡ class_of next.old }
+{
+    next.configure(pair)?;
+    settle(alloc, sets_link(pair), widget, next, variables, limits)
+}
+
+// A widget with a pair of an option and its value.
+fn configure_pair(
+    alloc: Global,
+    pair: &[Txt],
+    widget: &Widget,
+    variables: &mut Vars,
+    limits: &Limits,
+) -> Result<Widget, Interrupt>
+    ensures value { GivesSo (λ w. (w, variables.new)) result (configured_pair limits.now pair.now (widget.now, variables.old)) }
+    ensures err { OnErr result (variables.new ≡ variables.old) }
+    ensures class { IfOk result (λ w. class_of w ≡ class_of widget.now) }
+{
+    let mut next = widget.seen(alloc, variables)?;
+    configure_seen(alloc, pair, widget, &mut next, variables, limits)?;
+    Ok(next)
+}
+
+/// A widget with options and values in turn. After an error nothing is said of the variables.
+#[tactic(auto, unfolding(crate::specs::Widgets::configured))]
+pub fn configure(
+    alloc: Global,
+    pairs: &[Txt],
+    widget: Widget,
+    variables: &mut Vars,
+    limits: &Limits,
+) -> Result<Widget, Interrupt>
+    ensures value { GivesSo (λ w. (w, variables.new)) result (configured limits.now pairs.now (widget, variables.old)) }
+    ensures class { IfOk result (λ w. class_of w ≡ class_of widget) }
+{
+    let mut widget = widget;
+    let mut rest = pairs;
+    while 2 <= rest.len() {
+        let (pair, more) = rest.split_at(2);
+        widget = configure_pair(alloc, pair, &widget, variables, limits)?;
+        rest = more;
+    }
+    Ok(widget)
+}
+
+// What a widget answers, and the widget that is left.
+#[derive(Drop)]
+struct Told {
+    said: Said,
+    widget: Widget,
+}
+
+// What a widget, as it is seen, answers to the words of a command.
+#[tactic(auto, unfolding(crate::specs::Widgets::told_words))]
+fn tell_words(
+    alloc: Global,
+    words: &[Txt],
+    widget: &Widget,
+    variables: &mut Vars,
+    limits: &Limits,
+) -> Result<Told, Interrupt>
+    ensures value { GivesSo (λ t. (t.said, (t.widget, variables.new))) result (told_words limits.now words.now (widget.now, variables.old)) }
+    ensures err { OnErr result (variables.new ≡ variables.old) }
+    ensures class { IfOk result (λ t. class_of t.widget ≡ class_of widget.now) }
+{
+    let mut next = widget.seen(alloc, variables)?;
+    let said = next.call(words)?;
+    settle(alloc, false, widget, &mut next, variables, limits)?;
+    Ok(Told { said, widget: next })
+}
+
+// The same behind a checkbutton's variable that is set first. After an error nothing is said of the variables.
+fn assign_and_tell(
+    alloc: Global,
+    words: &[Txt],
+    widget: &Widget,
+    first: Assignment,
+    variables: &mut Vars,
+    limits: &Limits,
+) -> Result<Told, Interrupt>
+    ensures value { GivesSo (λ t. (t.said, (t.widget, variables.new))) result (assigned_does limits.now words.now widget.now (Some first) variables.old) }
+    ensures class { IfOk result (λ t. class_of t.widget ≡ class_of widget.now) }
+{
+    let Assignment { variable, value } = first;
+    set_global(variables, &variable, value, limits)?;
+    tell_words(alloc, words, widget, variables, limits)
+}
+
+// What a widget answers to words other than those of `configure`: a checkbutton's variable is set on a copy.
+#[tactic(auto, unfolding(crate::specs::Widgets::action_does))]
+fn run_action(
+    alloc: Global,
+    words: &[Txt],
+    widget: &Widget,
+    variables: &mut Vars,
+    limits: &Limits,
+) -> Result<Told, Interrupt>
+    ensures value { GivesSo (λ t. (t.said, (t.widget, variables.new))) result (action_does limits.now words.now (widget.now, variables.old)) }
+    ensures err { OnErr result (variables.new ≡ variables.old) }
+    ensures class { IfOk result (λ t. class_of t.widget ≡ class_of widget.now) }
+{
+    let Some(first) = widget.assigned(variables, words)? else {
+        return tell_words(alloc, words, widget, variables, limits);
+    };
+    let mut copy = variables.try_clone()?;
+    let told = assign_and_tell(alloc, words, widget, first, &mut copy, limits)?;
+    mem::swap(variables, &mut copy);
+    Ok(told)
+}
+
+// A widget with options and values in turn: more than one pair on a copy of the variables.
+#[tactic(auto, using(crate::proofs::Pairs::pair_alone))]
+fn configure_all(
+    alloc: Global,
+    pairs: &[Txt],
+    widget: &Widget,
+    variables: &mut Vars,
+    limits: &Limits,
+) -> Result<Widget, Interrupt>
+    ensures value { GivesSo (λ w. (w, variables.new)) result (configured limits.now pairs.now (widget.now, variables.old)) }
+    ensures err { OnErr result (variables.new ≡ variables.old) }
+    ensures class { IfOk result (λ w. class_of w ≡ class_of widget.now) }
+{
+    if let [_option, _value] = pairs {
+        return configure_pair(alloc, pairs, widget, variables, limits);
+    }
+    let mut copy = variables.try_clone()?;
+    let configured = configure(alloc, pairs, widget.try_clone()?, &mut copy, limits)?;
+    mem::swap(variables, &mut copy);
+    Ok(configured)
+}
+
+// path configure option value ..
+#[tactic(auto, using(tks_tcl::proofs::Causes::tells))]
+fn run_configure(
+    alloc: Global,
+    path: &Txt,
+    pairs: &[Txt],
+    widget: &Widget,
+    variables: &mut Vars,
+    limits: &Limits,
+) -> Result<Told, Interrupt>
+    ensures value { GivesSo (λ t. (t.said, (t.widget, variables.new))) result (configure_does limits.now path.now pairs.now (widget.now, variables.old)) }
+    ensures err { OnErr result (variables.new ≡ variables.old) }
+    ensures class { IfOk result (λ t. class_of t.widget ≡ class_of widget.now) }
+{
+    if !are_pairs(pairs) {
+        return Err(wrong_words(path));
+    }
+    let widget = configure_all(alloc, pairs, widget, variables, limits)?;
+    Ok(Told {
+        said: Said::Text(Txt::new(alloc)),
+        widget,
+    })
+}
+
+// What a widget comes to by the words of a whole command, the window's path first.
+fn call(
+    alloc: Global,
+    words: &[Txt],
+    widget: &Widget,
+    variables: &mut Vars,
+    limits: &Limits,
+) -> Result<Told, Interrupt>
+    ensures value { GivesSo (λ t. (t.said, (t.widget, variables.new))) result (called limits.now words.now (widget.now, variables.old)) }
+    ensures err { OnErr result (variables.new ≡ variables.old) }
+    ensures class { IfOk result (λ t. class_of t.widget ≡ class_of widget.now) }
+{
+    if let [path, name, rest @ ..] = words {
+        if name.as_bytes() == b"configure".as_slice() {
+            let told = run_configure(alloc, path, rest, widget, variables, limits)?;
+            return Ok(told);
+        }
+    }
+    let told = run_action(alloc, words, widget, variables, limits)?;
+    Ok(told)
+}
 
 // A text is the answer itself, a script is run for it.
 fn plan_of(said: Said) -> Plan
@@ -21,7 +225,7 @@ fn plan_of(said: Said) -> Plan
 {
     match said {
         Said::Text(text) => Plan::Answer(0, text),
-        Said::Eval(script) => Plan::Eval(script),
+        Said::Run(script) => Plan::Eval(script),
     }
 }
 

@@ -11,7 +11,8 @@ ghost use Rattle.tks_cmd.specs.Changes.{creation, outcome};
 ghost use Rattle.tks_cmd.specs.Windows.{are_paired, kind_named, first_widget, new_widget, added, room, made, make_does, is_other, without_path, without_all, destroy_does};
 ghost use Rattle.tks_cmd.specs.Meets.{KeepsSo, interrupt_of};
 
-use crate::links::{configure, set_first_value};
+use crate::links::set_first_value;
+use crate::widgets::configure;
 use std::alloc::{AllocError, Global};
 use std::mem;
 use tks_button::{Caption, Frame};

@@ -1,9 +1,5 @@
-pub mod Joining
-pub mod EachKind
-pub mod Headers
-pub mod Inputs
-pub mod Texts
-pub mod Loop
-pub mod Found
-pub mod Puts
-pub mod Rising
+pub mod OfContent
+pub mod OfLines
+pub mod OfWindows
+pub mod OfParts
+pub mod OfWorlds

@@ -1,5 +1,9 @@
-pub mod Spelling
-pub mod Reading
-pub mod Writing
-pub mod Header
-pub mod Input
+-- How worlds are spelled.
+pub mod Class
+pub mod Content
+pub mod Line
+pub mod Windows
+pub mod Counts
+pub mod Happenings
+pub mod Ends
+pub mod World

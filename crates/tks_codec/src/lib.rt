@@ -1,17 +1,16 @@
-//! Inputs and headers as bytes, read back exactly, and nothing else read.
+//! Worlds as bytes, read back exactly, and nothing else read.
 #![tactic(auto)]
 
-mod fault;
-mod header;
-mod input;
+mod class;
+mod content;
+mod counts;
+mod ends;
+mod happenings;
 mod laws;
-mod names;
-pub mod reading;
-mod unread;
-pub mod writing;
+mod line;
+mod windows;
+mod world;
 
-pub use fault::CodecFault;
-pub use header::{Header, read_header, write_header};
-pub use input::{read_input, write_input};
-pub use laws::{one_header, one_input, two_inputs};
-pub use unread::Unread;
+pub use laws::one_world;
+pub use tks_spelling::{CodecFault, Header, read_header, read_input, write_header, write_input};
+pub use world::{read_world, write_world};

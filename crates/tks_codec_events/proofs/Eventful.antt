@@ -4,9 +4,9 @@ use Rattle.std.specs.Int.{w64, cast_unsigned, cast_signed}
 use Rattle.std.proofs.Math.Facts.{to_z-of_z, Fits-of_z}
 use Rattle.tks_event.specs.declared.event.Event.{Event}
 use Rattle.std.specs.declared.alloc.AllocError.{AllocError}
-use Rattle.tks_codec.specs.Writing.{PutsSo}
-use Rattle.tks_codec.specs.Spelling.{Lawful, signed, text}
-use Rattle.tks_codec.proofs.EachKind.{wide64, number_lawful, test_lawful, field_lawful, through_lawful, signed64_lawful, text_lawful}
+use Rattle.tks_spelling.specs.Writing.{PutsSo}
+use Rattle.tks_spelling.specs.Spelling.{Lawful, signed, text}
+use Rattle.tks_spelling.proofs.EachKind.{wide64, number_lawful, test_lawful, field_lawful, through_lawful, signed64_lawful, text_lawful}
 use Rattle.tks_event.specs.Legality.{is_event}
 use Rattle.tks_codec_events.specs.Event.{fields, event, HasPlaces}
 use Rattle.tks_codec_events.proofs.Sequencing.{kind_lawful, kind_legal, modifiers_lawful, modifiers_legal}

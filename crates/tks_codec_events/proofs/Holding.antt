@@ -3,8 +3,8 @@ use Rattle.std.proofs.Common.{◌≡◌, ℕ, zero, suc, ◌/◌, ◌%◌, ◌<�
 use Rattle.std.specs.Prelude.{◌==◌}
 use Rattle.std.proofs.lemmas.Bool.{lt-ltb, ltb-true}
 use Rattle.tks_event.specs.declared.held.Held.{Held}
-use Rattle.tks_codec.specs.Spelling.{Lawful, byte, flag_of}
-use Rattle.tks_codec.proofs.EachKind.{byte_lawful, test_lawful, field_lawful, through_lawful}
+use Rattle.tks_spelling.specs.Spelling.{Lawful, byte, flag_of}
+use Rattle.tks_spelling.proofs.EachKind.{byte_lawful, test_lawful, field_lawful, through_lawful}
 use Rattle.tks_codec_events.specs.Held.{keys_number, buttons_number, is_odd, held_by, are_keys, are_buttons, held}
 
 -- ---- bits

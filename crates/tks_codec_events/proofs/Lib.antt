@@ -5,4 +5,3 @@ pub mod Differing
 pub mod Tables
 pub mod Waiting
 pub mod Holding
-pub mod Remembering

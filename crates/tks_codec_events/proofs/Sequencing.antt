@@ -7,8 +7,8 @@ use Rattle.tks_event.specs.declared.kind.Kind.{Kind}
 use Rattle.tks_event.specs.declared.kind.Kind.TheVariants.{KeyPress, KeyRelease, ButtonPress, ButtonRelease, FocusIn, FocusOut, Virtual}
 use Rattle.tks_event.specs.declared.pattern.Pattern.{Pattern}
 use Rattle.std.proofs.lemmas.Bool.{lt-ltb}
-use Rattle.tks_codec.specs.Spelling.{Lawful, byte, number, flag, list, such_that, text}
-use Rattle.tks_codec.proofs.EachKind.{byte_lawful, wide16, number_lawful, test_lawful, field_lawful, through_lawful, flag_lawful, list_lawful, text_lawful}
+use Rattle.tks_spelling.specs.Spelling.{Lawful, byte, number, flag, list, such_that, text}
+use Rattle.tks_spelling.proofs.EachKind.{byte_lawful, wide16, number_lawful, test_lawful, field_lawful, through_lawful, flag_lawful, list_lawful, text_lawful}
 use Rattle.tks_codec_events.specs.Kind.{is_kind, kind_at, kind}
 use Rattle.tks_codec_events.specs.Sequence.{is_set, modifiers, pattern, sequence}
 

@@ -4,8 +4,8 @@ use Rattle.std.specs.List.{AllByRecursion}
 use Rattle.std.specs.Int.{w64}
 use Rattle.tks_bind.specs.declared.binding.Binding.{Binding}
 use Rattle.tks_bind.specs.declared.virtual_event.VirtualEvent.{VirtualEvent}
-use Rattle.tks_codec.specs.Spelling.{Lawful, IsBytes, AreLegal, list}
-use Rattle.tks_codec.proofs.EachKind.{wide64, number_lawful, test_lawful, field_lawful, through_lawful, list_lawful, text_lawful}
+use Rattle.tks_spelling.specs.Spelling.{Lawful, IsBytes, AreLegal, list}
+use Rattle.tks_spelling.proofs.EachKind.{wide64, number_lawful, test_lawful, field_lawful, through_lawful, list_lawful, text_lawful}
 use Rattle.tks_codec_events.specs.Sequence.{sequence}
 use Rattle.tks_bind.specs.WellFormed.{are_bindings, is_virtual_event, are_virtuals}
 use Rattle.tks_codec_events.specs.Bindings.{binding, bindings}

@@ -8,8 +8,8 @@ use Rattle.tks_queue.specs.declared.queued.Queued.{Queued}
 use Rattle.tks_timer.specs.declared.entry.Timer.{Timer}
 use Rattle.tks_timer.specs.declared.entry.Idle.{Idle}
 use Rattle.tks_timer.specs.After.{Content}
-use Rattle.tks_codec.specs.Spelling.{Lawful, IsBytes, AreLegal, list}
-use Rattle.tks_codec.proofs.EachKind.{wide64, number_lawful, test_lawful, field_lawful, through_lawful, flag_lawful, list_lawful, text_lawful}
+use Rattle.tks_spelling.specs.Spelling.{Lawful, IsBytes, AreLegal, list}
+use Rattle.tks_spelling.proofs.EachKind.{wide64, number_lawful, test_lawful, field_lawful, through_lawful, flag_lawful, list_lawful, text_lawful}
 use Rattle.tks_codec_events.specs.Event.{event}
 use Rattle.tks_codec_events.specs.History.{is_history, history}
 use Rattle.tks_codec_events.specs.Queue.{queued, queue}

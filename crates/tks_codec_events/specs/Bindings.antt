@@ -3,7 +3,7 @@ use Rattle.std.specs.Prelude.{ℕ, List, [], ◌∷◌}
 use Rattle.std.specs.Int.{w64}
 use Rattle.tks_bind.specs.declared.binding.Binding.{Binding}
 use Rattle.tks_bind.specs.WellFormed.{are_bindings}
-use Rattle.tks_codec.specs.Spelling.{Read, Spelling, number, such_that, field, through, list, text}
+use Rattle.tks_spelling.specs.Spelling.{Read, Spelling, number, such_that, field, through, list, text}
 use Rattle.tks_codec_events.specs.Sequence.{sequence}
 
 -- a binding: its number, its tag, its sequence, its script

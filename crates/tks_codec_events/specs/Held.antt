@@ -1,7 +1,7 @@
 -- What is held down as bytes (this project's own format).
 use Rattle.std.specs.Prelude.{ℕ, ◌+◌, ◌*◌, ◌/◌, ◌%◌, ◌==◌, Bool, nat_lt, List}
 use Rattle.tks_event.specs.declared.held.Held.{Held}
-use Rattle.tks_codec.specs.Spelling.{Spelling, Read, byte, such_that, field, through, flag_of}
+use Rattle.tks_spelling.specs.Spelling.{Spelling, Read, byte, such_that, field, through, flag_of}
 
 -- the modifier keys: a bit each, from that of the left Shift on
 abbrev pub keys_number : Held → ℕ

@@ -2,7 +2,7 @@
 use Rattle.std.specs.Prelude.{ℕ, Bool, List, length, nat_le}
 use Rattle.tks_event.specs.declared.event.Event.{Event}
 use Rattle.tks_bind.specs.History.{max_history}
-use Rattle.tks_codec.specs.Spelling.{Read, Spelling, such_that, list}
+use Rattle.tks_spelling.specs.Spelling.{Read, Spelling, such_that, list}
 use Rattle.tks_codec_events.specs.Event.{event}
 
 -- no more events than a history holds

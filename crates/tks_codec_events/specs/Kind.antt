@@ -3,7 +3,7 @@ use Rattle.std.specs.Prelude.{ℕ, Bool, Option, Some, None, is_some}
 use Rattle.tks_event.specs.Numbers.{kind_number, kind_numbered}
 use Rattle.tks_event.specs.declared.kind.Kind.{Kind}
 use Rattle.tks_event.specs.declared.kind.Kind.TheVariants.{KeyPress}
-use Rattle.tks_codec.specs.Spelling.{Spelling, byte, such_that, through}
+use Rattle.tks_spelling.specs.Spelling.{Spelling, byte, such_that, through}
 
 -- the numbers of kinds
 abbrev pub is_kind : ℕ → Bool

@@ -1,3 +1,4 @@
+-- How events, bindings and what waits are spelled.
 pub mod Kind
 pub mod Sequence
 pub mod Event
@@ -7,4 +8,3 @@ pub mod History
 pub mod Queue
 pub mod Timers
 pub mod Held
-pub mod Memories

@@ -1,7 +1,7 @@
 -- The queue of events as bytes (this project's own format).
 use Rattle.std.specs.Prelude.{ℕ, List}
 use Rattle.tks_queue.specs.declared.queued.Queued.{Queued}
-use Rattle.tks_codec.specs.Spelling.{Read, Spelling, field, through, flag, list}
+use Rattle.tks_spelling.specs.Spelling.{Read, Spelling, field, through, flag, list}
 use Rattle.tks_codec_events.specs.Event.{event}
 
 -- an event that waits: the event, whether it was put with a mark

@@ -4,7 +4,7 @@ use Rattle.std.specs.Int.{w16}
 use Rattle.tks_event.specs.Modifiers.{all_bits}
 use Rattle.tks_event.specs.Sequences.{is_sequence}
 use Rattle.tks_event.specs.declared.pattern.Pattern.{Pattern}
-use Rattle.tks_codec.specs.Spelling.{Read, Spelling, number, such_that, field, through, flag, list, text}
+use Rattle.tks_spelling.specs.Spelling.{Read, Spelling, number, such_that, field, through, flag, list, text}
 use Rattle.tks_codec_events.specs.Kind.{kind}
 
 -- sets of modifiers

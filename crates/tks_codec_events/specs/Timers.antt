@@ -5,7 +5,7 @@ use Rattle.tks_timer.specs.declared.entry.Timer.{Timer}
 use Rattle.tks_timer.specs.declared.entry.Idle.{Idle}
 use Rattle.tks_timer.specs.After.{Content}
 use Rattle.tks_timer.specs.WellFormed.{are_waiting}
-use Rattle.tks_codec.specs.Spelling.{Read, Spelling, number, such_that, field, through, list, text}
+use Rattle.tks_spelling.specs.Spelling.{Read, Spelling, number, such_that, field, through, list, text}
 
 -- ---- one of them
 

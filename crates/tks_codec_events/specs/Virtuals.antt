@@ -2,7 +2,7 @@
 use Rattle.std.specs.Prelude.{ℕ, List, [], ◌∷◌}
 use Rattle.tks_bind.specs.WellFormed.{is_virtual_event, are_virtuals}
 use Rattle.tks_bind.specs.declared.virtual_event.VirtualEvent.{VirtualEvent}
-use Rattle.tks_codec.specs.Spelling.{Read, Spelling, such_that, field, through, list, text}
+use Rattle.tks_spelling.specs.Spelling.{Read, Spelling, such_that, field, through, list, text}
 use Rattle.tks_codec_events.specs.Sequence.{sequence}
 
 -- a name, and sequences in the order in which they were added

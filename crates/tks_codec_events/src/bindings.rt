@@ -2,20 +2,20 @@
 ghost use Rattle.std.specs.Prelude.{◌≡◌, ◌≤◌, ◌^◌, nat_lt, None, IfOk, OnOk};
 ghost use Rattle.std.specs.List.{list_all};
 ghost use Rattle.tks_bind.specs.WellFormed.{are_bindings};
-ghost use Rattle.tks_codec.specs.Reading.{Gives};
-ghost use Rattle.tks_codec.specs.Writing.{PutsSo, flattened};
+ghost use Rattle.tks_spelling.specs.Reading.{Gives};
+ghost use Rattle.tks_spelling.specs.Writing.{PutsSo, flattened};
 ghost use Rattle.tks_codec_events.specs.Bindings as tables;
 ghost use Rattle.tks_codec_events.specs.Bindings.{binding_at, binding_parts, bindings_at};
 
 use crate::distinct::{Distinct, all_differ};
-use crate::member::{Member, list_of, put_items};
+use crate::items::put_items;
 use crate::sequence::{put_sequence, sequence_of};
 use std::alloc::{AllocError, Global};
 use tks_bind::{Binding, Bindings};
-use tks_codec::Unread;
-use tks_codec::reading::{text_of, u64_of};
-use tks_codec::writing::{put_text, put_u64};
 use tks_event::are_equal;
+use tks_spelling::reading::{text_of, u64_of};
+use tks_spelling::writing::{put_text, put_u64};
+use tks_spelling::{Members, Unread, list_of};
 
 // A binding.
 #[tactic(auto, unfolding(crate::specs::Bindings::binding_at, crate::specs::Sequence::sequence_at))]
@@ -36,7 +36,7 @@ fn binding_of(alloc: Global, bytes: &[u8]) -> Result<(Binding, &[u8]), Unread>
 }
 
 // Adds the parts of a binding.
-#[tactic(auto, using(tks_codec::proofs::Puts::flattened_puts))]
+#[tactic(auto, using(tks_spelling::proofs::Puts::flattened_puts))]
 fn put_parts(out: &mut Vec<u8>, binding: &Binding) -> Result<(), AllocError>
     ensures puts { PutsSo result out.old.items out.new.items (flattened (binding_parts binding.now)) }
     ensures legal { OnOk result (tables.binding.Legal binding.now) }
@@ -47,21 +47,25 @@ fn put_parts(out: &mut Vec<u8>, binding: &Binding) -> Result<(), AllocError>
     put_text(out, &binding.script)
 }
 
-impl Member for Binding {
+/// Bindings.
+#[derive(Clone, Copy)]
+pub struct BindingMembers;
+
+impl Members<Binding> for BindingMembers {
     ghost use Rattle.tks_codec_events.specs.Bindings.{binding};
 
-    ghost spelling = { binding };
+    ghost spelling = { λ bindings. binding };
 
-    ghost IsSound = { λ b. Unit {0} };
+    ghost IsSound = { λ bindings b. Unit {0} };
 
     #[tactic(auto, unfolding(crate::specs::Bindings::binding_at))]
-    fn read(alloc: Global, bytes: &[u8]) -> Result<(Binding, &[u8]), Unread> {
+    fn read<'a>(&self, alloc: Global, bytes: &'a [u8]) -> Result<(Binding, &'a [u8]), Unread> {
         binding_of(alloc, bytes)
     }
 
-    #[tactic(auto, unfolding(tks_codec::specs::Writing::flattened))]
-    fn put(&self, out: &mut Vec<u8>) -> Result<(), AllocError> {
-        put_parts(out, self)
+    #[tactic(auto, unfolding(tks_spelling::specs::Writing::flattened))]
+    fn put(&self, out: &mut Vec<u8>, binding: &Binding) -> Result<(), AllocError> {
+        put_parts(out, binding)
     }
 }
 
@@ -91,28 +95,27 @@ fn are_bindings(bindings: &[Binding], next: u64) -> bool
     are_below(bindings, next) && all_differ(bindings)
 }
 
-/// Bindings with this next number, with no mark.
+/// Bindings with this next number.
 #[tactic(auto, unfolding(crate::specs::Bindings::bindings_at))]
 pub fn bindings_of(alloc: Global, next: u64, bytes: &[u8]) -> Result<(Bindings, &[u8]), Unread>
     requires { next ≤ 2 ^ 62 }
-    ensures reads { Gives (λ x. (x.0.present.bindings, x.1.now)) result (bindings_at next bytes.now) }
-    ensures next { IfOk result (λ x. x.0.present.next ≡ next) }
-    ensures unmarked { IfOk result (λ x. x.0.at_mark ≡ None) }
+    ensures reads { Gives (λ x. (x.0.bindings, x.1.now)) result (bindings_at next bytes.now) }
+    ensures next { IfOk result (λ x. x.0.next ≡ next) }
 {
-    let (bindings, rest) = list_of::<Binding>(alloc, bytes)?;
-    if !are_bindings(&bindings, next) {
+    let (bindings, rest) = list_of(alloc, BindingMembers, bytes)?;
+    if !are_bindings(bindings.as_slice(), next) {
         return Err(Unread::Left(rest.len() + 1));
     }
-    let bindings = Bindings::restore(alloc, bindings, next)?;
+    let bindings = Bindings::restore(alloc, bindings.into_items(), next)?;
     Ok((bindings, rest))
 }
 
 /// Adds bindings, but not the next number.
 pub fn put_bindings(out: &mut Vec<u8>, bindings: &Bindings) -> Result<(), AllocError>
-    ensures puts { PutsSo result out.old.items out.new.items ((tables.bindings bindings.now.present.next).write bindings.now.present.bindings) }
-    ensures legal { OnOk result ((tables.bindings bindings.now.present.next).Legal bindings.now.present.bindings) }
+    ensures puts { PutsSo result out.old.items out.new.items ((tables.bindings bindings.now.next).write bindings.now.bindings) }
+    ensures legal { OnOk result ((tables.bindings bindings.now.next).Legal bindings.now.bindings) }
 {
     // What holds of all bindings is asked for here.
     let _ = bindings.next();
-    put_items(out, bindings.bindings(), bindings.len())
+    put_items(out, BindingMembers, bindings.bindings(), bindings.len())
 }

@@ -1,19 +1,18 @@
 //! Events.
 ghost use Rattle.std.specs.Prelude.{◌≡◌, ◌<◌, ◌^◌, true, OnOk};
-ghost use Rattle.tks_codec.specs.Spelling as spellings;
-ghost use Rattle.tks_codec.specs.Reading.{Gives};
-ghost use Rattle.tks_codec.specs.Writing.{PutsSo, flattened};
+ghost use Rattle.tks_spelling.specs.Spelling as spellings;
+ghost use Rattle.tks_spelling.specs.Reading.{Gives};
+ghost use Rattle.tks_spelling.specs.Writing.{PutsSo, flattened};
 ghost use Rattle.tks_codec_events.specs.Event as events;
 ghost use Rattle.tks_event.specs.Legality.{is_event};
 ghost use Rattle.tks_codec_events.specs.Event.{fields_at, subject_parts, moment_parts, place_parts, event_parts, event_at, HasPlaces};
 
 use crate::kind::{kind_of, put_kind};
-use crate::member::Member;
 use std::alloc::{AllocError, Global};
-use tks_codec::Unread;
-use tks_codec::reading::{i64_of, text_of, u16_of, u64_of};
-use tks_codec::writing::{put_i64, put_text, put_u16, put_u64};
 use tks_event::{Event, Modifiers, is_event};
+use tks_spelling::reading::{i64_of, text_of, u16_of, u64_of};
+use tks_spelling::writing::{put_i64, put_text, put_u16, put_u64};
+use tks_spelling::{Members, Unread};
 
 // The fields of an event.
 #[tactic(auto, unfolding(crate::specs::Event::fields_at))]
@@ -61,7 +60,7 @@ pub fn event_of(alloc: Global, bytes: &[u8]) -> Result<(Event, &[u8]), Unread>
 }
 
 // Adds the window, the kind and the detail of an event.
-#[tactic(auto, using(tks_codec::proofs::Puts::flattened_puts))]
+#[tactic(auto, using(tks_spelling::proofs::Puts::flattened_puts))]
 fn put_subject(out: &mut Vec<u8>, event: &Event) -> Result<(), AllocError>
     ensures puts { PutsSo result out.old.items out.new.items (flattened (subject_parts event.now)) }
     ensures fits { OnOk result ((event.now.window < 2 ^ 64) × spellings.text.Legal event.now.detail) }
@@ -72,7 +71,7 @@ fn put_subject(out: &mut Vec<u8>, event: &Event) -> Result<(), AllocError>
 }
 
 // Adds the state and the time of an event.
-#[tactic(auto, using(tks_codec::proofs::Puts::flattened_puts))]
+#[tactic(auto, using(tks_spelling::proofs::Puts::flattened_puts))]
 fn put_moment(out: &mut Vec<u8>, event: &Event) -> Result<(), AllocError>
     ensures puts { PutsSo result out.old.items out.new.items (flattened (moment_parts event.now)) }
     ensures fits { OnOk result ((event.now.state < 8_192) × (event.now.time < 2 ^ 64)) }
@@ -82,7 +81,7 @@ fn put_moment(out: &mut Vec<u8>, event: &Event) -> Result<(), AllocError>
 }
 
 // Adds the places of an event.
-#[tactic(auto, using(tks_codec::proofs::Puts::flattened_puts))]
+#[tactic(auto, using(tks_spelling::proofs::Puts::flattened_puts))]
 fn put_places(out: &mut Vec<u8>, event: &Event) -> Result<(), AllocError>
     ensures puts { PutsSo result out.old.items out.new.items (flattened (place_parts event.now)) }
     ensures fits { OnOk result (HasPlaces event.now) }
@@ -94,7 +93,7 @@ fn put_places(out: &mut Vec<u8>, event: &Event) -> Result<(), AllocError>
 }
 
 // Adds the parts of an event.
-#[tactic(auto, using(tks_codec::proofs::Puts::flattened_puts))]
+#[tactic(auto, using(tks_spelling::proofs::Puts::flattened_puts))]
 fn put_parts(out: &mut Vec<u8>, event: &Event) -> Result<(), AllocError>
     ensures puts { PutsSo result out.old.items out.new.items (flattened (event_parts event.now)) }
     ensures legal { OnOk result (events.fields.Legal event.now) }
@@ -106,7 +105,7 @@ fn put_parts(out: &mut Vec<u8>, event: &Event) -> Result<(), AllocError>
 }
 
 /// Adds an event. It is read back where it is one that there is (`is_event`).
-#[tactic(auto, unfolding(tks_codec::specs::Writing::flattened))]
+#[tactic(auto, unfolding(tks_spelling::specs::Writing::flattened))]
 pub fn put_event(out: &mut Vec<u8>, event: &Event) -> Result<(), AllocError>
     ensures puts { PutsSo result out.old.items out.new.items (events.event.write event.now) }
     ensures legal { OnOk result (is_event event.now ≡ true → events.event.Legal event.now) }
@@ -114,21 +113,25 @@ pub fn put_event(out: &mut Vec<u8>, event: &Event) -> Result<(), AllocError>
     put_parts(out, event)
 }
 
-impl Member for Event {
+/// Events.
+#[derive(Clone, Copy)]
+pub struct Events;
+
+impl Members<Event> for Events {
     ghost use Rattle.std.specs.Prelude.{◌≡◌, true};
     ghost use Rattle.tks_event.specs.Legality.{is_event};
     ghost use Rattle.tks_codec_events.specs.Event.{event};
 
-    ghost spelling = { event };
+    ghost spelling = { λ events. event };
 
-    ghost IsSound = { λ e. is_event e ≡ true };
+    ghost IsSound = { λ events e. is_event e ≡ true };
 
     #[tactic(auto, unfolding(crate::specs::Event::event_at))]
-    fn read(alloc: Global, bytes: &[u8]) -> Result<(Event, &[u8]), Unread> {
+    fn read<'a>(&self, alloc: Global, bytes: &'a [u8]) -> Result<(Event, &'a [u8]), Unread> {
         event_of(alloc, bytes)
     }
 
-    fn put(&self, out: &mut Vec<u8>) -> Result<(), AllocError> {
-        put_event(out, self)
+    fn put(&self, out: &mut Vec<u8>, event: &Event) -> Result<(), AllocError> {
+        put_event(out, event)
     }
 }

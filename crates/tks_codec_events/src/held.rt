@@ -1,16 +1,16 @@
 //! What is held down.
 ghost use Rattle.std.specs.Prelude.{◌≡◌, ◌≤◌};
-ghost use Rattle.tks_codec.specs.Spelling.{flag_of};
-ghost use Rattle.tks_codec.specs.Reading.{Gives};
-ghost use Rattle.tks_codec.specs.Writing.{PutsSo};
+ghost use Rattle.tks_spelling.specs.Spelling.{flag_of};
+ghost use Rattle.tks_spelling.specs.Reading.{Gives};
+ghost use Rattle.tks_spelling.specs.Writing.{PutsSo};
 ghost use Rattle.tks_codec_events.specs.Held as helds;
 ghost use Rattle.tks_codec_events.specs.Held.{keys_number, buttons_number, is_odd, held_by, held_at};
 
 use std::alloc::AllocError;
-use tks_codec::Unread;
-use tks_codec::reading::u8_of;
-use tks_codec::writing::put_u8;
 use tks_event::Held;
+use tks_spelling::Unread;
+use tks_spelling::reading::u8_of;
+use tks_spelling::writing::put_u8;
 
 fn is_odd(number: u8) -> bool
     ensures { result ≡ is_odd number }

@@ -1,33 +1,31 @@
 //! Histories of events.
 ghost use Rattle.std.specs.Prelude.{◌≡◌, None, IfOk, OnOk};
-ghost use Rattle.tks_codec.specs.Reading.{Gives};
-ghost use Rattle.tks_codec.specs.Writing.{PutsSo};
+ghost use Rattle.tks_spelling.specs.Reading.{Gives};
+ghost use Rattle.tks_spelling.specs.Writing.{PutsSo};
 ghost use Rattle.tks_codec_events.specs.History as histories;
 ghost use Rattle.tks_codec_events.specs.History.{history_at};
 
-use crate::member::{list_of, put_list};
+use crate::event::Events;
 use std::alloc::{AllocError, Global};
 use tks_bind::{History, MAX_HISTORY};
-use tks_codec::Unread;
-use tks_event::Event;
+use tks_spelling::{Unread, list_of, put_list};
 
-/// A history, with no mark.
+/// A history.
 #[tactic(auto, unfolding(crate::specs::History::history_at), using(crate::proofs::Latest::all_latest))]
 pub fn history_of(alloc: Global, bytes: &[u8]) -> Result<(History, &[u8]), Unread>
-    ensures reads { Gives (λ x. (x.0.present, x.1.now)) result (history_at bytes.now) }
-    ensures unmarked { IfOk result (λ x. x.0.at_mark ≡ None) }
+    ensures { Gives (λ x. (x.0, x.1.now)) result (history_at bytes.now) }
 {
-    let (events, rest) = list_of::<Event>(alloc, bytes)?;
+    let (events, rest) = list_of(alloc, Events, bytes)?;
     if events.len() > MAX_HISTORY {
         return Err(Unread::Left(rest.len() + 1));
     }
-    Ok((History::restore(alloc, events), rest))
+    Ok((History::restore(events.into_items()), rest))
 }
 
 /// Adds a history.
 pub fn put_history(out: &mut Vec<u8>, history: &History) -> Result<(), AllocError>
-    ensures puts { PutsSo result out.old.items out.new.items (histories.history.write history.now.present) }
-    ensures legal { OnOk result (histories.history.Legal history.now.present) }
+    ensures puts { PutsSo result out.old.items out.new.items (histories.history.write history.now) }
+    ensures legal { OnOk result (histories.history.Legal history.now) }
 {
-    put_list(out, history.events())
+    put_list(out, Events, history.events())
 }

@@ -1,13 +1,13 @@
 //! Kinds of events.
-ghost use Rattle.tks_codec.specs.Reading.{Gives};
-ghost use Rattle.tks_codec.specs.Writing.{PutsSo};
+ghost use Rattle.tks_spelling.specs.Reading.{Gives};
+ghost use Rattle.tks_spelling.specs.Writing.{PutsSo};
 ghost use Rattle.tks_codec_events.specs.Kind as kinds;
 
 use std::alloc::AllocError;
-use tks_codec::Unread;
-use tks_codec::reading::u8_of;
-use tks_codec::writing::put_u8;
 use tks_event::Kind;
+use tks_spelling::Unread;
+use tks_spelling::reading::u8_of;
+use tks_spelling::writing::put_u8;
 
 /// A kind of events.
 pub fn kind_of(bytes: &[u8]) -> Result<(Kind, &[u8]), Unread>

@@ -3,7 +3,7 @@
 ghost use Rattle.std.specs.Prelude.{ℕ};
 ghost use Rattle.tks_event.specs.declared.held.Held.{Held};
 ghost use Rattle.tks_event.specs.declared.kind.Kind.{Kind};
-ghost use Rattle.tks_codec.specs.Spelling.{Lawful};
+ghost use Rattle.tks_spelling.specs.Spelling.{Lawful};
 ghost use Rattle.tks_codec_events.specs.Kind.{kind};
 ghost use Rattle.tks_codec_events.specs.Sequence.{sequence};
 ghost use Rattle.tks_codec_events.specs.Event.{event};
@@ -13,7 +13,6 @@ ghost use Rattle.tks_codec_events.specs.History.{history};
 ghost use Rattle.tks_codec_events.specs.Queue.{queue};
 ghost use Rattle.tks_codec_events.specs.Timers.{waiting};
 ghost use Rattle.tks_codec_events.specs.Held.{held};
-ghost use Rattle.tks_codec_events.specs.Memories.{memories};
 
 /// Each of these has one spelling, no spelling of one is a proper front of another of its kind, and what reading says
 /// of bytes is what these spellings say.
@@ -27,7 +26,6 @@ pub fn spellings_are_lawful()
     ensures queues { Lawful queue }
     ensures waiting { (next : ℕ) → Lawful (waiting next) }
     ensures held { Lawful held }
-    ensures memories { Lawful memories }
 {}
 
 /// Each kind, and all that may be held down, has a spelling.

@@ -1,18 +1,18 @@
 //! The queue of events.
-ghost use Rattle.std.specs.Prelude.{◌≡◌, true, None, IfOk, OnOk};
-ghost use Rattle.tks_codec.specs.Reading.{Gives};
-ghost use Rattle.tks_codec.specs.Writing.{PutsSo};
+ghost use Rattle.std.specs.Prelude.{◌≡◌, true, OnOk};
+ghost use Rattle.tks_spelling.specs.Reading.{Gives};
+ghost use Rattle.tks_spelling.specs.Writing.{PutsSo};
 ghost use Rattle.tks_event.specs.Legality.{is_event};
 ghost use Rattle.tks_codec_events.specs.Queue as queues;
 ghost use Rattle.tks_codec_events.specs.Queue.{queued_at};
 
 use crate::event::{event_of, put_event};
-use crate::member::{Member, list_of, put_items};
+use crate::items::put_items;
 use std::alloc::{AllocError, Global};
-use tks_codec::Unread;
-use tks_codec::reading::flag_of;
-use tks_codec::writing::put_flag;
 use tks_queue::{Queue, Queued};
+use tks_spelling::reading::flag_of;
+use tks_spelling::writing::put_flag;
+use tks_spelling::{Members, Unread, list_of};
 
 // An event that waits.
 #[tactic(auto, unfolding(crate::specs::Queue::queued_at, crate::specs::Event::event_at))]
@@ -26,46 +26,50 @@ fn queued_of(alloc: Global, bytes: &[u8]) -> Result<(Queued, &[u8]), Unread>
 
 // Adds an event that waits.
 fn put_queued(out: &mut Vec<u8>, queued: &Queued) -> Result<(), AllocError>
+    requires { is_event queued.now.event ≡ true }
     ensures puts { PutsSo result out.old.items out.new.items (queues.queued.write queued.now) }
-    ensures legal { OnOk result (is_event queued.now.event ≡ true → queues.queued.Legal queued.now) }
+    ensures legal { OnOk result (queues.queued.Legal queued.now) }
 {
     put_event(out, &queued.event)?;
     put_flag(out, queued.with_mark)
 }
 
-impl Member for Queued {
+/// Events that wait.
+#[derive(Clone, Copy)]
+pub struct QueuedEvents;
+
+impl Members<Queued> for QueuedEvents {
     ghost use Rattle.std.specs.Prelude.{◌≡◌, true};
     ghost use Rattle.tks_event.specs.Legality.{is_event};
     ghost use Rattle.tks_codec_events.specs.Queue.{queued};
 
-    ghost spelling = { queued };
+    ghost spelling = { λ events. queued };
 
-    ghost IsSound = { λ q. is_event q.event ≡ true };
+    ghost IsSound = { λ events q. is_event q.event ≡ true };
 
     #[tactic(auto, unfolding(crate::specs::Queue::queued_at))]
-    fn read(alloc: Global, bytes: &[u8]) -> Result<(Queued, &[u8]), Unread> {
+    fn read<'a>(&self, alloc: Global, bytes: &'a [u8]) -> Result<(Queued, &'a [u8]), Unread> {
         queued_of(alloc, bytes)
     }
 
-    fn put(&self, out: &mut Vec<u8>) -> Result<(), AllocError> {
-        put_queued(out, self)
+    fn put(&self, out: &mut Vec<u8>, queued: &Queued) -> Result<(), AllocError> {
+        put_queued(out, queued)
     }
 }
 
-/// A queue, with no mark.
+/// A queue.
 pub fn queue_of(alloc: Global, bytes: &[u8]) -> Result<(Queue, &[u8]), Unread>
-    ensures reads { Gives (λ x. (x.0.present, x.1.now)) result (queues.queue.read bytes.now) }
-    ensures unmarked { IfOk result (λ x. x.0.at_mark ≡ None) }
+    ensures { Gives (λ x. (x.0, x.1.now)) result (queues.queue.read bytes.now) }
 {
-    let (events, rest) = list_of::<Queued>(alloc, bytes)?;
-    let queue = Queue::restore(alloc, events)?;
+    let (events, rest) = list_of(alloc, QueuedEvents, bytes)?;
+    let queue = Queue::restore(alloc, events.into_items())?;
     Ok((queue, rest))
 }
 
 /// Adds a queue.
 pub fn put_queue(out: &mut Vec<u8>, queue: &Queue) -> Result<(), AllocError>
-    ensures puts { PutsSo result out.old.items out.new.items (queues.queue.write queue.now.present) }
-    ensures legal { OnOk result (queues.queue.Legal queue.now.present) }
+    ensures puts { PutsSo result out.old.items out.new.items (queues.queue.write queue.now) }
+    ensures legal { OnOk result (queues.queue.Legal queue.now) }
 {
-    put_items(out, queue.events(), queue.len())
+    put_items(out, QueuedEvents, queue.events(), queue.len())
 }

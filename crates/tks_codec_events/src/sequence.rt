@@ -1,17 +1,16 @@
 //! Patterns and sequences of events.
 ghost use Rattle.std.specs.Prelude.{OnOk};
-ghost use Rattle.tks_codec.specs.Reading.{Gives};
-ghost use Rattle.tks_codec.specs.Writing.{PutsSo, flattened};
+ghost use Rattle.tks_spelling.specs.Reading.{Gives};
+ghost use Rattle.tks_spelling.specs.Writing.{PutsSo, flattened};
 ghost use Rattle.tks_codec_events.specs.Sequence as sequences;
 ghost use Rattle.tks_codec_events.specs.Sequence.{pattern, pattern_at, pattern_parts, sequence_at};
 
 use crate::kind::{kind_of, put_kind};
-use crate::member::{Member, list_of, put_list};
 use std::alloc::{AllocError, Global};
-use tks_codec::Unread;
-use tks_codec::reading::{flag_of, text_of, u16_of};
-use tks_codec::writing::{put_flag, put_text, put_u16};
 use tks_event::{Modifiers, Pattern, Sequence};
+use tks_spelling::reading::{flag_of, text_of, u16_of};
+use tks_spelling::writing::{put_flag, put_text, put_u16};
+use tks_spelling::{Members, Unread, list_of, put_list};
 
 // A pattern.
 #[tactic(auto, unfolding(crate::specs::Sequence::pattern_at))]
@@ -39,15 +38,15 @@ fn pattern_of(alloc: Global, bytes: &[u8]) -> Result<(Pattern, &[u8]), Unread>
 pub fn sequence_of(alloc: Global, bytes: &[u8]) -> Result<(Sequence, &[u8]), Unread>
     ensures { Gives (λ x. (x.0, x.1.now)) result (sequence_at bytes.now) }
 {
-    let (patterns, rest) = list_of::<Pattern>(alloc, bytes)?;
-    match Sequence::restore(patterns) {
+    let (patterns, rest) = list_of(alloc, Patterns, bytes)?;
+    match Sequence::restore(patterns.into_items()) {
         Some(sequence) => Ok((sequence, rest)),
         None => Err(Unread::Left(rest.len() + 1)),
     }
 }
 
 // Adds the parts of a pattern.
-#[tactic(auto, using(tks_codec::proofs::Puts::flattened_puts, crate::proofs::Sequencing::pattern_legal))]
+#[tactic(auto, using(tks_spelling::proofs::Puts::flattened_puts, crate::proofs::Sequencing::pattern_legal))]
 fn put_parts(out: &mut Vec<u8>, pattern: &Pattern) -> Result<(), AllocError>
     ensures puts { PutsSo result out.old.items out.new.items (flattened (pattern_parts pattern.now)) }
     ensures legal { OnOk result (sequences.pattern.Legal pattern.now) }
@@ -58,21 +57,25 @@ fn put_parts(out: &mut Vec<u8>, pattern: &Pattern) -> Result<(), AllocError>
     put_text(out, &pattern.detail)
 }
 
-impl Member for Pattern {
+/// Patterns.
+#[derive(Clone, Copy)]
+pub struct Patterns;
+
+impl Members<Pattern> for Patterns {
     ghost use Rattle.tks_codec_events.specs.Sequence.{pattern};
 
-    ghost spelling = { pattern };
+    ghost spelling = { λ patterns. pattern };
 
-    ghost IsSound = { λ p. Unit {0} };
+    ghost IsSound = { λ patterns p. Unit {0} };
 
     #[tactic(auto, unfolding(crate::specs::Sequence::pattern_at))]
-    fn read(alloc: Global, bytes: &[u8]) -> Result<(Pattern, &[u8]), Unread> {
+    fn read<'a>(&self, alloc: Global, bytes: &'a [u8]) -> Result<(Pattern, &'a [u8]), Unread> {
         pattern_of(alloc, bytes)
     }
 
-    #[tactic(auto, unfolding(tks_codec::specs::Writing::flattened))]
-    fn put(&self, out: &mut Vec<u8>) -> Result<(), AllocError> {
-        put_parts(out, self)
+    #[tactic(auto, unfolding(tks_spelling::specs::Writing::flattened))]
+    fn put(&self, out: &mut Vec<u8>, pattern: &Pattern) -> Result<(), AllocError> {
+        put_parts(out, pattern)
     }
 }
 
@@ -81,22 +84,26 @@ pub fn put_sequence(out: &mut Vec<u8>, sequence: &Sequence) -> Result<(), AllocE
     ensures puts { PutsSo result out.old.items out.new.items (sequences.sequence.write sequence.now) }
     ensures legal { OnOk result (sequences.sequence.Legal sequence.now) }
 {
-    put_list(out, sequence.patterns())
+    put_list(out, Patterns, sequence.patterns())
 }
 
-impl Member for Sequence {
+/// Sequences.
+#[derive(Clone, Copy)]
+pub struct Sequences;
+
+impl Members<Sequence> for Sequences {
     ghost use Rattle.tks_codec_events.specs.Sequence.{sequence};
 
-    ghost spelling = { sequence };
+    ghost spelling = { λ sequences. sequence };
 
-    ghost IsSound = { λ s. Unit {0} };
+    ghost IsSound = { λ sequences s. Unit {0} };
 
     #[tactic(auto, unfolding(crate::specs::Sequence::sequence_at))]
-    fn read(alloc: Global, bytes: &[u8]) -> Result<(Sequence, &[u8]), Unread> {
+    fn read<'a>(&self, alloc: Global, bytes: &'a [u8]) -> Result<(Sequence, &'a [u8]), Unread> {
         sequence_of(alloc, bytes)
     }
 
-    fn put(&self, out: &mut Vec<u8>) -> Result<(), AllocError> {
-        put_sequence(out, self)
+    fn put(&self, out: &mut Vec<u8>, sequence: &Sequence) -> Result<(), AllocError> {
+        put_sequence(out, sequence)
     }
 }

@@ -1,21 +1,19 @@
 //! Timers and idle scripts.
-ghost use Rattle.std.specs.Prelude.{◌≡◌, ◌≤◌, ◌^◌, None, IfOk, OnOk};
-ghost use Rattle.tks_codec.specs.Reading.{Gives};
-ghost use Rattle.tks_codec.specs.Writing.{PutsSo, flattened};
+ghost use Rattle.std.specs.Prelude.{◌≡◌, ◌≤◌, ◌^◌, OnOk};
+ghost use Rattle.tks_spelling.specs.Reading.{Gives};
+ghost use Rattle.tks_spelling.specs.Writing.{PutsSo, flattened};
 ghost use Rattle.tks_codec_events.specs.Timers as waits;
 ghost use Rattle.tks_codec_events.specs.Timers.{timer_at, timer_parts, idle_at, idle_parts, waiting, waiting_at};
 ghost use Rattle.tks_timer.specs.WellFormed.{rise_below, is_apart, are_apart, are_due, are_waiting};
 
-use crate::member::{Member, list_of, put_items};
+use crate::items::put_items;
 use std::alloc::{AllocError, Global};
-use tks_codec::Unread;
-use tks_codec::reading::{text_of, u64_of};
-use tks_codec::writing::{put_text, put_u64};
-use tks_mark::Numbered;
+use tks_share::Numbered;
+use tks_spelling::reading::{text_of, u64_of};
+use tks_spelling::writing::{put_text, put_u64};
+use tks_spelling::{Members, Unread, list_of};
+use tks_text::MAX_NUMBER;
 use tks_timer::{Idle, Timer, Timers};
-
-/// No timer is due later.
-const MAX_DUE: u64 = 1 << 62;
 
 // A timer.
 #[tactic(auto, unfolding(crate::specs::Timers::timer_at))]
@@ -39,7 +37,7 @@ fn idle_of(alloc: Global, bytes: &[u8]) -> Result<(Idle, &[u8]), Unread>
 }
 
 // Adds the parts of a timer.
-#[tactic(auto, using(tks_codec::proofs::Puts::flattened_puts))]
+#[tactic(auto, using(tks_spelling::proofs::Puts::flattened_puts))]
 fn put_timer_parts(out: &mut Vec<u8>, timer: &Timer) -> Result<(), AllocError>
     ensures puts { PutsSo result out.old.items out.new.items (flattened (timer_parts timer.now)) }
     ensures legal { OnOk result (waits.timer.Legal timer.now) }
@@ -50,7 +48,7 @@ fn put_timer_parts(out: &mut Vec<u8>, timer: &Timer) -> Result<(), AllocError>
 }
 
 // Adds the parts of an idle script.
-#[tactic(auto, using(tks_codec::proofs::Puts::flattened_puts))]
+#[tactic(auto, using(tks_spelling::proofs::Puts::flattened_puts))]
 fn put_idle_parts(out: &mut Vec<u8>, idle: &Idle) -> Result<(), AllocError>
     ensures puts { PutsSo result out.old.items out.new.items (flattened (idle_parts idle.now)) }
     ensures legal { OnOk result (waits.idle.Legal idle.now) }
@@ -59,39 +57,47 @@ fn put_idle_parts(out: &mut Vec<u8>, idle: &Idle) -> Result<(), AllocError>
     put_text(out, &idle.script)
 }
 
-impl Member for Timer {
+/// Timers.
+#[derive(Clone, Copy)]
+pub struct TimerMembers;
+
+impl Members<Timer> for TimerMembers {
     ghost use Rattle.tks_codec_events.specs.Timers.{timer};
 
-    ghost spelling = { timer };
+    ghost spelling = { λ timers. timer };
 
-    ghost IsSound = { λ t. Unit {0} };
+    ghost IsSound = { λ timers t. Unit {0} };
 
     #[tactic(auto, unfolding(crate::specs::Timers::timer_at))]
-    fn read(alloc: Global, bytes: &[u8]) -> Result<(Timer, &[u8]), Unread> {
+    fn read<'a>(&self, alloc: Global, bytes: &'a [u8]) -> Result<(Timer, &'a [u8]), Unread> {
         timer_of(alloc, bytes)
     }
 
-    #[tactic(auto, unfolding(tks_codec::specs::Writing::flattened))]
-    fn put(&self, out: &mut Vec<u8>) -> Result<(), AllocError> {
-        put_timer_parts(out, self)
+    #[tactic(auto, unfolding(tks_spelling::specs::Writing::flattened))]
+    fn put(&self, out: &mut Vec<u8>, timer: &Timer) -> Result<(), AllocError> {
+        put_timer_parts(out, timer)
     }
 }
 
-impl Member for Idle {
+/// Idle scripts.
+#[derive(Clone, Copy)]
+pub struct IdleMembers;
+
+impl Members<Idle> for IdleMembers {
     ghost use Rattle.tks_codec_events.specs.Timers.{idle};
 
-    ghost spelling = { idle };
+    ghost spelling = { λ idles. idle };
 
-    ghost IsSound = { λ i. Unit {0} };
+    ghost IsSound = { λ idles i. Unit {0} };
 
     #[tactic(auto, unfolding(crate::specs::Timers::idle_at))]
-    fn read(alloc: Global, bytes: &[u8]) -> Result<(Idle, &[u8]), Unread> {
+    fn read<'a>(&self, alloc: Global, bytes: &'a [u8]) -> Result<(Idle, &'a [u8]), Unread> {
         idle_of(alloc, bytes)
     }
 
-    #[tactic(auto, unfolding(tks_codec::specs::Writing::flattened))]
-    fn put(&self, out: &mut Vec<u8>) -> Result<(), AllocError> {
-        put_idle_parts(out, self)
+    #[tactic(auto, unfolding(tks_spelling::specs::Writing::flattened))]
+    fn put(&self, out: &mut Vec<u8>, idle: &Idle) -> Result<(), AllocError> {
+        put_idle_parts(out, idle)
     }
 }
 
@@ -133,7 +139,7 @@ fn are_apart(idles: &[Idle], timers: &[Timer]) -> bool
 fn are_due(timers: &[Timer]) -> bool
     ensures { result ≡ are_due timers.now }
 {
-    timers.iter().all(|timer| timer.due <= MAX_DUE)
+    timers.iter().all(|timer| timer.due <= MAX_NUMBER)
 }
 
 // Whether ids rise and differ, below the next one, and each timer is due when there may be a time.
@@ -146,29 +152,28 @@ fn are_waiting(timers: &[Timer], idles: &[Idle], next: u64) -> bool
         && are_due(timers)
 }
 
-/// Timers and idle scripts with this next id, with no mark.
+/// Timers and idle scripts with this next id.
 #[tactic(auto, unfolding(crate::specs::Timers::waiting_at))]
 pub fn waiting_of(alloc: Global, next: u64, bytes: &[u8]) -> Result<(Timers, &[u8]), Unread>
     requires { next ≤ 2 ^ 62 }
-    ensures reads { Gives (λ x. (x.0.present, x.1.now)) result (waiting_at next bytes.now) }
-    ensures unmarked { IfOk result (λ x. x.0.at_mark ≡ None) }
+    ensures { Gives (λ x. (x.0, x.1.now)) result (waiting_at next bytes.now) }
 {
-    let (timers, rest) = list_of::<Timer>(alloc, bytes)?;
-    let (idles, rest) = list_of::<Idle>(alloc, rest)?;
-    if !are_waiting(&timers, &idles, next) {
+    let (timers, rest) = list_of(alloc, TimerMembers, bytes)?;
+    let (idles, rest) = list_of(alloc, IdleMembers, rest)?;
+    if !are_waiting(timers.as_slice(), idles.as_slice(), next) {
         return Err(Unread::Left(rest.len() + 1));
     }
-    let timers = Timers::restore(alloc, timers, idles, next)?;
+    let timers = Timers::restore(alloc, timers.into_items(), idles.into_items(), next)?;
     Ok((timers, rest))
 }
 
 /// Adds timers and idle scripts, but not the next id.
 pub fn put_waiting(out: &mut Vec<u8>, timers: &Timers) -> Result<(), AllocError>
-    ensures puts { PutsSo result out.old.items out.new.items ((waiting timers.now.present.next).write timers.now.present) }
-    ensures legal { OnOk result ((waiting timers.now.present.next).Legal timers.now.present) }
+    ensures puts { PutsSo result out.old.items out.new.items ((waiting timers.now.next).write timers.now) }
+    ensures legal { OnOk result ((waiting timers.now.next).Legal timers.now) }
 {
     // What holds of all timers is asked for here.
     let _ = timers.next();
-    put_items(out, timers.timers(), timers.timer_count())?;
-    put_items(out, timers.idles(), timers.idle_count())
+    put_items(out, TimerMembers, timers.timers(), timers.timer_count())?;
+    put_items(out, IdleMembers, timers.idles(), timers.idle_count())
 }

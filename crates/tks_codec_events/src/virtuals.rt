@@ -1,20 +1,21 @@
 //! Virtual events.
 ghost use Rattle.std.specs.Prelude.{◌≡◌, None, IfOk, OnOk};
-ghost use Rattle.tks_codec.specs.Reading.{Gives};
-ghost use Rattle.tks_codec.specs.Writing.{PutsSo, flattened};
+ghost use Rattle.tks_spelling.specs.Reading.{Gives};
+ghost use Rattle.tks_spelling.specs.Writing.{PutsSo, flattened};
 ghost use Rattle.tks_bind.specs.WellFormed.{is_some, are_virtuals};
 ghost use Rattle.tks_codec_events.specs.Virtuals as tables;
 ghost use Rattle.tks_bind.specs.WellFormed.{are_physical, is_virtual_event};
 ghost use Rattle.tks_codec_events.specs.Virtuals.{named_parts, virtual_event_at, virtuals_at};
 
 use crate::distinct::{Distinct, all_differ};
-use crate::member::{Member, list_of, put_items, put_list};
+use crate::items::put_items;
+use crate::sequence::Sequences;
 use std::alloc::{AllocError, Global};
 use tks_bind::{VirtualEvent, Virtuals, is_of_name};
-use tks_codec::Unread;
-use tks_codec::reading::text_of;
-use tks_codec::writing::put_text;
 use tks_event::{Sequence, are_equal, is_name};
+use tks_spelling::reading::text_of;
+use tks_spelling::writing::put_text;
+use tks_spelling::{Members, Unread, list_of, put_list};
 use tks_text::Txt;
 
 impl Distinct for Sequence {
@@ -67,41 +68,45 @@ fn virtual_event_of(alloc: Global, bytes: &[u8]) -> Result<(VirtualEvent, &[u8])
     ensures { Gives (λ x. (x.0, x.1.now)) result (virtual_event_at bytes.now) }
 {
     let (name, rest) = text_of(alloc, bytes)?;
-    let (sequences, rest) = list_of::<Sequence>(alloc, rest)?;
-    if !is_virtual_event(&name, &sequences) {
+    let (sequences, rest) = list_of(alloc, Sequences, rest)?;
+    if !is_virtual_event(&name, sequences.as_slice()) {
         return Err(Unread::Left(rest.len() + 1));
     }
-    let event = VirtualEvent::restore(alloc, name, sequences)?;
+    let event = VirtualEvent::restore(alloc, name, sequences.into_items())?;
     Ok((event, rest))
 }
 
 // Adds the parts of a virtual event.
-#[tactic(auto, using(tks_codec::proofs::Puts::flattened_puts))]
+#[tactic(auto, using(tks_spelling::proofs::Puts::flattened_puts))]
 fn put_parts(out: &mut Vec<u8>, event: &VirtualEvent) -> Result<(), AllocError>
     ensures puts { PutsSo result out.old.items out.new.items (flattened (named_parts event.now)) }
     ensures legal { OnOk result (tables.named.Legal event.now) }
 {
     put_text(out, &event.name)?;
-    put_list(out, event.sequences.as_slice())
+    put_list(out, Sequences, event.sequences.as_slice())
 }
 
-impl Member for VirtualEvent {
+/// Virtual events.
+#[derive(Clone, Copy)]
+pub struct VirtualMembers;
+
+impl Members<VirtualEvent> for VirtualMembers {
     ghost use Rattle.std.specs.Prelude.{◌≡◌, true};
     ghost use Rattle.tks_bind.specs.WellFormed.{is_virtual_event};
     ghost use Rattle.tks_codec_events.specs.Virtuals.{virtual_event};
 
-    ghost spelling = { virtual_event };
+    ghost spelling = { λ events. virtual_event };
 
-    ghost IsSound = { λ v. is_virtual_event v ≡ true };
+    ghost IsSound = { λ events v. is_virtual_event v ≡ true };
 
     #[tactic(auto, unfolding(crate::specs::Virtuals::virtual_event_at))]
-    fn read(alloc: Global, bytes: &[u8]) -> Result<(VirtualEvent, &[u8]), Unread> {
+    fn read<'a>(&self, alloc: Global, bytes: &'a [u8]) -> Result<(VirtualEvent, &'a [u8]), Unread> {
         virtual_event_of(alloc, bytes)
     }
 
-    #[tactic(auto, unfolding(tks_codec::specs::Writing::flattened))]
-    fn put(&self, out: &mut Vec<u8>) -> Result<(), AllocError> {
-        put_parts(out, self)
+    #[tactic(auto, unfolding(tks_spelling::specs::Writing::flattened))]
+    fn put(&self, out: &mut Vec<u8>, event: &VirtualEvent) -> Result<(), AllocError> {
+        put_parts(out, event)
     }
 }
 
@@ -115,26 +120,23 @@ impl Distinct for VirtualEvent {
     }
 }
 
-/// Virtual events, with no mark.
+/// Virtual events.
 #[tactic(auto, unfolding(crate::specs::Virtuals::virtuals_at))]
 pub fn virtuals_of(alloc: Global, bytes: &[u8]) -> Result<(Virtuals, &[u8]), Unread>
-    ensures reads { Gives (λ x. (x.0.present, x.1.now)) result (virtuals_at bytes.now) }
-    ensures unmarked { IfOk result (λ x. x.0.at_mark ≡ None) }
+    ensures { Gives (λ x. (x.0, x.1.now)) result (virtuals_at bytes.now) }
 {
-    let (events, rest) = list_of::<VirtualEvent>(alloc, bytes)?;
-    if !are_virtuals(&events) {
+    let (events, rest) = list_of(alloc, VirtualMembers, bytes)?;
+    if !are_virtuals(events.as_slice()) {
         return Err(Unread::Left(rest.len() + 1));
     }
-    let virtuals = Virtuals::restore(alloc, events)?;
+    let virtuals = Virtuals::restore(alloc, events.into_items())?;
     Ok((virtuals, rest))
 }
 
 /// Adds virtual events.
 pub fn put_virtuals(out: &mut Vec<u8>, virtuals: &Virtuals) -> Result<(), AllocError>
-    ensures puts { PutsSo result out.old.items out.new.items (tables.virtuals.write virtuals.now.present) }
-    ensures legal { OnOk result (tables.virtuals.Legal virtuals.now.present) }
+    ensures puts { PutsSo result out.old.items out.new.items (tables.virtuals.write virtuals.now) }
+    ensures legal { OnOk result (tables.virtuals.Legal virtuals.now) }
 {
-    // What holds of all virtual events is asked for here.
-    let _ = virtuals.is_marked();
-    put_items(out, virtuals.events(), virtuals.len())
+    put_items(out, VirtualMembers, virtuals.events(), virtuals.len())
 }

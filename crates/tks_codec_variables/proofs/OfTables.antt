@@ -7,8 +7,9 @@ use Rattle.std.specs.FinMap as map
 use Rattle.std.specs.FinMap.Entries.{below_all, is_sorted}
 use Rattle.tks_vars.specs.Table.{Map}
 use Rattle.tks_vars.proofs.Entries.{order, both, less, entries_are, map_of_entries}
-use Rattle.tks_codec.specs.Spelling.{Spelling, Lawful, text, AreLegal, Rise, members}
-use Rattle.tks_codec.proofs.EachKind.{pair_lawful, rising_lawful, through_lawful, text_lawful}
+use Rattle.tks_spelling.specs.Spelling.{Spelling, Lawful, text, AreLegal, Rise}
+use Rattle.tks_spelling.proofs.Loop.{each_is_legal, rising_legal}
+use Rattle.tks_spelling.proofs.EachKind.{pair_lawful, rising_lawful, through_lawful, text_lawful}
 use Rattle.tks_codec_variables.specs.Table.{entry, next, entries, table}
 
 first : (a b : Bool) → T (a && b) → T a
@@ -71,18 +72,9 @@ module _ {X : Type 0} where
     entries_told : (es : List (List ℕ × X)) → (entries value).Legal es → map.entries (map.from_entries {R = order} es) ≡ es
     entries_told es h = entries_are es (in_order None es (rise_of None es h.1))
 
-    are_legal : (before : Option (List ℕ × X)) (es : List (List ℕ × X)) → Rise name before es → AllByRecursion ((entry value).Legal) es → AreLegal (next value) before es
-    are_legal before [] r h = tt
-    are_legal before (e ∷ es) r h = ((h.0, r.0), are_legal (Some e) es r.1 h.1)
-
     -- a map with few entries, each of which has a spelling
     pub table_legal : (m : Map X) → length (map.entries m) < 2 ^ 32 → AllByRecursion ((entry value).Legal) (map.entries m) → (table value).Legal m
-    table_legal m few h = ((few, are_legal None (map.entries m) (rises (map.entries m) (map.entries_sorted m)) h), sym (map_of_entries m))
-
-    -- that names rise leaves the bytes as they are
-    pub same_members : (before : Option (List ℕ × X)) (es : List (List ℕ × X)) → members (λ b. entry value) before es ≡ members (next value) before es
-    same_members before [] = refl
-    same_members before (e ∷ es) = ap (λ (w : List ℕ). (entry value).write e ++ w) (same_members (Some e) es)
+    table_legal m few h = ((few, rising_legal name (entry value) None None (map.entries m) (each_is_legal (entry value) None (map.entries m) h) (rises (map.entries m) (map.entries_sorted m))), sym (map_of_entries m))
 
     pub table_lawful : Lawful value → Lawful (table value)
     table_lawful l = through_lawful map.entries map.from_entries (entries value) entries_told (rising_lawful name (entry value) (λ e h. omega arith) (pair_lawful text value text_lawful l))

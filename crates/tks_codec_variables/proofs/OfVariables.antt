@@ -6,8 +6,8 @@ use Rattle.tks_vars.specs.declared.content.Content.{Content}
 use Rattle.tks_vars.specs.declared.content.Content.TheVariants.{Scalar, Array}
 use Rattle.tks_vars.specs.declared.procedure.Parameter.{Parameter}
 use Rattle.tks_vars.specs.declared.procedure.Procedure.{Procedure}
-use Rattle.tks_codec.specs.Spelling.{Lawful, byte, is_flag, such_that, text, none, which}
-use Rattle.tks_codec.proofs.EachKind.{byte_lawful, test_lawful, which_lawful, which_told, none_lawful, field_lawful, through_lawful, option_lawful, list_lawful, text_lawful}
+use Rattle.tks_spelling.specs.Spelling.{Lawful, byte, is_flag, such_that, text, none, which}
+use Rattle.tks_spelling.proofs.EachKind.{byte_lawful, test_lawful, which_lawful, which_told, none_lawful, field_lawful, through_lawful, option_lawful, list_lawful, text_lawful}
 use Rattle.tks_codec_variables.specs.Table.{table}
 use Rattle.tks_codec_variables.specs.Globals.{tag_of, value_of, elements_of, scalar, array, behind_tag, content}
 use Rattle.tks_codec_variables.specs.Procedures.{parameter, procedure}

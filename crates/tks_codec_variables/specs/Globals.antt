@@ -4,7 +4,7 @@ use Rattle.std.specs.FinMap as map
 use Rattle.tks_vars.specs.Table.{Map}
 use Rattle.tks_vars.specs.declared.content.Content.{Content}
 use Rattle.tks_vars.specs.declared.content.Content.TheVariants.{Scalar, Array}
-use Rattle.tks_codec.specs.Spelling.{Read, Spelling, byte, text, such_that, is_flag, field, through, which, none}
+use Rattle.tks_spelling.specs.Spelling.{Read, Spelling, byte, text, such_that, is_flag, field, through, which, none}
 use Rattle.tks_codec_variables.specs.Table.{table}
 
 -- 0 for a scalar, 1 for an array

@@ -1,3 +1,4 @@
+-- How variables and procedures are spelled.
 pub mod Table
 pub mod Globals
 pub mod Procedures

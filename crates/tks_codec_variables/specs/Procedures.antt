@@ -2,7 +2,7 @@
 use Rattle.std.specs.Prelude.{ℕ, List, [], ◌∷◌}
 use Rattle.tks_vars.specs.declared.procedure.Parameter.{Parameter}
 use Rattle.tks_vars.specs.declared.procedure.Procedure.{Procedure}
-use Rattle.tks_codec.specs.Spelling.{Read, Spelling, text, list, option, field, through}
+use Rattle.tks_spelling.specs.Spelling.{Read, Spelling, text, list, option, field, through}
 
 -- a parameter's name, and its default if it has one
 abbrev pub parameter : Spelling Parameter

@@ -2,7 +2,7 @@
 use Rattle.std.specs.Prelude.{ℕ, List, Option}
 use Rattle.std.specs.FinMap as map
 use Rattle.tks_vars.specs.Table.{Map}
-use Rattle.tks_codec.specs.Spelling.{Read, Spelling, text, pair, rising, such_that, is_behind, through}
+use Rattle.tks_spelling.specs.Spelling.{Read, Spelling, text, pair, rising, such_that, is_behind, through}
 
 -- a name, and what is under it
 abbrev pub entry : {X : Type 0} → Spelling X → Spelling (List ℕ × X)

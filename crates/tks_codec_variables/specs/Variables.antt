@@ -4,7 +4,7 @@ use Rattle.tks_vars.specs.Table.{Map}
 use Rattle.tks_vars.specs.Variables.{Variables, at_global_level}
 use Rattle.tks_vars.specs.declared.content.Content.{Content}
 use Rattle.tks_vars.specs.declared.procedure.Procedure.{Procedure}
-use Rattle.tks_codec.specs.Spelling.{Read, Spelling, field, through}
+use Rattle.tks_spelling.specs.Spelling.{Read, Spelling, field, through}
 use Rattle.tks_codec_variables.specs.Table.{table}
 use Rattle.tks_codec_variables.specs.Globals.{content}
 use Rattle.tks_codec_variables.specs.Procedures.{procedure}

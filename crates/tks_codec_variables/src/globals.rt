@@ -3,54 +3,74 @@ ghost use Rattle.std.specs.Prelude.{◌≡◌};
 
 use crate::table::{Named, put_table, table_of};
 use std::alloc::{AllocError, Global};
-use tks_codec::Unread;
-use tks_codec::reading::{presence_of, text_of};
-use tks_codec::writing::{put_presence, put_text};
 use tks_list::ListText;
+use tks_spelling::reading::{presence_of, text_of};
+use tks_spelling::writing::{put_presence, put_text};
+use tks_spelling::{Members, Unread};
 use tks_vars::Content;
 
-impl Named for ListText {
-    ghost use Rattle.tks_codec.specs.Spelling.{text};
+/// Texts that may be lists.
+#[derive(Clone, Copy)]
+pub struct ListTexts;
 
-    ghost spelling = { text };
+impl Members<ListText> for ListTexts {
+    ghost use Rattle.tks_spelling.specs.Spelling.{text};
 
-    fn read(alloc: Global, bytes: &[u8]) -> Result<(ListText, &[u8]), Unread> {
+    ghost spelling = { λ texts. text };
+
+    ghost IsSound = { λ texts t. Unit {0} };
+
+    fn read<'a>(&self, alloc: Global, bytes: &'a [u8]) -> Result<(ListText, &'a [u8]), Unread> {
         let (text, rest) = text_of(alloc, bytes)?;
         Ok((ListText::of(text), rest))
     }
 
-    fn put(&self, out: &mut Vec<u8>) -> Result<(), AllocError> {
-        put_text(out, self.as_text())
+    fn put(&self, out: &mut Vec<u8>, text: &ListText) -> Result<(), AllocError> {
+        put_text(out, text.as_text())
     }
 }
 
-impl Named for Content {
+impl Named<ListText> for ListTexts {
+    ghost all_are_sound = { λ texts t. tt };
+}
+
+/// Scalars and arrays.
+#[derive(Clone, Copy)]
+pub struct Contents;
+
+impl Members<Content> for Contents {
     ghost use Rattle.tks_codec_variables.specs.Globals.{content};
 
-    ghost spelling = { content };
+    ghost spelling = { λ contents. content };
+
+    ghost IsSound = { λ contents c. Unit {0} };
 
     #[tactic(auto, unfolding(crate::specs::Table::table_at))]
-    fn read(alloc: Global, bytes: &[u8]) -> Result<(Content, &[u8]), Unread> {
+    fn read<'a>(&self, alloc: Global, bytes: &'a [u8]) -> Result<(Content, &'a [u8]), Unread> {
         let (is_array, rest) = presence_of(bytes)?;
         if is_array {
-            let (elements, rest) = table_of::<ListText>(alloc, rest)?;
+            let (elements, rest) = table_of(alloc, ListTexts, rest)?;
             return Ok((Content::Array(elements), rest));
         }
-        let (value, rest) = text_of(alloc, rest)?;
-        Ok((Content::Scalar(ListText::of(value)), rest))
+        let (value, rest) = ListTexts.read(alloc, rest)?;
+        Ok((Content::Scalar(value), rest))
     }
 
-    #[tactic(auto, using(tks_codec::proofs::Puts::put_behind))]
-    fn put(&self, out: &mut Vec<u8>) -> Result<(), AllocError> {
-        match self {
+    #[tactic(auto, using(tks_spelling::proofs::Puts::put_behind))]
+    fn put(&self, out: &mut Vec<u8>, content: &Content) -> Result<(), AllocError> {
+        match content {
             Content::Scalar(value) => {
                 put_presence(out, false)?;
-                value.put(out)
+                ListTexts.put(out, value)
             }
             Content::Array(elements) => {
                 put_presence(out, true)?;
-                put_table(out, elements)
+                put_table(out, ListTexts, elements)
             }
         }
     }
+}
+
+impl Named<Content> for Contents {
+    ghost all_are_sound = { λ contents c. tt };
 }

@@ -9,6 +9,5 @@ mod table;
 mod variables;
 
 pub use laws::spellings_are_lawful;
-pub use parameter::{parameters_of, put_parameters};
 pub use table::{Named, put_table, table_of};
 pub use variables::{put_variables, variables_of};

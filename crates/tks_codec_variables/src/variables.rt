@@ -1,37 +1,39 @@
 //! Variables and procedures.
 ghost use Rattle.std.specs.Prelude.{◌≡◌, [], OnOk};
-ghost use Rattle.tks_codec.specs.Reading.{Gives};
-ghost use Rattle.tks_codec.specs.Writing.{PutsSo, flattened};
+ghost use Rattle.tks_spelling.specs.Reading.{Gives};
+ghost use Rattle.tks_spelling.specs.Writing.{PutsSo, flattened};
 ghost use Rattle.tks_codec_variables.specs.Variables as kinds;
 ghost use Rattle.tks_codec_variables.specs.Variables.{variables_at, variables_parts};
 
+use crate::globals::Contents;
+use crate::procedure::Procedures;
 use crate::table::{put_table, table_of};
 use std::alloc::{AllocError, Global};
-use tks_codec::Unread;
-use tks_vars::{Content, Procedure, Vars};
+use tks_spelling::Unread;
+use tks_vars::Vars;
 
 /// Globals and procedures, at global level.
 #[tactic(auto, unfolding(crate::specs::Table::table_at, crate::specs::Variables::variables_at))]
 pub fn variables_of(alloc: Global, bytes: &[u8]) -> Result<(Vars, &[u8]), Unread>
     ensures { Gives (λ x. (x.0, x.1.now)) result (variables_at bytes.now) }
 {
-    let (globals, rest) = table_of::<Content>(alloc, bytes)?;
-    let (procedures, rest) = table_of::<Procedure>(alloc, rest)?;
+    let (globals, rest) = table_of(alloc, Contents, bytes)?;
+    let (procedures, rest) = table_of(alloc, Procedures, rest)?;
     Ok((Vars::restore(alloc, globals, procedures), rest))
 }
 
 // Adds the parts of variables.
-#[tactic(auto, using(tks_codec::proofs::Puts::flattened_puts))]
+#[tactic(auto, using(tks_spelling::proofs::Puts::flattened_puts))]
 fn put_parts(out: &mut Vec<u8>, variables: &Vars) -> Result<(), AllocError>
     ensures puts { PutsSo result out.old.items out.new.items (flattened (variables_parts variables.now)) }
     ensures legal { OnOk result (variables.now.locals ≡ [] → kinds.variables.Legal variables.now) }
 {
-    put_table(out, variables.globals())?;
-    put_table(out, variables.named_procedures())
+    put_table(out, Contents, variables.globals())?;
+    put_table(out, Procedures, variables.named_procedures())
 }
 
 /// Adds the globals and the procedures. They are read back where no frame was begun.
-#[tactic(auto, unfolding(tks_codec::specs::Writing::flattened))]
+#[tactic(auto, unfolding(tks_spelling::specs::Writing::flattened))]
 pub fn put_variables(out: &mut Vec<u8>, variables: &Vars) -> Result<(), AllocError>
     ensures puts { PutsSo result out.old.items out.new.items (kinds.variables.write variables.now) }
     ensures legal { OnOk result (variables.now.locals ≡ [] → kinds.variables.Legal variables.now) }

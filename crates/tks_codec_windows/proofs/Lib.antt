@@ -1,4 +1,4 @@
-pub mod OfTexts
+pub mod OfContents
 pub mod OfOptions
 pub mod OfPacking
 pub mod OfWidgets

@@ -12,9 +12,9 @@ use Rattle.tks_lines.specs.declared.parts.Mark.{Mark}
 use Rattle.tks_lines.specs.declared.range.Range.{Range}
 use Rattle.tks_lines.proofs.Ends.{ranges_again, flags_again, ranges_lawful}
 use Rattle.tks_lines.proofs.Restored.{tags_told, marks_told}
-use Rattle.tks_codec.specs.Spelling.{Lawful, IsBytes, text, list, AreLegal, members}
-use Rattle.tks_codec.proofs.Joining.{bytes_behind}
-use Rattle.tks_codec.proofs.EachKind.{wide32, number_lawful, test_lawful, field_lawful, through_lawful, flag_lawful, text_lawful, list_lawful}
+use Rattle.tks_spelling.specs.Spelling.{Lawful, IsBytes, text, list, AreLegal}
+use Rattle.tks_spelling.proofs.Joining.{bytes_behind}
+use Rattle.tks_spelling.proofs.EachKind.{wide32, number_lawful, test_lawful, field_lawful, through_lawful, flag_lawful, text_lawful, list_lawful}
 use Rattle.tks_codec_windows.specs.Lines.{places, may_follow, range, ranges, tag, mark, parts, fits, lines, IsSmall, HasShortPlace}
 
 -- ---- tests of both
@@ -93,11 +93,6 @@ few_of on few = let most = few_ranges (length on) None (ranges_of on) (omega ari
 
 pub small_of : (on : List Bool) → length on < 2 ^ 32 → AllByRecursion IsSmall (ranges_of on)
 small_of on few = small_ranges (length on) None (ranges_of on) few (ranges_lawful on)
-
--- they are written as places are
-pub as_places : (len : ℕ) (before other : Option Range) (rs : List Range) → members (λ before. places) other rs ≡ members (range len) before rs
-as_places len before other [] = refl
-as_places len before other (r ∷ rs) = ap (λ (w : List ℕ). places.write r ++ w) (as_places len (Some r) (Some r) rs)
 
 -- ranges that were read behind a text are ranges
 pub read_ranges : (len : ℕ) (bytes name rest : List ℕ) (rs : List Range) (after : List ℕ) → IsBytes bytes → text.read bytes ≡ Ok (name, rest) → (ranges len).read rest ≡ Ok (rs, after) → AreRanges len None rs

@@ -4,11 +4,9 @@ use Rattle.tks_text.specs.declared.class.Class.{Class}
 use Rattle.tks_opt.specs.Options.{Options, Legal, values_in_order, restored}
 use Rattle.tks_opt.proofs.Restored.{made, kept_restored, restored_has}
 use Rattle.std.proofs.lemmas.Option.{slice_get_cases, get_or_from_slice_get}
-use Rattle.tks_codec.specs.Spelling.{Read, Lawful, such_that, passed, ◌>>=◌}
-use Rattle.tks_codec.proofs.EachKind.{test_lawful, through_lawful}
-use Rattle.tks_codec_windows.specs.Texts.{texts}
+use Rattle.tks_spelling.specs.Spelling.{Read, Lawful, texts, such_that, passed, ◌>>=◌}
+use Rattle.tks_spelling.proofs.EachKind.{test_lawful, through_lawful, texts_lawful}
 use Rattle.tks_codec_windows.specs.Options.{are_of, with_values, options}
-use Rattle.tks_codec_windows.proofs.OfTexts.{texts_lawful}
 
 values_told : (c : Class) (values : List (List ℕ)) → (such_that (are_of c) texts).Legal values → values_in_order (with_values c values) ≡ values
 values_told c values h = (restored_has c values (with_values c values) (made c values h.1)).1

@@ -13,8 +13,8 @@ use Rattle.tks_pack.specs.declared.settings.Side.TheVariants.{Top, Bottom, Left,
 use Rattle.tks_pack.specs.declared.settings.Fill.{Fill}
 use Rattle.tks_pack.specs.declared.settings.Fill.TheVariants.{Neither, X, Y, Both}
 use Rattle.tks_pack.specs.declared.settings.Settings.{Settings}
-use Rattle.tks_codec.specs.Spelling.{Lawful, byte, number, flag, such_that}
-use Rattle.tks_codec.proofs.EachKind.{byte_lawful, wide16, number_lawful, test_lawful, field_lawful, through_lawful, flag_lawful, option_lawful}
+use Rattle.tks_spelling.specs.Spelling.{Lawful, byte, number, flag, such_that}
+use Rattle.tks_spelling.proofs.EachKind.{byte_lawful, wide16, number_lawful, test_lawful, field_lawful, through_lawful, flag_lawful, option_lawful}
 use Rattle.tks_codec_windows.specs.Packing.{or_first, is_side, side, is_fill, fill, is_anchor, anchor, is_padding, padding, settings, packing}
 
 side_told : (n : ℕ) → is_side n ≡ true → side_number (or_first Top (side_numbered n)) ≡ n

@@ -6,8 +6,8 @@ use Rattle.tks_opt.specs.Options.{Options}
 use Rattle.tks_entry.specs.Entry.{Entry}
 use Rattle.tks_listbox.specs.Listbox.{Listbox, HasActive, has_active}
 use Rattle.tks_listbox.specs.declared.item.Item.{Item}
-use Rattle.tks_codec.specs.Spelling.{Lawful, number, flag, text, list, such_that}
-use Rattle.tks_codec.proofs.EachKind.{wide32, number_lawful, test_lawful, field_lawful, through_lawful, flag_lawful, text_lawful, list_lawful}
+use Rattle.tks_spelling.specs.Spelling.{Lawful, number, flag, text, list, such_that}
+use Rattle.tks_spelling.proofs.EachKind.{wide32, number_lawful, test_lawful, field_lawful, through_lawful, flag_lawful, text_lawful, list_lawful}
 use Rattle.tks_codec_windows.specs.Entry.{entry}
 use Rattle.tks_codec_windows.specs.Listbox.{item, listbox}
 

@@ -2,7 +2,7 @@
 use Rattle.std.specs.Int.{w32}
 use Rattle.tks_opt.specs.Options.{Options}
 use Rattle.tks_entry.specs.Entry.{Entry}
-use Rattle.tks_codec.specs.Spelling.{Spelling, number, text, field, through}
+use Rattle.tks_spelling.specs.Spelling.{Spelling, number, text, field, through}
 
 -- of an entry with these options the text, and the place at which the cursor was put last
 abbrev pub entry : Options → Spelling Entry

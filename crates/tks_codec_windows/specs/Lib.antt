@@ -1,4 +1,6 @@
-pub mod Texts
+-- How what is kept of windows is spelled.
+pub mod Bindtags
+pub mod Contents
 pub mod Options
 pub mod Packing
 pub mod Entry

@@ -8,7 +8,7 @@ use Rattle.tks_lines.specs.Restoring.{are_tags, are_marks}
 use Rattle.tks_lines.specs.declared.parts.Tag.{Tag}
 use Rattle.tks_lines.specs.declared.parts.Mark.{Mark}
 use Rattle.tks_lines.specs.declared.range.Range.{Range}
-use Rattle.tks_codec.specs.Spelling.{Read, Spelling, number, text, flag, list, list_by, such_that, field, through}
+use Rattle.tks_spelling.specs.Spelling.{Read, Spelling, number, text, flag, list, list_by, such_that, field, through}
 
 -- ---- tags
 

@@ -3,7 +3,7 @@ use Rattle.std.specs.Int.{w32}
 use Rattle.tks_opt.specs.Options.{Options}
 use Rattle.tks_listbox.specs.Listbox.{Listbox, has_active}
 use Rattle.tks_listbox.specs.declared.item.Item.{Item}
-use Rattle.tks_codec.specs.Spelling.{Spelling, number, text, flag, list, such_that, field, through}
+use Rattle.tks_spelling.specs.Spelling.{Spelling, number, text, flag, list, such_that, field, through}
 
 -- an item: its text, and whether it is selected
 abbrev pub item : Spelling Item

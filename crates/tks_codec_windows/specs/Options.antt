@@ -4,8 +4,7 @@ use Rattle.std.specs.List.{zip}
 use Rattle.tks_text.specs.declared.class.Class.{Class}
 use Rattle.tks_opt.specs.Options.{Options, are_values, values_in_order}
 use Rattle.tks_opt.specs.Table.{options_of}
-use Rattle.tks_codec.specs.Spelling.{Read, Spelling, such_that, through}
-use Rattle.tks_codec_windows.specs.Texts.{texts}
+use Rattle.tks_spelling.specs.Spelling.{Read, Spelling, texts, such_that, through}
 
 -- values that options of the class may have: one for each, in its place
 abbrev pub are_of : Class → List (List ℕ) → Bool

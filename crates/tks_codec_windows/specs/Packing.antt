@@ -11,7 +11,7 @@ use Rattle.tks_pack.specs.declared.settings.Side.TheVariants.{Top}
 use Rattle.tks_pack.specs.declared.settings.Fill.{Fill}
 use Rattle.tks_pack.specs.declared.settings.Fill.TheVariants.{Neither}
 use Rattle.tks_pack.specs.declared.settings.Settings.{Settings}
-use Rattle.tks_codec.specs.Spelling.{Read, Spelling, byte, number, flag, such_that, field, through, option}
+use Rattle.tks_spelling.specs.Spelling.{Read, Spelling, byte, number, flag, such_that, field, through, option}
 
 abbrev pub or_first : {X : Type 0} → X → Option X → X
 or_first first None = first

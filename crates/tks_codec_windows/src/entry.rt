@@ -1,16 +1,16 @@
 //! What an entry holds.
 ghost use Rattle.std.specs.Prelude.{◌≡◌, OnOk};
 ghost use Rattle.tks_text.specs.declared.class.Class.TheVariants as class;
-ghost use Rattle.tks_codec.specs.Reading.{Gives};
-ghost use Rattle.tks_codec.specs.Writing.{PutsSo};
+ghost use Rattle.tks_spelling.specs.Reading.{Gives};
+ghost use Rattle.tks_spelling.specs.Writing.{PutsSo};
 ghost use Rattle.tks_codec_windows.specs.Entry as kinds;
 
 use std::alloc::{AllocError, Global};
-use tks_codec::Unread;
-use tks_codec::reading::{text_of, u32_of};
-use tks_codec::writing::{put_text, put_u32};
 use tks_entry::EntryWidget;
 use tks_opt::Options;
+use tks_spelling::Unread;
+use tks_spelling::reading::{text_of, u32_of};
+use tks_spelling::writing::{put_text, put_u32};
 
 /// An entry with these options, by its text and its cursor.
 pub fn entry_of(

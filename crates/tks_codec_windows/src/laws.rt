@@ -2,8 +2,9 @@
 ghost use Rattle.std.specs.Prelude.{◌≡◌, ℕ, List, Some};
 ghost use Rattle.tks_text.specs.declared.class.Class.{Class};
 ghost use Rattle.tks_opt.specs.Options.{Options};
-ghost use Rattle.tks_codec.specs.Spelling.{Lawful};
-ghost use Rattle.tks_codec_windows.specs.Texts.{texts, tags, windows};
+ghost use Rattle.tks_spelling.specs.Spelling.{texts, Lawful};
+ghost use Rattle.tks_codec_windows.specs.Bindtags.{tags};
+ghost use Rattle.tks_codec_windows.specs.Contents.{contents};
 ghost use Rattle.tks_codec_windows.specs.Options.{options};
 ghost use Rattle.tks_codec_windows.specs.Packing.{packing};
 ghost use Rattle.tks_codec_windows.specs.Entry.{entry};
@@ -20,7 +21,7 @@ ghost use Rattle.tks_tree.specs.WellFormed.{WellFormed};
 pub fn spellings_are_lawful()
     ensures texts { Lawful texts }
     ensures tags { Lawful tags }
-    ensures windows { Lawful windows }
+    ensures contents { Lawful contents }
     ensures options { (c : Class) → Lawful (options c) }
     ensures packing { Lawful packing }
     ensures entries { (o : Options) → Lawful (entry o) }

@@ -1,6 +1,7 @@
 //! What is kept of windows, as bytes: options, how windows are packed, what widgets hold.
 #![tactic(auto)]
 
+mod bindtags;
 mod contents;
 mod entry;
 mod laws;
@@ -15,8 +16,8 @@ mod placing;
 mod range_list;
 mod settings;
 mod tag;
-mod texts;
 
+pub use bindtags::{put_tags, tags_of};
 pub use contents::put_contents;
 pub use entry::{entry_of, put_entry};
 pub use laws::{places_are_exact, spellings_are_lawful};
@@ -26,4 +27,3 @@ pub use options::{options_of, put_options};
 pub use packing::{packing_of, put_packing};
 pub use place::{Place, settings_in};
 pub use placing::placed;
-pub use texts::{put_tags, put_texts, tags_of, texts_of, windows_of};

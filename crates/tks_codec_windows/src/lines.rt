@@ -1,19 +1,19 @@
 //! What a text widget holds.
 ghost use Rattle.std.specs.Prelude.{◌≡◌, OnOk};
 ghost use Rattle.tks_text.specs.declared.class.Class.TheVariants as class;
-ghost use Rattle.tks_codec.specs.Reading.{Gives};
-ghost use Rattle.tks_codec.specs.Writing.{PutsSo};
+ghost use Rattle.tks_spelling.specs.Reading.{Gives};
+ghost use Rattle.tks_spelling.specs.Writing.{PutsSo};
 ghost use Rattle.tks_codec_windows.specs.Lines as kinds;
 ghost use Rattle.tks_codec_windows.specs.Lines.{lines_at};
 
-use crate::mark::{marks_of, put_marks};
+use crate::mark::Marks;
 use crate::tag::{put_tags, tags_of};
 use std::alloc::{AllocError, Global};
-use tks_codec::Unread;
-use tks_codec::reading::text_of;
-use tks_codec::writing::put_text;
 use tks_lines::TextWidget;
 use tks_opt::Options;
+use tks_spelling::reading::text_of;
+use tks_spelling::writing::put_text;
+use tks_spelling::{Unread, list_of, put_list};
 
 /// A text widget with these options, by its characters, its tags and its marks.
 #[tactic(auto, unfolding(crate::specs::Lines::lines_at))]
@@ -26,8 +26,8 @@ pub fn lines_of(
     ensures { Gives (λ x. (x.0, x.1.now)) result (lines_at options bytes.now) }
 {
     let (text, rest) = text_of(alloc, bytes)?;
-    let (tags, rest) = tags_of(alloc, text.as_bytes().len(), rest)?;
-    let (marks, rest) = marks_of(alloc, rest)?;
+    let (tags, rest) = tags_of(alloc, &text, rest)?;
+    let (marks, rest) = list_of(alloc, Marks, rest)?;
     match TextWidget::restore(alloc, options, text, tags, marks) {
         Some(widget) => Ok((widget, rest)),
         None => Err(Unread::Left(rest.len() + 1)),
@@ -42,5 +42,5 @@ pub fn put_lines(alloc: Global, out: &mut Vec<u8>, widget: &TextWidget) -> Resul
     let marks = widget.marks();
     put_text(out, widget.text())?;
     put_tags(alloc, out, widget)?;
-    put_marks(out, marks)
+    put_list(out, Marks, marks)
 }

@@ -1,17 +1,17 @@
 //! What a listbox holds.
 ghost use Rattle.std.specs.Prelude.{◌≡◌, OnOk};
 ghost use Rattle.tks_text.specs.declared.class.Class.TheVariants as class;
-ghost use Rattle.tks_codec.specs.Reading.{Gives};
-ghost use Rattle.tks_codec.specs.Writing.{PutsSo};
+ghost use Rattle.tks_spelling.specs.Reading.{Gives};
+ghost use Rattle.tks_spelling.specs.Writing.{PutsSo};
 ghost use Rattle.tks_codec_windows.specs.Listbox as kinds;
 
-use crate::list_item::{items_of, put_items};
+use crate::list_item::Items;
 use std::alloc::{AllocError, Global};
-use tks_codec::Unread;
-use tks_codec::reading::u32_of;
-use tks_codec::writing::put_u32;
 use tks_listbox::ListWidget;
 use tks_opt::Options;
+use tks_spelling::reading::u32_of;
+use tks_spelling::writing::put_u32;
+use tks_spelling::{Unread, list_of, put_list};
 
 /// A listbox with these options, by its items and the active one's place.
 pub fn listbox_of(
@@ -22,7 +22,7 @@ pub fn listbox_of(
     requires { options.class ≡ class.Listbox }
     ensures { Gives (λ x. (x.0, x.1.now)) result ((kinds.listbox options).read bytes.now) }
 {
-    let (items, rest) = items_of(alloc, bytes)?;
+    let (items, rest) = list_of(alloc, Items, bytes)?;
     let (active, rest) = u32_of(rest)?;
     match ListWidget::restore(alloc, options, items, active as usize) {
         Some(listbox) => Ok((listbox, rest)),
@@ -35,6 +35,6 @@ pub fn put_listbox(out: &mut Vec<u8>, listbox: &ListWidget) -> Result<(), AllocE
     ensures puts { PutsSo result out.old.items out.new.items ((kinds.listbox listbox.now.options).write listbox.now) }
     ensures legal { OnOk result ((kinds.listbox listbox.now.options).Legal listbox.now) }
 {
-    put_items(out, listbox.items())?;
+    put_list(out, Items, listbox.items())?;
     put_u32(out, listbox.active() as u32)
 }

@@ -2,17 +2,16 @@
 ghost use Rattle.std.specs.Prelude.{None, OnOk};
 ghost use Rattle.std.specs.List.{AllByRecursion};
 ghost use Rattle.tks_opt.specs.Options.{values_in_order};
-ghost use Rattle.tks_codec.specs.Spelling.{text, members};
-ghost use Rattle.tks_codec.specs.Reading.{Gives};
-ghost use Rattle.tks_codec.specs.Writing.{PutsSo};
+ghost use Rattle.tks_spelling.specs.Spelling.{text, members};
+ghost use Rattle.tks_spelling.specs.Reading.{Gives};
+ghost use Rattle.tks_spelling.specs.Writing.{PutsSo};
 ghost use Rattle.tks_codec_windows.specs.Options as kinds;
 ghost use Rattle.tks_codec_windows.specs.Options.{options_at};
 
-use crate::texts::texts_of;
 use std::alloc::{AllocError, Global};
-use tks_codec::Unread;
-use tks_codec::writing::{put_text, put_u32};
 use tks_opt::Options;
+use tks_spelling::writing::{put_text, put_u32};
+use tks_spelling::{Texts, Unread, list_of};
 use tks_text::Class;
 
 /// The options of a class. Bytes in front of them say which class it is.
@@ -20,7 +19,7 @@ use tks_text::Class;
 pub fn options_of(alloc: Global, class: Class, bytes: &[u8]) -> Result<(Options, &[u8]), Unread>
     ensures { Gives (λ x. (x.0, x.1.now)) result (options_at class bytes.now) }
 {
-    let (values, rest) = texts_of(alloc, bytes)?;
+    let (values, rest) = list_of(alloc, Texts, bytes)?;
     match Options::restore(alloc, class, values)? {
         Some(options) => Ok((options, rest)),
         None => Err(Unread::Left(rest.len() + 1)),

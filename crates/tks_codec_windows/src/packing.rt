@@ -1,16 +1,16 @@
 //! How a window is packed, if it is.
 ghost use Rattle.std.specs.Prelude.{OnOk};
-ghost use Rattle.tks_codec.specs.Reading.{Gives};
-ghost use Rattle.tks_codec.specs.Writing.{PutsSo};
+ghost use Rattle.tks_spelling.specs.Reading.{Gives};
+ghost use Rattle.tks_spelling.specs.Writing.{PutsSo};
 ghost use Rattle.tks_codec_windows.specs.Packing as kinds;
 ghost use Rattle.tks_codec_windows.specs.Packing.{packing_at};
 
 use crate::settings::{put_settings, settings_of};
 use std::alloc::AllocError;
-use tks_codec::Unread;
-use tks_codec::reading::presence_of;
-use tks_codec::writing::put_presence;
 use tks_pack::Settings;
+use tks_spelling::Unread;
+use tks_spelling::reading::presence_of;
+use tks_spelling::writing::put_presence;
 
 /// How a window is packed, if it is.
 #[tactic(auto, unfolding(crate::specs::Packing::packing_at, crate::specs::Packing::settings_at))]

@@ -3,6 +3,7 @@ ghost use Rattle.std.specs.Prelude.{◌≡◌};
 ghost use Rattle.tks_codec_windows.specs.Places.{settings_in, same_paddings, same_settings, same_packing};
 
 use tks_pack::{Content, Settings};
+use tks_share::Items;
 use tks_text::{Class, Seq, Txt};
 use tks_tree::WindowId;
 
@@ -21,8 +22,8 @@ pub struct Place {
 }
 
 /// How a window is packed among contents, if it is.
-pub fn settings_in(contents: &[Content], window: WindowId) -> Option<Settings>
-    ensures { result ≡ settings_in contents.now window }
+pub fn settings_in(contents: Items<'_, Content>, window: WindowId) -> Option<Settings>
+    ensures { result ≡ settings_in contents.entry window }
 {
     for content in contents {
         if content.window == window {

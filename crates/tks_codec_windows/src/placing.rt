@@ -7,7 +7,6 @@ ghost use Rattle.tks_codec_windows.specs.Places.{with_number, with_place, with_p
 use crate::place::{Place, same_packing, settings_in};
 use std::alloc::{AllocError, Global};
 use tks_pack::{Content, Packing, Settings};
-use tks_text::Seq;
 use tks_tree::{CreateFault, Tree, WindowId, is_widget_class};
 
 // Adds a window with its own number, and says whether it may be.
@@ -90,7 +89,7 @@ fn settings_of(places: &[Place], window: WindowId) -> Settings
 fn packed_in(alloc: Global, places: &[Place], place: &Place) -> Result<Packing, AllocError>
     ensures { IfOk result (λ p. p ≡ packed_in places.now place.now) }
 {
-    let mut contents = Seq::new(alloc);
+    let mut contents = Vec::new(alloc);
     for number in place.contents.as_slice() {
         let window = WindowId::of(*number);
         contents.push(Content {
@@ -98,7 +97,7 @@ fn packed_in(alloc: Global, places: &[Place], place: &Place) -> Result<Packing, 
             settings: settings_of(places, window),
         })?;
     }
-    Ok(Packing::restore(alloc, contents, place.propagates))
+    Packing::restore(alloc, contents, place.propagates)
 }
 
 // What is packed in the window of each place.

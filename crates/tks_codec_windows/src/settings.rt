@@ -1,16 +1,16 @@
 //! How a window is packed.
 ghost use Rattle.std.specs.Prelude.{OnOk};
-ghost use Rattle.tks_codec.specs.Reading.{Gives};
-ghost use Rattle.tks_codec.specs.Writing.{PutsSo, flattened};
+ghost use Rattle.tks_spelling.specs.Reading.{Gives};
+ghost use Rattle.tks_spelling.specs.Writing.{PutsSo, flattened};
 ghost use Rattle.tks_codec_windows.specs.Packing as kinds;
 ghost use Rattle.tks_codec_windows.specs.Packing.{settings_at, settings_parts};
 
 use std::alloc::AllocError;
-use tks_codec::Unread;
-use tks_codec::reading::{flag_of, u8_of, u16_of};
-use tks_codec::writing::{put_flag, put_u8, put_u16};
 use tks_opt::Anchor;
 use tks_pack::{Fill, Padding, Settings, Side};
+use tks_spelling::Unread;
+use tks_spelling::reading::{flag_of, u8_of, u16_of};
+use tks_spelling::writing::{put_flag, put_u8, put_u16};
 
 // A side.
 fn side_of(bytes: &[u8]) -> Result<(Side, &[u8]), Unread>
@@ -83,7 +83,7 @@ pub fn settings_of(bytes: &[u8]) -> Result<(Settings, &[u8]), Unread>
 }
 
 // Adds the parts of settings.
-#[tactic(auto, using(tks_codec::proofs::Puts::flattened_puts, crate::proofs::OfPacking::settings_legal))]
+#[tactic(auto, using(tks_spelling::proofs::Puts::flattened_puts, crate::proofs::OfPacking::settings_legal))]
 fn put_parts(out: &mut Vec<u8>, settings: &Settings) -> Result<(), AllocError>
     ensures puts { PutsSo result out.old.items out.new.items (flattened (settings_parts settings.now)) }
     ensures legal { OnOk result (kinds.settings.Legal settings.now) }
@@ -99,7 +99,7 @@ fn put_parts(out: &mut Vec<u8>, settings: &Settings) -> Result<(), AllocError>
 }
 
 /// Adds settings.
-#[tactic(auto, unfolding(tks_codec::specs::Writing::flattened))]
+#[tactic(auto, unfolding(tks_spelling::specs::Writing::flattened))]
 pub fn put_settings(out: &mut Vec<u8>, settings: &Settings) -> Result<(), AllocError>
     ensures puts { PutsSo result out.old.items out.new.items (kinds.settings.write settings.now) }
     ensures legal { OnOk result (kinds.settings.Legal settings.now) }

@@ -2,62 +2,64 @@
 ghost use Rattle.std.specs.Prelude.{◌<◌, ◌^◌, length, None, OnOk};
 ghost use Rattle.std.specs.List.{AllByRecursion};
 ghost use Rattle.tks_lines.specs.Lines.{AreLong};
-ghost use Rattle.tks_codec.specs.Spelling.{list_at, list, members_at, members};
-ghost use Rattle.tks_codec.specs.Reading.{Gives};
-ghost use Rattle.tks_codec.specs.Writing.{PutsSo};
+ghost use Rattle.tks_spelling.specs.Spelling.{list, members};
+ghost use Rattle.tks_spelling.specs.Reading.{Gives};
+ghost use Rattle.tks_spelling.specs.Writing.{PutsSo};
 ghost use Rattle.tks_codec_windows.specs.Lines as kinds;
 ghost use Rattle.tks_codec_windows.specs.Lines.{tag, tag_at};
 
-use crate::range_list::{put_flags, ranges_of};
+use crate::range_list::{RangesWithin, put_flags};
 use std::alloc::{AllocError, Global};
-use tks_codec::Unread;
-use tks_codec::reading::{text_of, u32_of};
-use tks_codec::writing::{put_text, put_u32};
 use tks_lines::{Flags, Tag, TextWidget};
-use tks_text::Seq;
+use tks_spelling::reading::text_of;
+use tks_spelling::writing::{put_text, put_u32};
+use tks_spelling::{Following, Unread, list_by};
+use tks_text::{Seq, Txt};
 
 // A tag of a text of so many characters.
-#[tactic(auto, unfolding(crate::specs::Lines::tag_at, crate::specs::Lines::ranges_at))]
+#[tactic(auto, unfolding(crate::specs::Lines::tag_at))]
 fn tag_of(alloc: Global, len: usize, bytes: &[u8]) -> Result<(Tag, &[u8]), Unread>
     requires { len < 2 ^ 63 }
     ensures { Gives (λ x. (x.0, x.1.now)) result (tag_at len bytes.now) }
 {
     let (name, rest) = text_of(alloc, bytes)?;
-    let (ranges, rest) = ranges_of(alloc, len, rest)?;
+    let (ranges, rest) = list_by(alloc, &RangesWithin { len }, rest)?;
     let on = Flags::of_ranges(alloc, len, ranges.as_slice())?;
     Ok((Tag { name, on }, rest))
 }
 
-// So many tags. Room is made for each as it is read.
-#[tactic(auto, unfolding(crate::specs::Lines::tag_at))]
-fn tags_of_count(
-    alloc: Global,
-    len: usize,
-    count: u32,
-    bytes: &[u8],
-) -> Result<(Seq<Tag>, &[u8]), Unread>
-    requires { len < 2 ^ 63 }
-    ensures { Gives (λ x. (x.0, x.1.now)) result (members_at (λ before. tag len) None count bytes.now) }
-{
-    let mut tags = Seq::new(alloc);
-    let mut rest = bytes;
-    for _ in 0..count {
-        let (tag, after) = tag_of(alloc, len, rest)?;
-        tags.push(tag)?;
-        rest = after;
-    }
-    Ok((tags, rest))
+/// Tags of a text of so many characters.
+#[derive(Clone, Copy)]
+struct TagsOf {
+    len: u32,
 }
 
-/// Tags of a text of so many characters.
-#[tactic(auto, unfolding(tks_codec::specs::Spelling::list_at))]
-pub fn tags_of(alloc: Global, len: usize, bytes: &[u8]) -> Result<(Seq<Tag>, &[u8]), Unread>
-    requires { len < 2 ^ 63 }
-    ensures { Gives (λ x. (x.0, x.1.now)) result ((list (tag len)).read bytes.now) }
+impl Following<Tag> for TagsOf {
+    ghost use Rattle.tks_codec_windows.specs.Lines.{tag};
+
+    ghost member = { λ tags before. tag tags.len };
+
+    #[tactic(auto, unfolding(crate::specs::Lines::tag_at))]
+    fn read_next<'a>(
+        &self,
+        alloc: Global,
+        _before: &[Tag],
+        bytes: &'a [u8],
+    ) -> Result<(Tag, &'a [u8]), Unread> {
+        tag_of(alloc, self.len as usize, bytes)
+    }
+}
+
+/// Tags of a text.
+pub fn tags_of<'a>(
+    alloc: Global,
+    text: &Txt,
+    bytes: &'a [u8],
+) -> Result<(Seq<Tag>, &'a [u8]), Unread>
+    ensures { Gives (λ x. (x.0, x.1.now)) result ((list (tag (length text.now))).read bytes.now) }
 {
-    let (count, rest) = u32_of(bytes)?;
-    let (tags, rest) = tags_of_count(alloc, len, count, rest)?;
-    Ok((tags, rest))
+    let len = text.as_bytes().len() as u32;
+    list_by(alloc, &TagsOf { len }, bytes)
 }
 
 // Adds a tag.

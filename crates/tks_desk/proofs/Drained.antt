@@ -7,10 +7,10 @@ use Rattle.tks_input.specs.declared.input.Input.TheVariants.{Turn}
 use Rattle.tks_input.specs.declared.reply.Reply.{Reply}
 use Rattle.tks_input.specs.declared.reply.Refused.{Refused}
 use Rattle.tks_input.specs.declared.reply.Refused.TheVariants.{BadInput, ClockBack, PendingFull, Budget, Depth, TooLarge, NoMemory, Quiet, Failed}
-use Rattle.tks_session.specs.Refusing.{PostRefused, Tried}
-use Rattle.tks_session.specs.Machine.{Meaning, accepts, refuses}
-use Rattle.tks_session.specs.Session.{SessionState, is_full_at}
-use Rattle.tks_session.specs.declared.fault.SessionFault.TheVariants as session
+use Rattle.tks_durable.specs.Refusing.{PostRefused, Tried}
+use Rattle.tks_durable.specs.Machine.{Meaning, accepts, refuses}
+use Rattle.tks_durable.specs.Durable.{DurableState, is_full_at}
+use Rattle.tks_durable.specs.declared.fault.SessionFault.TheVariants as session
 use Rattle.tks_state.specs.World.{World}
 use Rattle.tks_desk.specs.Answers.{Granted, Withheld, Memory, Standing, Talk, Answered, AnswersSo, drain_ended, drained, posted, reply_line, said, standing, talk, tried, turn_told}
 use Rattle.tks_desk.specs.Draining.{Drains, WritesOn}
@@ -103,7 +103,7 @@ module _ (meaning : Meaning World) where
 
 -- ---- what turns leave of the session
 
-module _ {D M : Type 0} (meaning_of : M → Meaning World) (s0 s : SessionState D M World) (same : s.machine ≡ s0.machine) where
+module _ {D M : Type 0} (meaning_of : M → Meaning World) (s0 s : DurableState D M World) (same : s.machine ≡ s0.machine) where
   abbrev own : Meaning World
   own = (meaning_of s0.machine)
 
@@ -130,7 +130,7 @@ module _ {D M : Type 0} (meaning_of : M → Meaning World) (s0 s : SessionState 
     refused_ends TooLarge working is writes = stepped_ends TooLarge is writes
     refused_ends Quiet working is writes = stepped_ends Quiet is writes
 
-module _ {D M : Type 0} (meaning_of : M → Meaning World) (honest : D → Type 0) (view : D → View) (failures : D → ℕ) (turns : ℕ) (s0 s : SessionState D M World) (a c : Option (List ℕ)) where
+module _ {D M : Type 0} (meaning_of : M → Meaning World) (honest : D → Type 0) (view : D → View) (failures : D → ℕ) (turns : ℕ) (s0 s : DurableState D M World) (a c : Option (List ℕ)) where
   abbrev Told : Result (Unit {0}) RunFault → List Input → Type 0
   Told result accepted = AnswersSo (meaning_of s0.machine) result (Drain turns) accepted (standing s0) (standing s) a c
 
@@ -148,7 +148,7 @@ module _ {D M : Type 0} (meaning_of : M → Meaning World) (honest : D → Type 
         (not_written (subst (λ w. Answered (meaning_of s0.machine) (failed_as (Unit {0}) w) (Drain turns) r.accepted (standing s0) (standing s) a c) is.writes.0 is))
 
 -- the session had failed before the first of them
-pub failed_part : {D M : Type 0} (meaning_of : M → Meaning World) (honest : D → Type 0) (view : D → View) (failures : D → ℕ) (turns : ℕ) (s : SessionState D M World) (a : Option (List ℕ)) → s.journal.failed ≡ true
+pub failed_part : {D M : Type 0} (meaning_of : M → Meaning World) (honest : D → Type 0) (view : D → View) (failures : D → ℕ) (turns : ℕ) (s : DurableState D M World) (a : Option (List ℕ)) → s.journal.failed ≡ true
     → Runs meaning_of honest view failures (failed_as (Unit {0}) (fault.Session session.Failed)) s s
     (λ accepted. AnswersSo (meaning_of s.machine) (failed_as (Unit {0}) (fault.Session session.Failed)) (Drain turns) accepted (standing s) (standing s) a a)
 failed_part meaning_of honest view failures turns s a failed =
@@ -157,12 +157,12 @@ failed_part meaning_of honest view failures turns s a failed =
 
 -- ---- one turn more, and the end of them
 
-module _ {D M : Type 0} (meaning_of : M → Meaning World) (honest : D → Type 0) (view : D → View) (failures : D → ℕ) (turns done : ℕ) (s0 old : SessionState D M World) (w : Result (Unit {0}) RunFault) (a b : Option (List ℕ)) where
+module _ {D M : Type 0} (meaning_of : M → Meaning World) (honest : D → Type 0) (view : D → View) (failures : D → ℕ) (turns done : ℕ) (s0 old : DurableState D M World) (w : Result (Unit {0}) RunFault) (a b : Option (List ℕ)) where
   abbrev pub Far : List Input → Type 0
   Far accepted = Drains (meaning_of s0.machine) turns 0 (turns - done) done (done_as (Unit {0}) tt) w accepted (standing s0) (standing old) a b
 
   module _ (first : Runs meaning_of honest view failures (done_as (Unit {0}) tt) s0 old Far) where
-    pub one_more : done < turns → (new : SessionState D M World) (w' : Result (Unit {0}) RunFault) (c : Option (List ℕ)) (reply : Reply)
+    pub one_more : done < turns → (new : DurableState D M World) (w' : Result (Unit {0}) RunFault) (c : Option (List ℕ)) (reply : Reply)
         → (meaning_of old.machine).step old.world Turn ≡ accepts new.world reply → is_full_at (meaning_of old.machine).pending old.journal.gate old.waiting Turn ≡ false
         → new ≡ record old { world = new.world; waiting = old.waiting ++ Turn ∷ [] } → OpensNow meaning_of honest view failures old → OnlyNow meaning_of honest view failures → WritesOn w w' b c (reply_line reply)
         → Runs meaning_of honest view failures (done_as (Unit {0}) tt) s0 new

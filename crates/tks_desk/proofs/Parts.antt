@@ -3,15 +3,15 @@ use Rattle.std.proofs.Common.{◌≡◌, ◌↔◌, ◌<◌, ℕ, List, [], ◌+
 use Rattle.tks_disk.specs.DiskModel.{View, Images}
 use Rattle.tks_input.specs.declared.input.Input.{Input}
 use Rattle.tks_journal.specs.Moments.{LeavesOnly}
-use Rattle.tks_session.specs.Crash.{AllOpenTo, OpensToPrefix, Stands}
-use Rattle.tks_session.specs.Lives.{Lives, LeavesPrefixes}
-use Rattle.tks_session.specs.Machine.{Meaning}
-use Rattle.tks_session.specs.Opening.{opens}
-use Rattle.tks_session.specs.Refusing.{PostRefused}
-use Rattle.tks_session.specs.Session.{SessionState, CommitFails}
-use Rattle.tks_session.specs.declared.fault.SessionFault.{SessionFault}
-use Rattle.tks_session.specs.declared.fault.SessionFault.TheVariants as session
-use Rattle.tks_session.proofs.Lives.{lives_idle, lives_then, lives_committed}
+use Rattle.tks_durable.specs.Crash.{AllOpenTo, OpensToPrefix, Stands}
+use Rattle.tks_durable.specs.Lives.{Lives, LeavesPrefixes}
+use Rattle.tks_durable.specs.Machine.{Meaning}
+use Rattle.tks_durable.specs.Opening.{opens}
+use Rattle.tks_durable.specs.Refusing.{PostRefused}
+use Rattle.tks_durable.specs.Durable.{DurableState, CommitFails}
+use Rattle.tks_durable.specs.declared.fault.SessionFault.{SessionFault}
+use Rattle.tks_durable.specs.declared.fault.SessionFault.TheVariants as session
+use Rattle.tks_durable.proofs.Lives.{lives_idle, lives_then, lives_committed}
 use Rattle.tks_state.specs.World.{World}
 use Rattle.tks_input.specs.declared.reply.Refused.{Refused}
 use Rattle.tks_input.specs.declared.reply.Refused.TheVariants.{BadInput, ClockBack, PendingFull, Budget, Depth, TooLarge, NoMemory, Quiet, Failed}
@@ -31,7 +31,7 @@ failed_as A why = Err why
 
 module _ {D M : Type 0} (meaning_of : M → Meaning World) (honest : D → Type 0) (view : D → View) (failures : D → ℕ) where
   -- all that a crash now may leave opens to what is read
-  abbrev pub OpensNow : SessionState D M World → Type 0
+  abbrev pub OpensNow : DurableState D M World → Type 0
   OpensNow s = s.journal.failed ≡ false → honest s.journal.disk → AllOpenTo (meaning_of s.machine) (view s.journal.disk) (opens (meaning_of s.machine) (view s.journal.disk).reads)
 
   -- since this moment there is no other
@@ -39,7 +39,7 @@ module _ {D M : Type 0} (meaning_of : M → Meaning World) (honest : D → Type 
   OnlyNow = (d : D) (i : Images) → honest d → (view d).left_since (view d).clock i → (view d).may_leave i
 
   -- the same part of a run, of which something else is said
-  module _ {A B : Type 0} (old new : SessionState D M World) (says says' : List Input → Type 0) (so : (accepted : List Input) → says accepted → says' accepted) where
+  module _ {A B : Type 0} (old new : DurableState D M World) (says says' : List Input → Type 0) (so : (accepted : List Input) → says accepted → says' accepted) where
     pub ok_again : (a : A) (b : B) → Runs meaning_of honest view failures (done_as A a) old new says → Runs meaning_of honest view failures (done_as B b) old new says'
     ok_again a b r = record { accepted = r.accepted; told = so r.accepted r.told; machine = r.machine; fares = r.fares; honesty = r.honesty; survives = r.survives }
 
@@ -51,7 +51,7 @@ module _ {D M : Type 0} (meaning_of : M → Meaning World) (honest : D → Type 
 
   -- ---- a part in which the disk isn't called
 
-  module _ (old new : SessionState D M World) (accepted : List Input) (same : new.journal ≡ old.journal) (machine : new.machine ≡ old.machine) (waits : new.waiting ≡ old.waiting ++ accepted)
+  module _ (old new : DurableState D M World) (accepted : List Input) (same : new.journal ≡ old.journal) (machine : new.machine ≡ old.machine) (waits : new.waiting ≡ old.waiting ++ accepted)
       (all : OpensNow old) (only_now : OnlyNow) where
     works : Works failures old new
     works = record { as_before = ap (λ j. j.failed) same; steady = ap (λ j. failures j.disk) same }
@@ -83,7 +83,7 @@ module _ {D M : Type 0} (meaning_of : M → Meaning World) (honest : D → Type 
         subst (λ w. Runs meaning_of honest view failures (failed_as (Unit {0}) w) old new says) (sym writes.0) (write_failed says told)
 
   -- a call that found the session failed
-  pub had_failed : (old new : SessionState D M World) (says : List Input → Type 0) → new ≡ old → old.journal.failed ≡ true → says []
+  pub had_failed : (old new : DurableState D M World) (says : List Input → Type 0) → new ≡ old → old.journal.failed ≡ true → says []
       → Runs meaning_of honest view failures (failed_as (Unit {0}) (fault.Session session.Failed)) old new says
   had_failed old new says same failed told = record {
     accepted = [];
@@ -95,7 +95,7 @@ module _ {D M : Type 0} (meaning_of : M → Meaning World) (honest : D → Type 
   }
 
   -- a refusal
-  module _ (old new : SessionState D M World) (input : Input) (same : new ≡ old) (all : OpensNow old) (only_now : OnlyNow)
+  module _ (old new : DurableState D M World) (input : Input) (same : new ≡ old) (all : OpensNow old) (only_now : OnlyNow)
       (result : Result (Unit {0}) RunFault) (before after : Option (List ℕ)) (says : List Input → Type 0) (told : says []) where
     told_so : (why : Refused) → WritesSo result before after (refusal_line why) → Runs meaning_of honest view failures result old new says
     told_so why writes =
@@ -115,7 +115,7 @@ module _ {D M : Type 0} (meaning_of : M → Meaning World) (honest : D → Type 
   -- ---- a commit
 
   -- no commit changes the machine
-  pub same_machine : (old new : SessionState D M World) (m n : ℕ) (why : SessionFault) → CommitFails old new m n why → new.machine ≡ old.machine
+  pub same_machine : (old new : DurableState D M World) (m n : ℕ) (why : SessionFault) → CommitFails old new m n why → new.machine ≡ old.machine
   same_machine old new m n session.Failed is = ap (λ s. s.machine) is.1
   same_machine old new m n session.Disk is = ap (λ s. s.machine) is.1
   same_machine old new m n session.TooLarge is = absurd is
@@ -126,7 +126,7 @@ module _ {D M : Type 0} (meaning_of : M → Meaning World) (honest : D → Type 
   same_machine old new m n session.SmallerLimits is = absurd is
   same_machine old new m n session.Version is = absurd is
 
-  module _ (old new : SessionState D M World) (machine : new.machine ≡ old.machine) (honesty : honest old.journal.disk ↔ honest new.journal.disk)
+  module _ (old new : DurableState D M World) (machine : new.machine ≡ old.machine) (honesty : honest old.journal.disk ↔ honest new.journal.disk)
       (moments : old.journal.failed ≡ false → honest old.journal.disk
       → LeavesOnly (view old.journal.disk) (view new.journal.disk) (OpensToPrefix (meaning_of old.machine) (opens (meaning_of old.machine) (view old.journal.disk).reads) old.waiting)) where
     leaves : old.journal.failed ≡ false → honest old.journal.disk → LeavesPrefixes (meaning_of old.machine) view old new []
@@ -176,7 +176,7 @@ module _ {D M : Type 0} (meaning_of : M → Meaning World) (honest : D → Type 
 
   -- ---- one part behind another
 
-  module _ {A : Type 0} (a : A) (old mid new : SessionState D M World) (says : List Input → Type 0) (first : Runs meaning_of honest view failures (done_as A a) old mid says) where
+  module _ {A : Type 0} (a : A) (old mid new : DurableState D M World) (says : List Input → Type 0) (first : Runs meaning_of honest view failures (done_as A a) old mid says) where
     works_then : Works failures mid new → Works failures old new
     works_then next = record { as_before = next.as_before ∙ first.fares.as_before; steady = next.steady ∙ first.fares.steady }
 

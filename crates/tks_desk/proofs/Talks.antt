@@ -2,11 +2,11 @@
 use Rattle.std.proofs.Common.{◌≡◌, ℕ, Bool, true, false, cond, List, [], ◌∷◌, ◌++◌, Option, Some, None, IfSome, Result, Ok, Err, refl, sym, ap, ◌∙◌, subst, append_assoc, append-nil}
 use Rattle.std.specs.Io.KnownBytes.{Appends}
 use Rattle.tks_state.specs.World.{World}
-use Rattle.tks_session.specs.Machine.{Meaning, accepts, refuses}
-use Rattle.tks_session.specs.Refusing.{PostRefused, Tried}
-use Rattle.tks_session.specs.Session.{SessionState, CommitFails, committed, is_full_at}
-use Rattle.tks_session.specs.declared.fault.SessionFault.{SessionFault}
-use Rattle.tks_session.specs.declared.fault.SessionFault.TheVariants as session
+use Rattle.tks_durable.specs.Machine.{Meaning, accepts, refuses}
+use Rattle.tks_durable.specs.Refusing.{PostRefused, Tried}
+use Rattle.tks_durable.specs.Durable.{DurableState, CommitFails, committed, is_full_at}
+use Rattle.tks_durable.specs.declared.fault.SessionFault.{SessionFault}
+use Rattle.tks_durable.specs.declared.fault.SessionFault.TheVariants as session
 use Rattle.tks_input.specs.declared.input.Input.{Input}
 use Rattle.tks_input.specs.declared.reply.Reply.{Reply}
 use Rattle.tks_input.specs.declared.reply.Refused.{Refused}
@@ -123,7 +123,7 @@ module _ (meaning : Meaning World) where
       → AnswersSo meaning (Err (fault.Session why)) request [] st st before after
   not_answered why request st before after same = record { none = refl; same = refl; nothing = subst (λ a. Appends before a []) (sym same) (appends_nothing before) }
 
-module _ {D M : Type 0} (meaning_of : M → Meaning World) (old new : SessionState D M World) (input : Input) where
+module _ {D M : Type 0} (meaning_of : M → Meaning World) (old new : DurableState D M World) (input : Input) where
   abbrev own : Meaning World
   own = (meaning_of old.machine)
 
@@ -169,7 +169,7 @@ module _ {D M : Type 0} (meaning_of : M → Meaning World) (old new : SessionSta
     input_refused why is same writes =
         subst (λ s. AnswersSo own result (Post input) [] (standing old) (standing s) before after) (sym same) (refused_so why is writes)
 
-module _ {D M : Type 0} (meaning_of : M → Meaning World) (old new : SessionState D M World) (before after : Option (List ℕ)) where
+module _ {D M : Type 0} (meaning_of : M → Meaning World) (old new : DurableState D M World) (before after : Option (List ℕ)) where
   pub commit_answered : (result : Result (Unit {0}) RunFault) (count : ℕ) → count ≡ (meaning_of old.machine).count old.world
       → new ≡ record old { journal = committed old.journal new.journal.disk old.waiting; waiting = []; acknowledged = count }
       → WritesSo result before after (committed_line count) → AnswersSo (meaning_of old.machine) result Commit [] (standing old) (standing new) before after

@@ -2,8 +2,8 @@
 use Rattle.std.proofs.Common.{ℕ, List, Option, IfSome, Result, subst}
 use Rattle.tks_disk.specs.DiskModel.{View}
 use Rattle.tks_input.specs.declared.input.Input.{Input}
-use Rattle.tks_session.specs.Machine.{Meaning}
-use Rattle.tks_session.specs.Session.{SessionState}
+use Rattle.tks_durable.specs.Machine.{Meaning}
+use Rattle.tks_durable.specs.Durable.{DurableState}
 use Rattle.tks_state.specs.World.{World}
 use Rattle.tks_desk.specs.Answers.{SoFar, TurnsSo, standing}
 use Rattle.tks_desk.specs.Running.{Runs}
@@ -12,7 +12,7 @@ use Rattle.tks_desk.specs.declared.ending.RunFault.{RunFault}
 use Rattle.tks_desk.proofs.Parts.{done_as, runs_then}
 use Rattle.tks_desk.proofs.Talks.{turned}
 
-module _ {D M : Type 0} (meaning_of : M → Meaning World) (honest : D → Type 0) (view : D → View) (failures : D → ℕ) (o left left' : Option (List ℕ)) (old mid new : SessionState D M World) (a b c : Option (List ℕ)) where
+module _ {D M : Type 0} (meaning_of : M → Meaning World) (honest : D → Type 0) (view : D → View) (failures : D → ℕ) (o left left' : Option (List ℕ)) (old mid new : DurableState D M World) (a b c : Option (List ℕ)) where
   -- what is told of the lines so far, and of a line
   abbrev pub SoFarTold : List Input → Type 0
   SoFarTold accepted = IfSome o (λ input. SoFar (meaning_of old.machine) input left accepted (standing old) (standing mid) a b)

@@ -3,8 +3,8 @@ use Rattle.std.specs.Prelude.{◌≡◌, ℕ, zero, suc, drop, ◌==◌, if◌th
 use Rattle.std.specs.Io.KnownBytes.{Appends}
 use Rattle.tks_state.specs.World.{World}
 use Rattle.tks_screen.specs.Screen.{shown}
-use Rattle.tks_session.specs.Machine.{Meaning, Stepped, accepts, refuses}
-use Rattle.tks_session.specs.Session.{SessionState, gate_behind, is_full_at}
+use Rattle.tks_durable.specs.Machine.{Meaning, Stepped, accepts, refuses}
+use Rattle.tks_durable.specs.Durable.{DurableState, gate_behind, is_full_at}
 use Rattle.tks_input.specs.declared.input.Input.{Input}
 use Rattle.tks_input.specs.declared.input.Input.TheVariants.{Turn}
 use Rattle.tks_input.specs.declared.reply.Reply.{Reply}
@@ -18,7 +18,7 @@ use Rattle.tks_desk.specs.declared.ending.RunEnd.{RunEnd}
 use Rattle.tks_desk.specs.declared.ending.RunEnd.TheVariants as end
 use Rattle.tks_desk.specs.declared.ending.RunFault.{RunFault}
 use Rattle.tks_desk.specs.declared.ending.RunFault.TheVariants as fault
-use Rattle.tks_session.specs.declared.fault.SessionFault.TheVariants as session
+use Rattle.tks_durable.specs.declared.fault.SessionFault.TheVariants as session
 
 -- ---- one answer
 
@@ -113,7 +113,7 @@ pub record Standing : Type 0 where
   pub gate : ℕ
 
 -- that of a session
-abbrev pub standing : {D M : Type 0} → SessionState D M World → Standing
+abbrev pub standing : {D M : Type 0} → DurableState D M World → Standing
 standing s = record { world = s.world; waiting = s.waiting; gate = s.journal.gate }
 
 -- behind an input that was accepted

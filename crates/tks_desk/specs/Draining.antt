@@ -1,6 +1,6 @@
 -- Several turns of a run, while they are answered.
 use Rattle.std.specs.Prelude.{◌≡◌, ℕ, List, ◌++◌, Option, Result, Ok, Err}
-use Rattle.tks_session.specs.Machine.{Meaning}
+use Rattle.tks_durable.specs.Machine.{Meaning}
 use Rattle.tks_state.specs.World.{World}
 use Rattle.tks_input.specs.declared.input.Input.{Input}
 use Rattle.tks_desk.specs.Answers.{Memory, Standing, Talk, drained, said}

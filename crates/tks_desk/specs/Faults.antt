@@ -1,7 +1,7 @@
 -- What a session's faults are called, and the status that the program ends with (this project's own rule).
 use Rattle.std.specs.Prelude.{ℕ, List, [], ◌∷◌, codes}
-use Rattle.tks_session.specs.declared.fault.SessionFault.{SessionFault}
-use Rattle.tks_session.specs.declared.fault.SessionFault.TheVariants.{TooLarge, NoMemory, Disk, Failed, Damaged, OtherCommands, OtherGrid, SmallerLimits, Version}
+use Rattle.tks_durable.specs.declared.fault.SessionFault.{SessionFault}
+use Rattle.tks_durable.specs.declared.fault.SessionFault.TheVariants.{TooLarge, NoMemory, Disk, Failed, Damaged, OtherCommands, OtherGrid, SmallerLimits, Version}
 use Rattle.tks_desk.specs.Writing.{flattened}
 
 abbrev pub fault_name : SessionFault → List ℕ

@@ -1,3 +1,4 @@
+//! The answers to lines, as text.
 ghost use Rattle.std.specs.Prelude.{◌≡◌, codes, decimal};
 ghost use Rattle.tks_desk.specs.Writing.{WritesSo};
 ghost use Rattle.tks_desk.specs.Answers.{after_space, committed_line, drain_ended, drained_line, fault_told, faults_lines, faults_told, refusal_line, refusal_name, reply_line, row_line, rows_lines, turn_refused, verdict};

@@ -112,7 +112,7 @@ fn desk_command<'a>(alloc: Global) -> Result<Command<'a>, AllocError> {
         .value_name("PATH")
         .help("Where the state is kept: in the files PATH.a and PATH.b")
         .required(true);
-    Command::new(alloc, "tks_desk")
+    Command::new(alloc, "desk")
         .about("A headless Tk session that keeps its state: reads lines and answers them")
         .arg(store)?
         .arg(width)?

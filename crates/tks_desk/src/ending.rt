@@ -1,8 +1,9 @@
+//! How a run ends.
 ghost use Rattle.std.specs.Prelude.{◌≡◌};
 
 use std::alloc::AllocError;
 use thiserror::Error;
-use tks_session::SessionFault;
+use tks_durable::SessionFault;
 
 /// How a run ended that met no fault.
 #[derive(Clone, Copy, Debug)]

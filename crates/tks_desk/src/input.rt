@@ -1,3 +1,4 @@
+//! Lines that are read.
 ghost use Rattle.std.specs.Prelude.{◌≡◌, ◌≢◌, ◌==◌, ◌+◌, ◌<◌, ◌≤◌, ℕ, List, true, All, IfOk, IfSome, IfErr, OnOk, OnSome, length, slice_index, take};
 ghost use Rattle.tks_desk.specs.Reading.{InReading, ReadsLine, IsLine, LineGrows, TakesPiece, piece_cost, Pays};
 

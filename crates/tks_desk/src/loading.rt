@@ -1,3 +1,4 @@
+//! Scripts that are loaded behind a line.
 ghost use Rattle.std.specs.Prelude.{◌≡◌, ◌<◌, ◌≤◌, true, false, length, Ok, Some, IfOk, IfErr, IfSome, OnOk};
 ghost use Rattle.std.specs.Option.{option_map};
 ghost use Rattle.tks_desk.specs.Reading.{HoldsBytes, InReading, PassesSo, Pays, TakesBytes, unread};

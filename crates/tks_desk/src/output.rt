@@ -1,3 +1,4 @@
+//! Writing: all of it, or a front.
 ghost use Rattle.std.specs.Prelude.{◌≡◌, ◌≤◌, length, take, IfOk, IfErr};
 ghost use Rattle.std.specs.Io.KnownBytes.{Appends, Keeps};
 ghost use Rattle.tks_desk.specs.Writing.{WritesSo, escaped, escaped_byte};

@@ -1,3 +1,4 @@
+//! What a line asks for.
 ghost use Rattle.std.specs.Prelude.{ℕ, List, ◌≡◌, ◌<◌, ◌≤◌, IfOk, IfSome, IfErr, OnSome, length};
 ghost use Rattle.tks_input.specs.declared.input.Input.TheVariants.{KeyPress, KeyRelease, Press, Release};
 ghost use Rattle.tks_text.specs.Text.{IsText};

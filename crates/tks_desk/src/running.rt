@@ -1,3 +1,4 @@
+//! The run: lines are read and answered, up to the end.
 ghost use Rattle.std.specs.Prelude.{◌≡◌, ◌<◌, ◌^◌, [], IfOk, IfSome};
 ghost use Rattle.tks_screen.specs.Screen.{shown};
 ghost use Rattle.tks_desk.specs.declared.request.Request.TheVariants.{Commit, Drain, Post, Screen};
@@ -15,9 +16,9 @@ use crate::request::{Request, next_request};
 use std::alloc::{AllocError, Global};
 use std::io::{BufRead, Write};
 use tks_disk::Disk;
+use tks_durable::{Durable, Machine, SessionFault};
 use tks_input::{Input, Refused};
 use tks_screen::{Grid, dump};
-use tks_session::{Machine, Session, SessionFault};
 use tks_state::World;
 
 /// The most bytes that a run reads.
@@ -29,7 +30,7 @@ pub fn run<D: Disk, M: Machine<World = World>, R: BufRead, W: Write>(
     alloc: Global,
     reader: &mut R,
     writer: &mut W,
-    session: &mut Session<D, M>,
+    session: &mut Durable<D, M>,
 ) -> Result<RunEnd, RunFault>
     ensures runs { Runs M.meaning D.honest D.view D.failures result session.old session.new (λ accepted. IfSome (R.remaining reader.old)
         (λ input. Told (M.meaning session.old.machine) result input accepted (standing session.old) (standing session.new) (W.contents writer.old) (W.contents writer.new))) }
@@ -52,7 +53,7 @@ fn answer_line<D: Disk, M: Machine<World = World>, R: BufRead, W: Write>(
     alloc: Global,
     reader: &mut R,
     writer: &mut W,
-    session: &mut Session<D, M>,
+    session: &mut Durable<D, M>,
     intake: &mut Intake,
 ) -> Result<Option<RunEnd>, RunFault>
     ensures turn { Runs M.meaning D.honest D.view D.failures result session.old session.new (λ accepted. IfSome (unread intake.old.skips_newline (R.remaining reader.old))
@@ -82,7 +83,7 @@ fn end_by(request: &Request) -> Option<RunEnd>
 fn answer<D: Disk, M: Machine<World = World>, W: Write>(
     alloc: Global,
     writer: &mut W,
-    session: &mut Session<D, M>,
+    session: &mut Durable<D, M>,
     request: &Request,
 ) -> Result<(), RunFault>
     ensures { Runs M.meaning D.honest D.view D.failures result session.old session.new
@@ -105,7 +106,7 @@ fn answer<D: Disk, M: Machine<World = World>, W: Write>(
 fn answer_screen<D: Disk, M: Machine<World = World>, W: Write>(
     alloc: Global,
     writer: &mut W,
-    session: &Session<D, M>,
+    session: &Durable<D, M>,
 ) -> Result<(), RunFault>
     ensures { Answered (M.meaning session.now.machine) result Screen [] (standing session.now) (standing session.now) (W.contents writer.old) (W.contents writer.new) }
 {
@@ -127,7 +128,7 @@ fn picture(alloc: Global, world: &World) -> Result<Grid, AllocError>
 // Commits, and writes how many inputs are acknowledged.
 fn answer_commit<D: Disk, M: Machine<World = World>, W: Write>(
     writer: &mut W,
-    session: &mut Session<D, M>,
+    session: &mut Durable<D, M>,
 ) -> Result<(), RunFault>
     ensures { Runs M.meaning D.honest D.view D.failures result session.old session.new
         (λ accepted. AnswersSo (M.meaning session.old.machine) result Commit accepted (standing session.old) (standing session.new) (W.contents writer.old) (W.contents writer.new)) }
@@ -142,7 +143,7 @@ fn answer_commit<D: Disk, M: Machine<World = World>, W: Write>(
 // Gives an input to the session and writes its answer.
 fn answer_input<D: Disk, M: Machine<World = World>, W: Write>(
     writer: &mut W,
-    session: &mut Session<D, M>,
+    session: &mut Durable<D, M>,
     input: &Input,
 ) -> Result<(), RunFault>
     ensures { Runs M.meaning D.honest D.view D.failures result session.old session.new
@@ -159,7 +160,7 @@ fn answer_input<D: Disk, M: Machine<World = World>, W: Write>(
 // the turns go on.
 fn answer_drain<D: Disk, M: Machine<World = World>, W: Write>(
     writer: &mut W,
-    session: &mut Session<D, M>,
+    session: &mut Durable<D, M>,
     turns: u64,
 ) -> Result<(), RunFault>
     ensures { Runs M.meaning D.honest D.view D.failures result session.old session.new

@@ -1,11 +1,10 @@
 -- The subcommands of an entry (entry(n), "WIDGET COMMAND").
-use Rattle.std.specs.Prelude.{ℕ, ◌+◌, if◌then◌else◌, List, [], ◌∷◌, codes, None, Result, Ok, Err}
+use Rattle.std.specs.Prelude.{ℕ, ◌+◌, if◌then◌else◌, List, [], ◌∷◌, codes, Result, Ok}
 use Rattle.std.specs.Fmt.{decimal}
 use Rattle.tks_text.specs.Text.{same_text}
-use Rattle.tks_text.specs.declared.fault.ErrorNumber.TheVariants.{WrongWords}
 use Rattle.tks_text.specs.declared.fault.ScriptFault.{ScriptFault}
 use Rattle.tks_opt.specs.Options.{after}
-use Rattle.tks_opt.specs.Calls.{wrong_words, subcommand_does}
+use Rattle.tks_opt.specs.Calls.{wrong_words, subcommand_does, with_subcommand}
 use Rattle.tks_opt.specs.declared.said.Said.{Said}
 use Rattle.tks_opt.specs.declared.said.Said.TheVariants.{Text}
 use Rattle.tks_entry.specs.Entry.{Entry, place_in, inserted, deleted, with_cursor}
@@ -61,6 +60,4 @@ entry_does path name words e =
 
 -- the words of a whole command, the entry's path first
 abbrev pub called : Entry → List (List ℕ) → Called
-called e [] = Err (record { number = WrongWords; subject = None })
-called e (path ∷ []) = wrong_words path
-called e (path ∷ name ∷ words) = entry_does path name words e
+called e words = with_subcommand words (λ path name rest. entry_does path name rest e)

@@ -10,10 +10,8 @@ use Rattle.tks_text.specs.declared.class.Class.TheVariants as class
 use Rattle.tks_text.specs.declared.fault.ErrorNumber.TheVariants.{BadIndex, OutOfRange}
 use Rattle.tks_text.specs.declared.fault.ScriptFault.{ScriptFault}
 use Rattle.tks_opt.specs.Options.{Options, first_options, value_in}
-use Rattle.tks_opt.specs.Values.{state_named}
+use Rattle.tks_opt.specs.Values.{state_named, is_normal}
 use Rattle.tks_opt.specs.declared.name.OptionName.TheVariants as name
-use Rattle.tks_opt.specs.declared.state.State.{State}
-use Rattle.tks_opt.specs.declared.state.State.TheVariants as state
 
 pub record Entry : Type 0 where
   pub options : Options
@@ -62,13 +60,6 @@ place_in e word =
 -- as a place is kept (this project's own rule; texts are shorter)
 abbrev pub kept_place : ℕ → ℕ
 kept_place n = min n (2 ^ 32 - 1)
-
-abbrev pub is_normal : Option State → Bool
-is_normal None = false
-is_normal (Some state.Normal) = true
-is_normal (Some state.Active) = false
-is_normal (Some state.Disabled) = false
-is_normal (Some state.ReadOnly) = false
 
 -- whether scripts may change the text
 abbrev pub is_editable : Entry → Bool

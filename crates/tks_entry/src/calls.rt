@@ -5,8 +5,8 @@ ghost use Rattle.tks_text.specs.Fault.{Gives};
 ghost use Rattle.tks_entry.specs.Commands.{get_does, insert_does, delete_does, icursor_does, index_does, shared_does, entry_does, called};
 
 use crate::entry::EntryWidget;
-use tks_opt::{Said, wrong_words};
-use tks_text::{ErrorNumber, Failure, ScriptFault, Txt, decimal_of};
+use tks_opt::{Said, too_few_words, wrong_words};
+use tks_text::{Failure, Txt, decimal_of};
 
 impl EntryWidget {
     // The answer of what changes something.
@@ -124,14 +124,8 @@ impl EntryWidget {
         ensures err { OnErr result (self.new ≡ self.old) }
         ensures class { self.new.options.class ≡ self.old.options.class }
     {
-        let Some((path, behind)) = words.split_first() else {
-            return Err(Failure::Script(ScriptFault {
-                number: ErrorNumber::WrongWords,
-                subject: None,
-            }));
-        };
-        let Some((name, rest)) = behind.split_first() else {
-            return Err(wrong_words(path));
+        let [path, name, rest @ ..] = words else {
+            return Err(too_few_words(words));
         };
         let said = self.subcommand(path, name, rest)?;
         Ok(said)

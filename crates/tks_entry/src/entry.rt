@@ -1,12 +1,13 @@
+//! The entry: a text, and a cursor in it (entry(n)).
 ghost use Rattle.std.specs.Prelude.{◌≡◌, ◌+◌, ◌≤◌, ◌<◌, ◌^◌, length, IfOk, OnOk, OnErr};
 ghost use Rattle.tks_text.specs.Fault.{Gives};
 ghost use Rattle.tks_text.specs.declared.class.Class.TheVariants as class;
 ghost use Rattle.tks_opt.specs.Options.{configured};
-ghost use Rattle.tks_entry.specs.Entry.{first_entry, restored, cursor_place, rounded, place_in, kept_place, is_editable, moved_on, moved_back, inserted, deleted, with_cursor};
+ghost use Rattle.tks_entry.specs.Entry.{first_entry, restored, cursor_place, rounded, place_in, kept_place, moved_on, moved_back, inserted, deleted, with_cursor};
 
 use std::alloc::{AllocError, Global};
 use std::marker::Model;
-use tks_opt::{Options, State};
+use tks_opt::Options;
 use tks_text::{Class, ErrorNumber, Failure, ScriptFault, Txt, integer_of};
 
 /// An entry (entry(n)): a line of text that is edited at a cursor.
@@ -176,16 +177,6 @@ impl EntryWidget {
         }
     }
 
-    // Whether scripts may change the text.
-    fn is_editable(&self) -> bool
-        ensures { result ≡ is_editable self.now }
-    {
-        match self.options.state() {
-            Some(State::Normal) => true,
-            _ => false,
-        }
-    }
-
     // Puts characters in at a place.
     pub(crate) fn insert(&mut self, place: usize, more: &Txt) -> Result<(), AllocError>
         requires { place ≤ length self.old.text }
@@ -193,7 +184,7 @@ impl EntryWidget {
         ensures err { OnErr result (self.new ≡ self.old) }
         ensures class { self.new.options.class ≡ self.old.options.class }
     {
-        if more.is_empty() || !self.is_editable() {
+        if more.is_empty() || !self.options.is_editable() {
             return Ok(());
         }
         let mut text = Txt::new(self.alloc);
@@ -213,7 +204,7 @@ impl EntryWidget {
         ensures class { self.new.options.class ≡ self.old.options.class }
     {
         let last = last.min(self.len());
-        if last <= first || !self.is_editable() {
+        if last <= first || !self.options.is_editable() {
             return Ok(());
         }
         let mut text = Txt::new(self.alloc);

@@ -1,3 +1,4 @@
+//! Laws of entries.
 ghost use Rattle.std.specs.Prelude.{ℕ, ◌+◌, ◌^◌, ◌<◌, ◌≤◌, List, length};
 ghost use Rattle.tks_entry.specs.Entry.{Entry};
 ghost use Rattle.tks_entry.specs.Laws.{in_and_out, StandsAs, cursor_column, ShowsCursor};

@@ -7,7 +7,8 @@ use Rattle.tks_parse.specs.Tree.{Words, no_word, word, Parts, no_part, char, var
 use Rattle.tks_parse.specs.View.{parts_of, ready_words}
 use Rattle.tks_parse.specs.declared.tree.Part.{Part}
 use Rattle.tks_vars.specs.Variables.{Variables}
-use Rattle.tks_tcl.specs.Cause.{Cause, Fault, OverLimit, fits}
+use Rattle.tks_tcl.specs.Cause.{Cause, Fault, OverLimit}
+use Rattle.tks_text.specs.Limits.{fits}
 use Rattle.tks_tcl.specs.Cause as tcl
 use Rattle.tks_tcl.specs.Meets.{FailsSo}
 use Rattle.tks_tcl.specs.declared.interrupt.Interrupt.{Interrupt}

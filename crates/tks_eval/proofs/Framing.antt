@@ -16,7 +16,8 @@ use Rattle.tks_vars.specs.declared.procedure.Argument.{Argument}
 use Rattle.tks_vars.specs.declared.procedure.Procedure.{Procedure}
 use Rattle.tks_vars.proofs.Framing.{itself, both, popped_stays, defined_stays}
 use Rattle.tks_tcl.specs.Cause as tcl
-use Rattle.tks_tcl.specs.Cause.{Fault, OverLimit, value_or_fault, bare, fits, within}
+use Rattle.tks_tcl.specs.Cause.{Fault, OverLimit, value_or_fault, bare, within}
+use Rattle.tks_text.specs.Limits.{fits}
 use Rattle.tks_tcl.specs.Lists.{concatenated, joined_by}
 use Rattle.tks_tcl.specs.Plain as commands
 use Rattle.tks_tcl.specs.Plain.{plain}

@@ -5,7 +5,7 @@ use Rattle.tks_text.specs.declared.fault.ScriptFault.{ScriptFault}
 use Rattle.tks_text.specs.declared.limits.Limits.{Limits}
 use Rattle.tks_parse.specs.Tree.{Script, no_command, faulty, command, join_scripts}
 use Rattle.tks_vars.specs.Variables.{Variables}
-use Rattle.tks_tcl.specs.Cause.{fits}
+use Rattle.tks_text.specs.Limits.{fits}
 use Rattle.tks_eval.specs.Outcome.{Outcome, End, Stopped, TooLarge, Next, Level, Meaning, after, fails}
 use Rattle.tks_eval.specs.Evaluation.{words_do, commands_do, evaluate}
 use Rattle.tks_eval.specs.Laws.{EndsAlike, GoesOn, RunsAsHalves, TextIsOfSecondHalf}

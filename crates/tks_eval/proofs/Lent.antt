@@ -8,7 +8,8 @@ use Rattle.tks_parse.specs.View.{words_of}
 use Rattle.tks_parse.specs.declared.tree.Word.{Word}
 use Rattle.tks_vars.specs.Variables.{Variables, value_of}
 use Rattle.tks_vars.specs.Meets.{IsValue}
-use Rattle.tks_tcl.specs.Cause.{Cause, OverLimit, fits, value_or_fault}
+use Rattle.tks_tcl.specs.Cause.{Cause, OverLimit, value_or_fault}
+use Rattle.tks_text.specs.Limits.{fits}
 use Rattle.tks_tcl.specs.Cause as tcl
 use Rattle.tks_tcl.specs.Plain as commands
 use Rattle.tks_tcl.specs.Plain.{plain}

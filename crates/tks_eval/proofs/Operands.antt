@@ -14,7 +14,8 @@ use Rattle.tks_expr.specs.declared.operator.Binary.{Binary}
 use Rattle.tks_expr.specs.declared.sign.Join.{Join}
 use Rattle.tks_expr.specs.declared.sign.Join.TheVariants.{Of, And, Or}
 use Rattle.tks_expr.specs.declared.tree.Link.{Link}
-use Rattle.tks_tcl.specs.Cause.{Cause, Fault, OverLimit, value_or_fault, fits, within}
+use Rattle.tks_tcl.specs.Cause.{Cause, Fault, OverLimit, value_or_fault, within}
+use Rattle.tks_text.specs.Limits.{fits}
 use Rattle.tks_tcl.specs.Lists.{joined_by}
 use Rattle.tks_tcl.specs.Cause as tcl
 use Rattle.tks_tcl.specs.Meets.{FailsSo}

@@ -4,7 +4,8 @@ use Rattle.std.proofs.lemmas.Bool.{le-leb, leb-true}
 use Rattle.tks_text.specs.declared.limits.Limits.{Limits}
 use Rattle.tks_parse.specs.Tree.{Parts, chars, parts_size}
 use Rattle.tks_vars.specs.Variables.{Variables}
-use Rattle.tks_tcl.specs.Cause.{OverLimit, fits}
+use Rattle.tks_tcl.specs.Cause.{OverLimit}
+use Rattle.tks_text.specs.Limits.{fits}
 use Rattle.tks_eval.specs.Outcome.{Level, appended, given}
 use Rattle.tks_eval.specs.Evaluation.{parts_do}
 

@@ -10,7 +10,8 @@ use Rattle.tks_parse.specs.Tree.{Script, no_command, faulty, command, Words, no_
 use Rattle.tks_parse.specs.Reading.{script_of}
 use Rattle.tks_vars.specs.Variables.{Variables, pushed_global}
 use Rattle.tks_vars.specs.declared.procedure.Procedure.{Procedure}
-use Rattle.tks_tcl.specs.Cause.{Cause, Fault, OverLimit, fits, value_or_fault, bare, within}
+use Rattle.tks_tcl.specs.Cause.{Cause, Fault, OverLimit, value_or_fault, bare, within}
+use Rattle.tks_text.specs.Limits.{fits}
 use Rattle.tks_tcl.specs.Plain as commands
 use Rattle.tks_tcl.specs.Plain.{plain}
 use Rattle.tks_tcl.specs.Lists.{concatenated, joined_by}

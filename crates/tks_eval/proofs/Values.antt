@@ -5,7 +5,8 @@ use Rattle.tks_text.specs.Fault.{fault_text}
 use Rattle.tks_text.specs.declared.fault.ScriptFault.{ScriptFault}
 use Rattle.tks_text.specs.declared.limits.Limits.{Limits}
 use Rattle.tks_vars.specs.Variables.{Variables}
-use Rattle.tks_tcl.specs.Cause.{fits, value_or_fault}
+use Rattle.tks_tcl.specs.Cause.{value_or_fault}
+use Rattle.tks_text.specs.Limits.{fits}
 use Rattle.tks_expr.specs.Tree.{Expr, Literal, Made, One, Two, Both, Either, Conditional}
 use Rattle.tks_expr.specs.Sign.{combined}
 use Rattle.tks_expr.specs.View.{chained}

@@ -14,7 +14,7 @@ use Rattle.tks_tcl.specs.declared.interrupt.Interrupt.TheVariants as interrupt
 use Rattle.tks_tcl.specs.declared.stop.Stop.{Stop}
 use Rattle.tks_tcl.specs.declared.stop.Stop.TheVariants as stop
 use Rattle.tks_eval.specs.Outcome.{Outcome, End, Stopped, OutOfSteps, TooDeep, TooLarge, Answer, Unknown, Comes, PassesLimit}
-use Rattle.tks_tcl.specs.Cause.{fits}
+use Rattle.tks_text.specs.Limits.{fits}
 use Rattle.tks_eval.specs.declared.frame.Ending.{Ending}
 use Rattle.tks_eval.specs.declared.ended.Ended.{Ended}
 use Rattle.tks_eval.specs.declared.host.Plan.{Plan}

@@ -7,7 +7,8 @@ use Rattle.tks_text.specs.declared.limits.Limits.{Limits}
 use Rattle.tks_parse.specs.Tree.{Script}
 use Rattle.tks_vars.specs.Variables.{Variables}
 use Rattle.tks_tcl.specs.Cause as tcl
-use Rattle.tks_tcl.specs.Cause.{Fault, OverLimit, fits}
+use Rattle.tks_tcl.specs.Cause.{Fault, OverLimit}
+use Rattle.tks_text.specs.Limits.{fits}
 use Rattle.tks_eval.specs.declared.host.Plan.{Plan}
 
 -- why a run stops; no script sees it

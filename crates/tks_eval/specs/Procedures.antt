@@ -13,7 +13,8 @@ use Rattle.tks_vars.specs.Variables.{Variables, frame_of, pushed_with, with_proc
 use Rattle.tks_vars.specs.declared.procedure.Argument.{Argument}
 use Rattle.tks_vars.specs.declared.procedure.Parameter.{Parameter}
 use Rattle.tks_vars.specs.declared.procedure.Procedure.{Procedure}
-use Rattle.tks_tcl.specs.Cause.{Cause, Fault, OverLimit, after, about, wrong_words, fits}
+use Rattle.tks_tcl.specs.Cause.{Cause, Fault, OverLimit, after, about, wrong_words}
+use Rattle.tks_text.specs.Limits.{fits}
 use Rattle.tks_tcl.specs.Words.{list_in}
 use Rattle.tks_tcl.specs.Names.{is_built_in}
 use Rattle.tks_eval.specs.Outcome.{Meaning}

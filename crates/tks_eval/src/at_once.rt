@@ -18,18 +18,15 @@ use crate::machine::Machine;
 use crate::reach::Reached;
 use crate::words::{add_words, fill_up, stands};
 use std::alloc::Global;
-use tks_list::{Elements, read};
+use tks_list::{Elements, LEAST_KEPT, read};
 use tks_parse::{Command, Part, Script, Word};
 use tks_share::Shared;
 use tks_tcl::{
-    ListTable, Quiet, fits, is_word, lindex_answer, llength_answer, lrange_answer, plain,
-    plain_quietly, return_answer,
+    ListTable, Quiet, is_word, lindex_answer, llength_answer, lrange_answer, plain, plain_quietly,
+    return_answer,
 };
-use tks_text::{Limits, Seq, Txt};
+use tks_text::{Limits, Seq, Txt, fits};
 use tks_vars::Vars;
-
-/// A text of fewer bytes is split as quickly as its list is found.
-const LONG: usize = 32;
 
 // Adds what a word stands for, where nothing in it has to be run. Where something refuses, some of it may be there.
 fn add_word(
@@ -41,7 +38,7 @@ fn add_word(
 ) -> Option<()>
     ensures { IfSome result (λ _. (rest : tree.Words) → words_made limits.now variables.now (tree.word word.now.expand word.now.parts rest) words.old ≡ words_made limits.now variables.now rest words.new) }
 {
-    let Ok(mut parts) = word.parts.left() else {
+    let Ok(mut parts) = word.parts.remaining() else {
         return None;
     };
     let mut text = Txt::new(alloc);
@@ -120,7 +117,7 @@ fn lent_list(
     ensures same { variables.new ≡ variables.old }
 {
     let text = lent(word, variables, limits)?;
-    if text.len() < LONG {
+    if text.len() < LEAST_KEPT {
         return list_in(alloc, text);
     }
     let [Part::Variable(name, None)] = word.parts.as_slice() else {

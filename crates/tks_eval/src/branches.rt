@@ -1,3 +1,4 @@
+//! `if`: its tests, and which of its bodies runs.
 ghost use Rattle.std.specs.Prelude.{◌≡◌, ◌≤◌, ◌<◌, ◌+◌, ◌||◌, ◌∷◌, List, [], length, Some, IfOk, IfSome, MatchOption, option_copied};
 ghost use Rattle.tks_parse.specs.Reading.{script_of};
 ghost use Rattle.tks_eval.specs.Outcome.{End};

@@ -1,8 +1,9 @@
+//! The commands that run scripts, each up to the first script that it opens.
 ghost use Rattle.std.specs.Prelude.{◌≡◌, ◌≤◌, ◌<◌, ℕ, List, [], ◌∷◌, IfOk, OnOk, OnErr};
 ghost use Rattle.std.specs.List.{list_all};
 ghost use Rattle.tks_parse.specs.Tree.{script_size};
 ghost use Rattle.tks_parse.specs.Reading.{script_of};
-ghost use Rattle.tks_tcl.specs.Cause.{fits};
+ghost use Rattle.tks_text.specs.Limits.{fits};
 ghost use Rattle.tks_tcl.specs.Meets.{GivesSo};
 ghost use Rattle.tks_eval.specs.Outcome.{End, after};
 ghost use Rattle.tks_eval.specs.Evaluation.{evaluate, commands_do, catch_does, eval_does, proc_does, each, foreach_form};
@@ -19,9 +20,9 @@ use crate::procedures::{enter, run_proc};
 use crate::reach::{Given, Reached};
 use crate::rest::Rest;
 use std::alloc::{AllocError, Global};
-use tks_parse::{LeftScript, Script};
-use tks_tcl::{Interrupt, ListTable, concatenated_within, fits, store, wrong_words};
-use tks_text::{ErrorNumber, Limits, ScriptFault, Seq, Txt, decimal_of};
+use tks_parse::{RemainingScript, Script};
+use tks_tcl::{Interrupt, ListTable, concatenated_within, store, wrong_words};
+use tks_text::{ErrorNumber, Limits, ScriptFault, Seq, Txt, decimal_of, fits};
 use tks_vars::Vars;
 
 // The variable's name, the body and the elements of a `foreach`, whose words are taken.
@@ -65,7 +66,7 @@ impl Machine {
         alloc: Global,
         host: &H,
         variables: &mut Vars,
-        rest: &mut LeftScript,
+        rest: &mut RemainingScript,
         end: Ending,
         limits: &Limits,
     ) -> Result<Reached, Halt>
@@ -97,7 +98,7 @@ impl Machine {
         alloc: Global,
         host: &mut H,
         variables: &mut Vars,
-        rest: LeftScript,
+        rest: RemainingScript,
         levels: u32,
         end: Ending,
         limits: &Limits,
@@ -134,7 +135,7 @@ impl Machine {
         alloc: Global,
         host: &mut H,
         variables: &mut Vars,
-        rest: LeftScript,
+        rest: RemainingScript,
         levels: u32,
         reached: Reached,
         limits: &Limits,
@@ -161,7 +162,7 @@ impl Machine {
         alloc: Global,
         host: &mut H,
         variables: &mut Vars,
-        rest: LeftScript,
+        rest: RemainingScript,
         levels: u32,
         words: Given,
         limits: &Limits,
@@ -180,7 +181,7 @@ impl Machine {
 
     // Has what is left of a script wait. Where nothing is left of it on top of a procedure or a script at global level, that
     // frame gives the levels back by itself.
-    fn wait_behind(&mut self, rest: LeftScript, levels: u32) -> Result<(), AllocError>
+    fn wait_behind(&mut self, rest: RemainingScript, levels: u32) -> Result<(), AllocError>
         ensures ok { OnOk result (self.new ≡ record self.old { stack = waits_behind rest levels self.old.stack }) }
         ensures err { OnErr result (self.new ≡ self.old) }
     {

@@ -1,3 +1,4 @@
+//! The names of the commands that run scripts.
 ghost use Rattle.std.specs.Prelude.{◌≡◌, if◌then◌else◌, Some, None, option_map};
 ghost use Rattle.tks_text.specs.Text.{same_text};
 ghost use Rattle.tks_eval.specs.Names.{control_named};

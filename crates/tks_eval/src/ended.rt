@@ -1,3 +1,4 @@
+//! How a script ended, for whoever ran it.
 use tks_text::Txt;
 
 /// How a script ended.

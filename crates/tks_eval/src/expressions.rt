@@ -1,3 +1,4 @@
+//! Expressions: operands that wait for scripts, and what is done with their values.
 ghost use Rattle.std.specs.Prelude.{◌≡◌, ◌≤◌, [], ◌∷◌, ◌+◌, Ok, Some, IfSome, option_copied};
 ghost use Rattle.tks_text.specs.Fault.{Gives};
 ghost use Rattle.tks_expr.specs.Reading.{expr_of};
@@ -26,8 +27,8 @@ use tks_expr::{
     truth_of,
 };
 use tks_parse::{Part, Script};
-use tks_tcl::{Interrupt, Stop, fits, joined_within};
-use tks_text::{ErrorNumber, Failure, Limits, Txt};
+use tks_tcl::{Interrupt, Stop, joined_within};
+use tks_text::{ErrorNumber, Failure, Limits, Txt, fits};
 use tks_vars::Vars;
 
 /// What waits for the value of an operand.
@@ -92,7 +93,7 @@ fn operand(
     match expr.node() {
         Node::Literal(text) => Ok(Some(text.try_clone()?)),
         Node::Made(parts) if stands(parts) => {
-            let mut parts = parts.left()?;
+            let mut parts = parts.remaining()?;
             let mut made = Txt::new(alloc);
             match fill_up(&mut made, &mut parts, variables, limits)? {
                 None => Ok(Some(made)),
@@ -443,7 +444,7 @@ impl Machine {
                 text: text.try_clone()?,
             })),
             Node::Made(parts) => {
-                let parts = parts.left()?;
+                let parts = parts.remaining()?;
                 self.fill(alloc, host, variables, Txt::new(alloc), parts, limits)
             }
             Node::Signs(outer, last, operand) => {
@@ -528,7 +529,7 @@ impl Machine {
     {
         match expr.node() {
             Node::Made(parts) => {
-                let parts = parts.left()?;
+                let parts = parts.remaining()?;
                 self.fill(alloc, host, variables, Txt::new(alloc), parts, limits)
             }
             _ => Ok(Now::Value(expr.share()?)),

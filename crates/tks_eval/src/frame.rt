@@ -1,3 +1,4 @@
+//! The frames of the machine: what is left to do behind the end of a script, a command or a word.
 ghost use Rattle.std.specs.Prelude.{◌≡◌, []};
 
 use crate::branches::Branches;
@@ -6,7 +7,7 @@ use crate::loops::{Loop, Stage};
 use crate::rest::Rest;
 use std::alloc::Global;
 use tks_expr::Expr;
-use tks_parse::{Left, LeftScript, Part, Script, Word};
+use tks_parse::{Part, Remaining, RemainingScript, Script, Word};
 use tks_text::{Seq, Txt};
 
 /// How a script, a command or a word ended: its code, and its result or its error's text.
@@ -33,25 +34,25 @@ impl Ending {
 pub enum Frame {
     /// What is left of a script, which was opened where so many might be open.
     Commands {
-        rest: LeftScript,
+        rest: RemainingScript,
         levels: u32,
     },
     /// A command, whose next word is being made.
     Command {
         words: Seq<Txt>,
         expand: bool,
-        rest: Left<Word>,
+        rest: Remaining<Word>,
     },
     /// A word, at a script in it.
     Nested {
         made: Txt,
-        parts: Left<Part>,
+        parts: Remaining<Part>,
     },
     /// A word, at the index of an element.
     Element {
         name: Txt,
         made: Txt,
-        parts: Left<Part>,
+        parts: Remaining<Part>,
     },
     /// `catch`, with the variable for the text.
     Catch {
@@ -96,7 +97,7 @@ pub enum Now {
     /// A script to open.
     Open(Script),
     /// An index to make.
-    Index(Left<Part>),
+    Index(Remaining<Part>),
     /// An expression, to be evaluated.
     Value(Expr),
     /// An end, for the frame on top.

@@ -1,3 +1,4 @@
+//! What leaves the machine's run: an error of the script, or a stop.
 ghost use Rattle.std.specs.Prelude.{◌≡◌};
 ghost use Rattle.tks_text.specs.Fault.{fault_about};
 ghost use Rattle.tks_eval.specs.Meets.{TellsSo};

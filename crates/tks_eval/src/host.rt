@@ -1,3 +1,4 @@
+//! The host of scripts: what has the commands that the language lacks, and what these plan.
 ghost use Rattle.std.specs.Prelude.{◌≡◌};
 ghost use Rattle.tks_eval.specs.Outcome.{Meaning};
 ghost use Rattle.tks_eval.specs.Meets.{AnswersSo, FaultsSo};

@@ -1,3 +1,4 @@
+//! Laws of evaluation.
 ghost use Rattle.tks_eval.specs.Grammar.{ReadsIf, ReadsParameters};
 ghost use Rattle.tks_eval.specs.Laws.{EndsStay, HostLeavesFrames, LeavesFrames, RunsAsHalves, TextIsOfSecondHalf, Unrolls};
 ghost use Rattle.tks_text.specs.Limits.{Wider};

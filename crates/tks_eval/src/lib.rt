@@ -27,4 +27,4 @@ pub use laws::{
     loops_unroll, parameters_are_lists_of_names, script_runs_as_its_halves, scripts_leave_frames,
     wider_limits_keep_ends, words_of_if_follow_its_grammar,
 };
-pub use machine::{eval, eval_plan};
+pub use machine::{Machine, eval, eval_plan};

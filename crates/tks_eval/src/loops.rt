@@ -1,3 +1,4 @@
+//! `while`, `for` and `foreach`, a turn at a time.
 ghost use Rattle.std.specs.Prelude.{◌≡◌, ◌≤◌, ◌<◌, ◌+◌, ◌∷◌, IfOk, option_copied};
 ghost use Rattle.tks_expr.specs.Reading.{expr_of};
 ghost use Rattle.tks_eval.specs.Outcome.{End};
@@ -16,7 +17,7 @@ use std::alloc::{AllocError, Global};
 use std::marker::Model;
 use std::rc::Rc;
 use tks_expr::{Expr, truth_of};
-use tks_parsed::{KnownExpr, KnownScript};
+use tks_parse_table::{KnownExpr, KnownScript};
 use tks_text::{ErrorNumber, Limits, Txt};
 use tks_vars::Vars;
 

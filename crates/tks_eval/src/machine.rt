@@ -1,3 +1,4 @@
+//! The machine: it runs a script or a plan by a stack of frames.
 ghost use Rattle.std.specs.Prelude.{◌≡◌, ◌+◌, ◌*◌, ◌∷◌, []};
 ghost use Rattle.tks_parse.specs.Tree.{script_size};
 ghost use Rattle.tks_eval.specs.Outcome.{End, fails};
@@ -14,7 +15,7 @@ use crate::table::Tables;
 use std::alloc::Global;
 use std::mem;
 use tks_parse::Script;
-use tks_parsed::ParseTable;
+use tks_parse_table::ParseTable;
 use tks_tcl::Stop;
 use tks_text::{Limits, ScriptFault, Txt};
 use tks_vars::Vars;
@@ -229,7 +230,7 @@ impl Machine {
             alloc,
             host,
             variables,
-            script.into_left(),
+            script.into_remaining(),
             levels,
             begun,
             limits,

@@ -1,3 +1,4 @@
+//! What a host's command planned: a script, or the scripts of an event.
 ghost use Rattle.std.specs.Prelude.{◌≡◌, ◌≤◌, [], ◌∷◌};
 ghost use Rattle.tks_eval.specs.Outcome.{End};
 ghost use Rattle.tks_eval.specs.Evaluation.{evaluate, plan_does, scripts_do};

@@ -1,7 +1,9 @@
+//! `proc`, and calls of procedures.
 ghost use Rattle.std.specs.Prelude.{◌≡◌, ◌||◌, [], is_some, nat_lt, Ok, IfOk, OnErr};
 ghost use Rattle.std.specs.FinMap as map;
 ghost use Rattle.std.specs.List.{list_all};
-ghost use Rattle.tks_tcl.specs.Cause.{after, fits};
+ghost use Rattle.tks_tcl.specs.Cause.{after};
+ghost use Rattle.tks_text.specs.Limits.{fits};
 ghost use Rattle.tks_tcl.specs.Meets.{GivesSo};
 ghost use Rattle.tks_eval.specs.Procedures.{parameter_named, parameter, parameters_in, takes_rest, arguments, with_arguments, entered, script_in, defined, is_taken, proc_form};
 
@@ -10,9 +12,9 @@ use crate::rest::Rest;
 use std::alloc::{AllocError, Global};
 use tks_list::join;
 use tks_parse::Script;
-use tks_parsed::ParseTable;
-use tks_tcl::{Interrupt, error_about, fits, is_built_in, list_in, wrong_words};
-use tks_text::{ErrorNumber, Limits, Seq, Txt};
+use tks_parse_table::ParseTable;
+use tks_tcl::{Interrupt, error_about, is_built_in, list_in, wrong_words};
+use tks_text::{ErrorNumber, Limits, Seq, Txt, fits};
 use tks_vars::{Arguments, Parameter, Procedure, Vars, names_whole};
 
 // A parameter of this name.

@@ -21,9 +21,9 @@ use crate::words::{Filled, Inner, add_words, fill_up, only_script};
 use std::alloc::{AllocError, Global};
 use std::rc::Rc;
 use tks_expr::{Expr, into_result};
-use tks_parse::{Command, Left, Part, Script, Word};
-use tks_tcl::{Stop, fits, plain};
-use tks_text::{Limits, Seq, Txt};
+use tks_parse::{Command, Part, Remaining, Script, Word};
+use tks_tcl::{Stop, plain};
+use tks_text::{Limits, Seq, Txt, fits};
 use tks_vars::Vars;
 
 /// The words of a command.
@@ -75,10 +75,10 @@ pub struct Waiting {
     pub words: Seq<Txt>,
     pub expand: bool,
     /// The words behind it.
-    pub rest: Left<Word>,
+    pub rest: Remaining<Word>,
     pub made: Txt,
     pub inner: Inner,
-    pub parts: Left<Part>,
+    pub parts: Remaining<Part>,
 }
 
 /// How far a command came. It is handed on at each command, so it is small.
@@ -122,8 +122,8 @@ fn result_alone(word: &Word) -> Option<&Script>
 fn waits_at(
     alloc: Global,
     words: Seq<Txt>,
-    rest: Left<Word>,
-    parts: Left<Part>,
+    rest: Remaining<Word>,
+    parts: Remaining<Part>,
     variables: &Vars,
     limits: &Limits,
 ) -> Result<Reached, Halt>
@@ -177,7 +177,7 @@ impl Machine {
                 if let Some(end) = self.answer(alloc, host, variables, given, limits) {
                     return Ok(Reached::Ended(end));
                 }
-                let words = Left::all(words.clone()?);
+                let words = Remaining::all(words.clone()?);
                 self.reach(alloc, host, variables, Seq::new(alloc), words, limits)
             }
         }
@@ -213,7 +213,7 @@ impl Machine {
         host: &H,
         variables: &mut Vars,
         words: Seq<Txt>,
-        rest: Left<Word>,
+        rest: Remaining<Word>,
         limits: &Limits,
     ) -> Result<Reached, Halt>
         ensures kept { self.new ≡ record self.old { fuel = self.new.fuel } }
@@ -230,7 +230,7 @@ impl Machine {
             }
             if let Some(script) = result_alone(word) {
                 let Some(told) = self.result_at_once(alloc, host, variables, script, limits)? else {
-                    let whole = word.parts.left()?;
+                    let whole = word.parts.remaining()?;
                     rest.skip();
                     return waits_at(alloc, words, rest, whole, variables, limits);
                 };
@@ -242,7 +242,7 @@ impl Machine {
                 continue 'word;
             }
             let expand = word.expand;
-            let parts = word.parts.left()?;
+            let parts = word.parts.remaining()?;
             rest.skip();
             match self.make_word(alloc, host, variables, Txt::new(alloc), parts, limits)? {
                 Filled::Ended(end) => {

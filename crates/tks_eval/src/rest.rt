@@ -1,3 +1,4 @@
+//! What is left of a list that is taken from its front.
 ghost use Rattle.std.specs.Prelude.{◌≡◌, ◌↔◌, true, List, [], ◌∷◌, reverse, slice_get, option_copied, MatchOption, OnOk, OnErr};
 
 use std::alloc::{AllocError, Global};

@@ -1,6 +1,7 @@
+//! What a run has read: scripts and expressions that were parsed, and lists.
 use std::alloc::Global;
 use std::marker::Model;
-use tks_parsed::ParseTable;
+use tks_parse_table::ParseTable;
 use tks_tcl::ListTable;
 
 /// What was read so far: scripts and expressions that were parsed, in earlier runs too, and the lists of this run. Contracts

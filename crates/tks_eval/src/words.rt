@@ -1,3 +1,4 @@
+//! Words of commands: what stands in them is put together, and scripts in them are waited for.
 ghost use Rattle.std.specs.Prelude.{◌≡◌, ◌≤◌, ◌+◌, ◌*◌, List, ℕ, [], ◌∷◌, ◌++◌, IfOk, IfErr, IfSome, IfNone, OnOk, OnErr, Ok, Some};
 ghost use Rattle.tks_parse.specs.Tree.{Parts, nested, no_part, parts_size};
 ghost use Rattle.tks_parse.specs.View.{words_of, parts_of};
@@ -15,9 +16,9 @@ use crate::host::Host;
 use crate::machine::Machine;
 use crate::rest::Rest;
 use std::alloc::{AllocError, Global};
-use tks_parse::{Left, Part, Parts, Script, Word};
-use tks_tcl::{Interrupt, Stop, fits, list_in};
-use tks_text::{Limits, Seq, Txt};
+use tks_parse::{Part, Parts, Remaining, Script, Word};
+use tks_tcl::{Interrupt, Stop, list_in};
+use tks_text::{Limits, Seq, Txt, fits};
 use tks_vars::Vars;
 
 // Adds to a text that is being made.
@@ -118,7 +119,7 @@ pub fn only_script(parts: &Parts) -> Option<&Script>
 #[derive(Drop)]
 pub enum Inner {
     /// The index of the element of this name.
-    Index(Txt, Left<Part>),
+    Index(Txt, Remaining<Part>),
     /// A script.
     Script(Script),
 }
@@ -126,7 +127,7 @@ pub enum Inner {
 /// Adds the characters and the scalars that come first to a text that is being made, and takes what is behind them.
 pub fn fill_up(
     made: &mut Txt,
-    parts: &mut Left<Part>,
+    parts: &mut Remaining<Part>,
     variables: &Vars,
     limits: &Limits,
 ) -> Result<Option<Inner>, Interrupt>
@@ -144,7 +145,7 @@ pub fn fill_up(
             }
             Part::Variable(name, Some(index)) => {
                 let name = name.try_clone()?;
-                let index = index.left()?;
+                let index = index.remaining()?;
                 parts.skip();
                 return Ok(Some(Inner::Index(name, index)));
             }
@@ -164,7 +165,7 @@ pub enum Filled {
     /// It ended: its text, with code 0, or the other end of a script in it.
     Ended(Ending),
     /// This has to be opened, behind the text so far and before these parts.
-    Waits(Txt, Inner, Left<Part>),
+    Waits(Txt, Inner, Remaining<Part>),
 }
 
 impl Machine {
@@ -173,7 +174,7 @@ impl Machine {
         &mut self,
         inner: Inner,
         made: Txt,
-        parts: Left<Part>,
+        parts: Remaining<Part>,
     ) -> Result<Now, AllocError>
         ensures fuel { self.new.fuel ≡ self.old.fuel }
         ensures opened { IfOk result (λ now. (now ≡ runs inner) × (self.new ≡ record self.old { stack = waits_for inner made parts ∷ self.old.stack })) }
@@ -247,7 +248,7 @@ impl Machine {
         host: &H,
         variables: &mut Vars,
         made: Txt,
-        parts: Left<Part>,
+        parts: Remaining<Part>,
         limits: &Limits,
     ) -> Result<Filled, Halt>
         ensures kept { self.new ≡ record self.old { fuel = self.new.fuel } }
@@ -282,7 +283,7 @@ impl Machine {
         host: &H,
         variables: &Vars,
         made: Txt,
-        parts: Left<Part>,
+        parts: Remaining<Part>,
         limits: &Limits,
     ) -> Result<Now, Halt>
         ensures falls { Falls result (4 * parts_size (parts_of parts) + 1) self.old self.new }
@@ -310,7 +311,7 @@ impl Machine {
         host: &H,
         variables: &Vars,
         made: Txt,
-        parts: Left<Part>,
+        parts: Remaining<Part>,
         end: Ending,
         limits: &Limits,
     ) -> Result<Now, Halt>
@@ -333,7 +334,7 @@ impl Machine {
         variables: &Vars,
         name: Txt,
         made: Txt,
-        parts: Left<Part>,
+        parts: Remaining<Part>,
         end: Ending,
         limits: &Limits,
     ) -> Result<Now, Halt>
@@ -358,7 +359,7 @@ impl Machine {
         variables: &mut Vars,
         words: Seq<Txt>,
         expand: bool,
-        rest: Left<Word>,
+        rest: Remaining<Word>,
         end: Ending,
         limits: &Limits,
     ) -> Result<Now, Halt>

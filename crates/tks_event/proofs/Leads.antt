@@ -11,7 +11,7 @@ use Rattle.tks_event.specs.Keysyms.{named_in, or_else, is_keysym}
 use Rattle.tks_event.specs.Kinds.{kind_named, is_button}
 use Rattle.tks_event.specs.Modifiers.{modifier_named, key_modifiers, first_modifiers, later_modifiers, button_modifiers, later_button_modifiers, bit_of, with_modifier}
 use Rattle.tks_event.specs.Spelling.{repeats, times_named, with_more, repeated}
-use Rattle.tks_event.specs.Reading.{Words, with_char, with_word, begins_with_separator, words_at, only, both, named_by, said_by, said, repeated_once, then_behind, in_words}
+use Rattle.tks_event.specs.Reading.{Words, with_char, with_word, begins_no_word, words_at, only, both, named_by, said_by, said, repeated_once, then_behind, in_words}
 use Rattle.tks_event.specs.View.{no_lead, added_by, added, typed_words, under_lead, led}
 use Rattle.tks_event.specs.declared.lead.Lead.{Lead}
 use Rattle.tks_event.specs.declared.kind.Kind.{Kind}
@@ -41,7 +41,7 @@ words_some [] = tt
 words_some (c ∷ t) =
     cond_both (c == 62) (Some ([] ∷ [], t)) _ NotEmpty (λ e. tt)
     (λ e. cond_both _ _ (with_char c (words_at t)) NotEmpty
-    (λ s. cond_both (begins_with_separator t) (words_at t) (with_word [] (words_at t)) NotEmpty (λ b. words_some t) (λ b. word_some [] (words_at t)))
+    (λ s. cond_both (begins_no_word t) (words_at t) (with_word [] (words_at t)) NotEmpty (λ b. words_some t) (λ b. word_some [] (words_at t)))
     (λ s. char_some c (words_at t)))
 
 longer_typed : (w d : List ℕ) (x : Words) → NotEmpty x → typed_words w (with_word d x) ≡ None

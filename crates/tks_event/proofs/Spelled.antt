@@ -59,7 +59,7 @@ pub record Front (t v : List ℕ) : Type 0 where
   pub whole_text : t ≡ first ∷ more ++ v
 
 words_front : (v : List ℕ) (ws : List (List ℕ)) (u : List ℕ) → WordsThen (62 ∷ v) ws u → (x : List ℕ) × (u ≡ x ++ v)
-words_front v _ _ (last w h) = (w ++ 62 ∷ [], sym (append_assoc w (62 ∷ []) v))
+words_front v _ _ (last w s h k) = (w ++ (s ++ 62 ∷ []), sym (append_assoc w (s ++ 62 ∷ []) v ∙ ap (λ y. w ++ y) (append_assoc s (62 ∷ []) v)))
 words_front v _ _ (word w s u ws h k l) =
     let f = words_front v ws u l in
     (w ++ (s ++ f.0), ap (λ y. w ++ (s ++ y)) f.1 ∙ sym (append_assoc w (s ++ f.0) v ∙ ap (λ y. w ++ y) (append_assoc s f.0 v)))

@@ -113,10 +113,10 @@ record Core (k : Kind) (d v : List ℕ) : Type 0 where
   spelled : WordsThen (62 ∷ v) (kind_name k ∷ detail_words d) (kind_name k ++ (detail_text d ++ 62 ∷ v))
 
 core_of : (k : Kind) (d v : List ℕ) → kind_named (kind_name k) ≡ Some k → is_word (kind_name k) ≡ true → not (is_some_text d) || is_detail k d ≡ true → Core k d v
-core_of k [] v e w h = record { said = names (kind_name k ∷ []) k [] (type (kind_name k) k e); spelled = last (kind_name k) (word_is (kind_name k) w) }
+core_of k [] v e w h = record { said = names (kind_name k ∷ []) k [] (type (kind_name k) k e); spelled = last (kind_name k) [] (word_is (kind_name k) w) tt }
 core_of k (c ∷ d) v e w h = record {
   said = names (kind_name k ∷ (c ∷ d) ∷ []) k (c ∷ d) (type_and_detail (kind_name k) (c ∷ d) k e h);
-  spelled = word (kind_name k) (45 ∷ []) ((c ∷ d) ++ 62 ∷ v) ((c ∷ d) ∷ []) (word_is (kind_name k) w) (omega arith, (refl, tt)) (last (c ∷ d) (detail_word k (c ∷ d) h));
+  spelled = word (kind_name k) (45 ∷ []) ((c ∷ d) ++ 62 ∷ v) ((c ∷ d) ∷ []) (word_is (kind_name k) w) (omega arith, (refl, tt)) (last (c ∷ d) [] (detail_word k (c ∷ d) h) tt);
 }
 
 core : (k : Kind) (d v : List ℕ) → not (same_kind k kind.Virtual) ≡ true → not (is_some_text d) || is_detail k d ≡ true → Core k d v

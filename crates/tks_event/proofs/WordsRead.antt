@@ -3,9 +3,10 @@ use Rattle.std.proofs.Common.{◌≡◌, ℕ, suc, ◌+◌, Bool, true, false, n
 use Rattle.std.specs.List.{AllByRecursion, prefix_len}
 use Rattle.std.proofs.lemmas.Bool.{eqb-true, cond_both}
 use Rattle.tks_text.proofs.Tests.{neither, or_case}
-use Rattle.tks_event.specs.Spelling.{is_separator, ends_word}
-use Rattle.tks_event.specs.Reading.{Words, with_char, with_word, begins_with_separator, words_at}
-use Rattle.tks_event.specs.View.{word_then}
+use Rattle.tks_event.specs.Spelling.{is_separator, ends_word, AreSeparators}
+use Rattle.tks_event.specs.Reading.{Words, with_char, with_word, begins_no_word, words_at}
+use Rattle.tks_text.specs.Text.{BeginsNot}
+use Rattle.tks_event.specs.View.{word_before, word_then}
 
 -- ---- one word
 
@@ -35,14 +36,10 @@ pub chars_word : (w : List ℕ) (x : Words) → with_chars w (with_word [] x) �
 chars_word w None = chars_none w None refl
 chars_word w (Some x) = chars_some w [] x.0 x.1 ∙ ap (λ y. Some (y ∷ x.0, x.1)) (append-nil w)
 
--- a word at the end of the text, before a `>`, and before another word
+-- a word at the end of the text, before a `>` with separators or none between, and before another word
 pub word_at_end : (w : List ℕ) → NoEnd w → words_at (w ++ []) ≡ None
 unfolding words_at
 word_at_end w h = word_read w [] h ∙ chars_none w None refl
-
-pub last_word : (w v : List ℕ) → NoEnd w → words_at (w ++ 62 ∷ v) ≡ Some (w ∷ [], v)
-unfolding words_at
-last_word w v h = word_read w (62 ∷ v) h ∙ chars_some w [] [] v ∙ ap (λ y. Some (y ∷ [], v)) (append-nil w)
 
 separator_isnt : (c : ℕ) → is_separator c ≡ true → (c == 62) ≡ false
 separator_isnt c s =
@@ -52,20 +49,36 @@ separator_isnt c s =
     ] in
     step (c == 62) refl
 
-separator_skipped : (c : ℕ) (t : List ℕ) → is_separator c ≡ true → begins_with_separator t ≡ true → words_at (c ∷ t) ≡ words_at t
+separator_skipped : (c : ℕ) (t : List ℕ) → is_separator c ≡ true → begins_no_word t ≡ true → words_at (c ∷ t) ≡ words_at t
 unfolding words_at
 separator_skipped c t h b = rw (separator_isnt c h, h, b) refl
 
-separator_read : (c : ℕ) (t : List ℕ) → is_separator c ≡ true → begins_with_separator t ≡ false → words_at (c ∷ t) ≡ with_word [] (words_at t)
+separator_ends : (c : ℕ) → is_separator c ≡ true → ends_word c ≡ true
+separator_ends c h = rw h refl
+
+no_word_before : (s v : List ℕ) → AreSeparators s → begins_no_word (s ++ 62 ∷ v) ≡ true
+no_word_before [] v h = refl
+no_word_before (c ∷ s) v h = separator_ends c h.0
+
+separators_last : (s v : List ℕ) → AreSeparators s → words_at (s ++ 62 ∷ v) ≡ Some ([] ∷ [], v)
+unfolding words_at
+separators_last [] v h = refl
+separators_last (c ∷ s) v h = separator_skipped c (s ++ 62 ∷ v) h.0 (no_word_before s v h.1) ∙ separators_last s v h.1
+
+pub last_word : (w s v : List ℕ) → NoEnd w → AreSeparators s → words_at (w ++ (s ++ 62 ∷ v)) ≡ Some (w ∷ [], v)
+last_word w s v h k =
+    word_read w (s ++ 62 ∷ v) h ∙ ap (with_chars w) (separators_last s v k) ∙ chars_some w [] [] v ∙ ap (λ y. Some (y ∷ [], v)) (append-nil w)
+
+separator_read : (c : ℕ) (t : List ℕ) → is_separator c ≡ true → begins_no_word t ≡ false → words_at (c ∷ t) ≡ with_word [] (words_at t)
 unfolding words_at
 separator_read c t h b = rw (separator_isnt c h, h, b) refl
 
-pub separators_read : (c : ℕ) (s u : List ℕ) → is_separator c ≡ true → AllByRecursion (λ d. is_separator d ≡ true) s → begins_with_separator u ≡ false → words_at (c ∷ s ++ u) ≡ with_word [] (words_at u)
+separators_read : (c : ℕ) (s u : List ℕ) → is_separator c ≡ true → AreSeparators s → begins_no_word u ≡ false → words_at (c ∷ s ++ u) ≡ with_word [] (words_at u)
 separators_read c [] u h k b = separator_read c u h b
-separators_read c (d ∷ s) u h k b = separator_skipped c (d ∷ s ++ u) h k.0 ∙ separators_read d s u k.0 k.1 b
+separators_read c (d ∷ s) u h k b = separator_skipped c (d ∷ s ++ u) h (separator_ends d k.0) ∙ separators_read d s u k.0 k.1 b
 
-pub word_before : (w : List ℕ) (c : ℕ) (s u : List ℕ) → NoEnd w → is_separator c ≡ true → AllByRecursion (λ d. is_separator d ≡ true) s → begins_with_separator u ≡ false → words_at (w ++ (c ∷ s ++ u)) ≡ with_word w (words_at u)
-word_before w c s u h k l b = word_read w (c ∷ s ++ u) h ∙ ap (with_chars w) (separators_read c s u k l b) ∙ chars_word w (words_at u)
+pub next_word : (w : List ℕ) (c : ℕ) (s u : List ℕ) → NoEnd w → is_separator c ≡ true → AreSeparators s → begins_no_word u ≡ false → words_at (w ++ (c ∷ s ++ u)) ≡ with_word w (words_at u)
+next_word w c s u h k l b = word_read w (c ∷ s ++ u) h ∙ ap (with_chars w) (separators_read c s u k l b) ∙ chars_word w (words_at u)
 
 -- ---- the word that a text begins with
 
@@ -110,33 +123,42 @@ pub read_none : (t : List ℕ) → back t ≡ [] → words_at t ≡ None
 read_none t e = ap words_at (whole_word t [] e) ∙ word_at_end (front t) (front_no_end t)
 
 pub read_last : (t v : List ℕ) → back t ≡ 62 ∷ v → words_at t ≡ Some (front t ∷ [], v)
-read_last t v e = ap words_at (whole_word t (62 ∷ v) e) ∙ last_word (front t) v (front_no_end t)
+read_last t v e = ap words_at (whole_word t (62 ∷ v) e) ∙ last_word (front t) [] v (front_no_end t) tt
 
-separators_front : (u : List ℕ) → AllByRecursion (λ d. is_separator d ≡ true) (take (prefix_len is_separator u) u)
+separators_front : (u : List ℕ) → AreSeparators (take (prefix_len is_separator u) u)
 separators_front [] = tt
 separators_front (c ∷ u) =
     let one : 1 + prefix_len is_separator u ≡ suc (prefix_len is_separator u) = omega arith in
-    cond_both (is_separator c) (1 + prefix_len is_separator u) 0 (λ n. AllByRecursion (λ d. is_separator d ≡ true) (take n (c ∷ u))) (λ e. rw one (e, separators_front u)) (λ e. tt)
+    cond_both (is_separator c) (1 + prefix_len is_separator u) 0 (λ n. AreSeparators (take n (c ∷ u))) (λ e. rw one (e, separators_front u)) (λ e. tt)
 
-separators_back : (u : List ℕ) → begins_with_separator (drop (prefix_len is_separator u) u) ≡ false
-separators_back [] = refl
+separators_back : (u : List ℕ) → BeginsNot is_separator (drop (prefix_len is_separator u) u)
+separators_back [] = tt
 separators_back (c ∷ u) =
     let one : 1 + prefix_len is_separator u ≡ suc (prefix_len is_separator u) = omega arith in
-    cond_both (is_separator c) (1 + prefix_len is_separator u) 0 (λ n. begins_with_separator (drop n (c ∷ u)) ≡ false) (λ e. rw one (separators_back u)) (λ e. e)
+    cond_both (is_separator c) (1 + prefix_len is_separator u) 0 (λ n. BeginsNot is_separator (drop n (c ∷ u))) (λ e. rw one (separators_back u)) (λ e. e)
 
 ends_not_last : (c : ℕ) → ends_word c ≡ true → (c == 62) ≡ false → is_separator c ≡ true
 ends_not_last c h b = or_case (is_separator c) (c == 62) h (λ s. s) (λ e. absurd cc)
 
-pub read_next : (t u : List ℕ) (c : ℕ) → back t ≡ c ∷ u → (c == 62) ≡ false → words_at t ≡ with_word (front t) (words_at (drop (prefix_len is_separator u) u))
+-- what stands behind the separators after the word
+module _ (t : List ℕ) (c : ℕ) (s : List ℕ) (h : is_separator c ≡ true) (k : AreSeparators s) where
+  read_behind : (x : List ℕ) → back t ≡ c ∷ s ++ x → BeginsNot is_separator x → words_at t ≡ word_before (front t) x
+  unfolding words_at
+  read_behind [] e b = ap words_at (whole_word t (c ∷ s ++ []) e) ∙ next_word (front t) c s [] (front_no_end t) h k refl
+  read_behind (d ∷ v) e b =
+      cond_both (d == 62) (Some (front t ∷ [], v)) (with_word (front t) (words_at (d ∷ v))) (λ x. words_at t ≡ x)
+      (λ f. ap words_at (whole_word t (c ∷ s ++ d ∷ v) e ∙ ap (λ y. front t ++ (c ∷ s ++ y ∷ v)) (eqb-true d 62 f)) ∙ last_word (front t) (c ∷ s) v (front_no_end t) (h, k))
+      (λ f. ap words_at (whole_word t (c ∷ s ++ d ∷ v) e) ∙ next_word (front t) c s (d ∷ v) (front_no_end t) h k (rw (b, f) refl))
+
+read_next : (t u : List ℕ) (c : ℕ) → back t ≡ c ∷ u → (c == 62) ≡ false → words_at t ≡ word_before (front t) (drop (prefix_len is_separator u) u)
 read_next t u c e b =
     let n = prefix_len is_separator u in
-    ap words_at (whole_word t (c ∷ u) e ∙ ap (λ x. front t ++ (c ∷ x)) (sym (take-append-drop n u)))
-    ∙ word_before (front t) c (take n u) (drop n u) (front_no_end t) (ends_not_last c (subst Ended e (behind_ended t)) b) (separators_front u) (separators_back u)
+    read_behind t c (take n u) (ends_not_last c (subst Ended e (behind_ended t)) b) (separators_front u) (drop n u) (e ∙ ap (λ x. c ∷ x) (sym (take-append-drop n u))) (separators_back u)
 
-pub read_on : (t b : List ℕ) → back t ≡ b → words_at t ≡ word_then (front t) b
+read_on : (t b : List ℕ) → back t ≡ b → words_at t ≡ word_then (front t) b
 read_on t [] e = read_none t e
 read_on t (c ∷ u) e =
-    cond_both (c == 62) (Some (front t ∷ [], u)) (with_word (front t) (words_at (drop (prefix_len is_separator u) u))) (λ x. (c == 62) ≡ (c == 62) → words_at t ≡ x)
+    cond_both (c == 62) (Some (front t ∷ [], u)) (word_before (front t) (drop (prefix_len is_separator u) u)) (λ x. (c == 62) ≡ (c == 62) → words_at t ≡ x)
     (λ b k. read_last t u (subst (λ d. back t ≡ d ∷ u) (eqb-true c 62 b) e)) (λ b k. read_next t u c e b) refl
 
 pub word_reads : (t : List ℕ) → words_at t ≡ word_then (take (prefix_len (λ c. not (ends_word c)) t) t) (drop (prefix_len (λ c. not (ends_word c)) t) t)

@@ -11,7 +11,7 @@ use Rattle.tks_event.specs.Keysyms.{is_keysym, keysym_of}
 use Rattle.tks_event.specs.Modifiers.{modifier_named}
 use Rattle.tks_event.specs.Kinds.{kind_named, is_button, is_detail}
 use Rattle.tks_event.specs.Sequences.{all_events, max_events, is_name_char, is_some_text}
-use Rattle.tks_event.specs.Spelling.{is_separator, times_named, once, with_more, repeated, is_bare, virtual_one}
+use Rattle.tks_event.specs.Spelling.{is_separator, ends_word, times_named, once, with_more, repeated, is_bare, virtual_one}
 use Rattle.tks_event.specs.declared.kind.Kind.{Kind}
 use Rattle.tks_event.specs.declared.kind.Kind.TheVariants as kind
 use Rattle.tks_event.specs.declared.modifiers.Modifier.{Modifier}
@@ -20,7 +20,8 @@ use Rattle.tks_event.specs.declared.pattern.Repeated.{Repeated}
 
 -- ---- words
 
--- the words up to a `>`, and what stands behind it. Where a separator or the `>` stands, a word that is there is empty
+-- the words up to a `>`, and what stands behind it. Where a separator or the `>` stands, a word that is there is empty;
+-- none is between the last separators and the `>`
 abbrev pub Words : Type 0
 Words = Option (List (List ℕ) × List ℕ)
 
@@ -33,15 +34,16 @@ abbrev pub with_word : List ℕ → Words → Words
 with_word w None = None
 with_word w (Some x) = Some (w ∷ x.0, x.1)
 
-abbrev pub begins_with_separator : List ℕ → Bool
-begins_with_separator [] = false
-begins_with_separator (c ∷ t) = is_separator c
+-- whether no word begins here, since a separator or a `>` stands here
+abbrev pub begins_no_word : List ℕ → Bool
+begins_no_word [] = false
+begins_no_word (c ∷ t) = ends_word c
 
 unfoldable pub words_at : List ℕ → Words
 words_at [] = None
 words_at (c ∷ t) =
     if c == 62 then Some ([] ∷ [], t)
-    else (if is_separator c then (if begins_with_separator t then words_at t else with_word [] (words_at t))
+    else (if is_separator c then (if begins_no_word t then words_at t else with_word [] (words_at t))
     else with_char c (words_at t))
 
 -- ---- what words say

@@ -1,5 +1,5 @@
--- The sequence that a text spells, by cases on the sequence (bind(n), "Event patterns"). What a pattern may name, and that
--- no separator stands at its ends, is this project's own choice.
+-- The sequence that a text spells, by cases on the sequence (bind(n), "Event patterns"). What a pattern may name is this
+-- project's own choice.
 --
 -- "t is X, then v" says that X stands at the front of t, and v behind it.
 use Rattle.std.specs.Prelude.{◌≡◌, ℕ, ◌<◌, Bool, true, false, not, ◌&&◌, ◌||◌, ◌==◌, nat_le, bit_or, List, [], ◌∷◌, ◌++◌, length, Option, Some, codes}
@@ -28,13 +28,17 @@ ends_word c = is_separator c || (c == 62)
 abbrev pub IsWord : List ℕ → Type 0
 IsWord w = (0 < length w) × AllByRecursion (λ c. ends_word c ≡ false) w
 
+-- separators and nothing else, or none
+abbrev pub AreSeparators : List ℕ → Type 0
+AreSeparators s = AllByRecursion (λ c. is_separator c ≡ true) s
+
 -- at least one separator, and nothing else
 abbrev pub IsSeparation : List ℕ → Type 0
-IsSeparation s = (0 < length s) × AllByRecursion (λ c. is_separator c ≡ true) s
+IsSeparation s = (0 < length s) × AreSeparators s
 
--- t is these words with separators between them, then v
+-- t is these words with separators between them, and perhaps behind the last, then v
 pub data WordsThen (v : List ℕ) : List (List ℕ) → List ℕ → Type 0 where
-  last : (w : List ℕ) → IsWord w → WordsThen v (w ∷ []) (w ++ v)
+  last : (w s : List ℕ) → IsWord w → AreSeparators s → WordsThen v (w ∷ []) (w ++ (s ++ v))
   word : (w s u : List ℕ) (ws : List (List ℕ)) → IsWord w → IsSeparation s → WordsThen v ws u → WordsThen v (w ∷ ws) (w ++ (s ++ u))
 
 -- ---- what words say

@@ -26,10 +26,15 @@ abbrev pub words_from : Option Word → Words
 words_from None = None
 words_from (Some w) = if w.is_last then Some (w.text.now ∷ [], w.rest.now) else with_word w.text.now (words_at w.rest.now)
 
--- a word before a text, which ends at a `>`, before another word, or not at all
+-- a word before what stands behind its separators: a `>`, or another word
+abbrev pub word_before : List ℕ → List ℕ → Words
+word_before w [] = None
+word_before w (c ∷ u) = if c == 62 then Some (w ∷ [], u) else with_word w (words_at (c ∷ u))
+
+-- a word before a text, which ends at a `>`, at separators, or not at all
 abbrev pub word_then : List ℕ → List ℕ → Words
 word_then w [] = None
-word_then w (c ∷ u) = if c == 62 then Some (w ∷ [], u) else with_word w (words_at (drop (prefix_len is_separator u) u))
+word_then w (c ∷ u) = if c == 62 then Some (w ∷ [], u) else word_before w (drop (prefix_len is_separator u) u)
 
 -- a pattern as it is written
 abbrev pub pattern_seen : ParsedPattern → Repeated

@@ -1,3 +1,4 @@
+//! Laws of sequences and patterns.
 ghost use Rattle.std.specs.Prelude.{◌≡◌, ◌↔◌, List, ℕ, Some, Ok, true};
 ghost use Rattle.tks_event.specs.Canonical.{canonical};
 ghost use Rattle.tks_event.specs.Sequences.{is_sequence};

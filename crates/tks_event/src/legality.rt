@@ -6,9 +6,7 @@ use crate::event::Event;
 use crate::keysym::is_keysym;
 use crate::kind::{Kind, is_button};
 use crate::validity::is_name;
-
-/// No number of a world is greater than this.
-const MAX_NUMBER: u64 = 1 << 62;
+use tks_text::MAX_NUMBER;
 
 /// How far from 0 a column or a row may lie.
 const MAX_PLACE: i64 = 100_000;

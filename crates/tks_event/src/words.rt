@@ -1,10 +1,10 @@
 //! The words of a pattern in brackets.
-ghost use Rattle.std.specs.Prelude.{◌≡◌, ◌<◌, ◌≤◌, length, not, IfSome};
+ghost use Rattle.std.specs.Prelude.{◌≡◌, ◌<◌, ◌≤◌, Some, length, not, IfSome};
 ghost use Rattle.std.specs.List.{prefix_len};
 ghost use Rattle.tks_text.specs.Text.{IsText};
 ghost use Rattle.tks_event.specs.Reading.{words_at};
 ghost use Rattle.tks_event.specs.Spelling.{is_separator, ends_word};
-ghost use Rattle.tks_event.specs.View.{word_then, words_from};
+ghost use Rattle.tks_event.specs.View.{word_before, word_then, words_from};
 
 use tks_text::is_space;
 
@@ -12,7 +12,7 @@ use tks_text::is_space;
 #[derive(Clone, Copy)]
 pub(crate) struct Word<'a> {
     pub text: &'a [u8],
-    /// Whether a `>` stands behind it.
+    /// Whether a `>` stands behind it, or behind the separators after it.
     pub is_last: bool,
     /// What stands behind that, or behind the separators before the next word.
     pub rest: &'a [u8],
@@ -48,6 +48,29 @@ fn separators_len(text: &[u8]) -> usize
     text.iter().take_while(|c| is_separator(**c)).count()
 }
 
+// The word before what stands behind its separators: a `>`, or another word.
+#[tactic(auto, unfolding(crate::specs::Reading::words_at))]
+fn followed<'a>(word: &'a [u8], behind: &'a [u8]) -> Word<'a>
+    requires word { IsText word.now }
+    requires behind { IsText behind.now }
+    ensures words { words_from (Some result) ≡ word_before word.now behind.now }
+    ensures no_longer { length result.rest.now ≤ length behind.now }
+    ensures text { IsText result.text.now × IsText result.rest.now }
+{
+    match behind {
+        [b'>', rest @ ..] => Word {
+            text: word,
+            is_last: true,
+            rest,
+        },
+        _ => Word {
+            text: word,
+            is_last: false,
+            rest: behind,
+        },
+    }
+}
+
 // The word before a text, which it ends at. `None` where the text ends there too.
 fn ended<'a>(word: &'a [u8], behind: &'a [u8]) -> Option<Word<'a>>
     requires word { IsText word.now }
@@ -58,20 +81,12 @@ fn ended<'a>(word: &'a [u8], behind: &'a [u8]) -> Option<Word<'a>>
 {
     match behind {
         [] => None,
-        [first, rest @ ..] => {
-            if *first == b'>' {
-                return Some(Word {
-                    text: word,
-                    is_last: true,
-                    rest,
-                });
-            }
-            Some(Word {
-                text: word,
-                is_last: false,
-                rest: rest.split_at(separators_len(rest)).1,
-            })
-        }
+        [b'>', rest @ ..] => Some(Word {
+            text: word,
+            is_last: true,
+            rest,
+        }),
+        [_, rest @ ..] => Some(followed(word, rest.split_at(separators_len(rest)).1)),
     }
 }
 

@@ -1,3 +1,4 @@
+//! Arithmetic on integers of 64 bits, and its laws.
 ghost use Rattle.std.specs.Prelude.{◌≡◌, ◌≢◌, ◌↔◌, ℕ, ◌+◌, ◌-◌, ◌%◌, ◌^◌, min, max, ℤ, pos, ◌+ℤ◌, ◌-ℤ◌, ◌*ℤ◌};
 ghost use Rattle.tks_text.specs.Fault.{Gives};
 ghost use Rattle.tks_expr.specs.Arithmetic.{divided, quotient, remainder, LiesBefore, bit, complement, bits_of_both, bits_of_any, bits_of_one};

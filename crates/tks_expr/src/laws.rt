@@ -1,3 +1,4 @@
+//! The law of expressions.
 ghost use Rattle.std.specs.Prelude.{◌≡◌, ◌↔◌, List, ℕ, Result};
 ghost use Rattle.tks_text.specs.declared.fault.ScriptFault.{ScriptFault};
 ghost use Rattle.tks_expr.specs.Expression.{ExprOf};

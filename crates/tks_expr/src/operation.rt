@@ -1,3 +1,4 @@
+//! What operators give, and which texts hold as conditions.
 ghost use Rattle.std.specs.Prelude.{◌≡◌, true, Ok, Err, IfSome, IfNone};
 ghost use Rattle.std.specs.Char.{is_ascii_digit};
 ghost use Rattle.std.specs.List.{list_all};

@@ -1,3 +1,4 @@
+//! The operators.
 /// The operators of one operand.
 #[derive(Clone, Copy, Debug, PartialEq, Eq)]
 pub enum Unary {

@@ -1,3 +1,4 @@
+//! The tree of an expression, flat where operators follow one another.
 ghost use Rattle.std.specs.Prelude.{◌≡◌, IfOk};
 ghost use Rattle.tks_expr.specs.View.{expr_of};
 

@@ -1,3 +1,4 @@
+//! Inputs: what happens to a world.
 use std::alloc::AllocError;
 use tks_text::Txt;
 

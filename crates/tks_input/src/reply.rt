@@ -1,3 +1,4 @@
+//! Replies to inputs, and refusals.
 ghost use Rattle.std.specs.Prelude.{◌≡◌};
 
 use std::alloc::AllocError;

@@ -1,7 +1,7 @@
 -- Which side is live, by what was read of both.
 use Rattle.std.proofs.Common.{◌≡◌, ℕ, ◌==◌, nat_lt, Bool, true, false, cond, List, ◌++◌, length, take, drop, Option, Some, None, IfSome, Result, Ok, Err, refl, sym, ◌∙◌, ap, subst, arith, take-append-drop}
 use Rattle.std.proofs.lemmas.Bool.Decides.{nat_tests}
-use Rattle.tks_codec.specs.declared.header.Header.{Header}
+use Rattle.tks_spelling.specs.declared.header.Header.{Header}
 use Rattle.tks_disk.specs.DiskModel.{View, Images, on, beside}
 use Rattle.tks_disk.specs.declared.disk.Side.{Side}
 use Rattle.tks_disk.specs.declared.disk.Side.TheVariants.{A, B}

@@ -1,14 +1,14 @@
 -- Headers at the front of bytes, whatever stands behind them.
 use Rattle.std.proofs.Common.{◌≡◌, ◌<◌, ℕ, suc, ◌+◌, ◌-◌, List, ◌∷◌, ◌++◌, length, get_or, take, drop, Err, sym, ◌∙◌, ap, subst, arith, append_assoc}
 use Rattle.std.proofs.lemmas.List.{length-drop}
-use Rattle.tks_codec.specs.Header.{header_at}
-use Rattle.tks_codec.specs.Header as headers
-use Rattle.tks_codec.specs.Spelling.{IsBytes}
-use Rattle.tks_codec.specs.declared.header.Header.{Header}
-use Rattle.tks_codec.specs.Reading.{FindsSo}
-use Rattle.tks_codec.specs.declared.fault.CodecFault.{CodecFault}
-use Rattle.tks_codec.specs.declared.fault.CodecFault.TheVariants.{Bad}
-use Rattle.tks_codec.proofs.Headers.{header_lawful}
+use Rattle.tks_spelling.specs.Header.{header_at}
+use Rattle.tks_spelling.specs.Header as headers
+use Rattle.tks_spelling.specs.Spelling.{IsBytes}
+use Rattle.tks_spelling.specs.declared.header.Header.{Header}
+use Rattle.tks_spelling.specs.Reading.{FindsSo}
+use Rattle.tks_spelling.specs.declared.fault.CodecFault.{CodecFault}
+use Rattle.tks_spelling.specs.declared.fault.CodecFault.TheVariants.{Bad}
+use Rattle.tks_spelling.proofs.Headers.{header_lawful}
 use Rattle.tks_journal.specs.Journal.{SpelledAs}
 use Rattle.tks_journal.specs.Sides.{broken, headed}
 use Rattle.tks_journal.proofs.Lists.{at_place}

@@ -3,8 +3,8 @@ use Rattle.std.proofs.lemmas.Bool.Decides.{nat_tests}
 use Rattle.tks_journal.proofs.Faces.{closed_face, closed_gate}
 use Rattle.std.proofs.Common.{◌≡◌, ◌≢◌, ◌==◌, ◌<◌, ◌≤◌, ℕ, ◌+◌, ◌-◌, Bool, true, false, cond, List, [], ◌∷◌, ◌++◌, length, get_or, take, drop, refl, sym, ◌∙◌, ap, subst, arith, append_assoc, take-append-drop}
 use Rattle.std.proofs.lemmas.List.{length-drop, length-take, take_all, take_at}
-use Rattle.tks_codec.specs.Header.{header_at}
-use Rattle.tks_codec.specs.declared.header.Header.{Header}
+use Rattle.tks_spelling.specs.Header.{header_at}
+use Rattle.tks_spelling.specs.declared.header.Header.{Header}
 use Rattle.tks_journal.specs.Fronts.{HeadOf, FrontIs, IsOpenSide, front_with, AttemptIs}
 use Rattle.tks_journal.specs.Journal.{SpelledAs}
 use Rattle.tks_journal.specs.Sides.{closed, unknown, broken, intact, face, format_of, headed, is_given}

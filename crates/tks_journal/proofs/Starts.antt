@@ -3,8 +3,8 @@ use Rattle.std.proofs.Common.{◌≡◌, ◌≢◌, ◌<◌, inl, inr, ⊎_elim,
 use Rattle.std.proofs.lemmas.Bool.{cases_eq}
 use Rattle.std.proofs.Math.Seq.{get_or-append_seam}
 use Rattle.std.proofs.lemmas.List.{take_at, drop_at}
-use Rattle.tks_codec.specs.Header.{header_at}
-use Rattle.tks_codec.specs.declared.header.Header.{Header}
+use Rattle.tks_spelling.specs.Header.{header_at}
+use Rattle.tks_spelling.specs.declared.header.Header.{Header}
 use Rattle.tks_disk.specs.DiskModel.{View, Images, on, beside}
 use Rattle.tks_disk.specs.declared.disk.Side.{Side}
 use Rattle.tks_journal.specs.Sides.{is_closed, Kept, holds, with_frames, is_given, pair, framed, AllShort}

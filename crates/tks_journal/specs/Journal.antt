@@ -1,7 +1,7 @@
 -- What contracts see of a journal.
 use Rattle.std.specs.Prelude.{◌≡◌, ℕ, ◌+◌, ◌^◌, nat_le, nat_lt, Bool, ◌&&◌, List, ◌++◌, Ok}
-use Rattle.tks_codec.specs.Header.{header_at}
-use Rattle.tks_codec.specs.declared.header.Header.{Header}
+use Rattle.tks_spelling.specs.Header.{header_at}
+use Rattle.tks_spelling.specs.declared.header.Header.{Header}
 use Rattle.tks_disk.specs.declared.disk.Side.{Side}
 
 pub record JournalState (D : Type 0) : Type 0 where

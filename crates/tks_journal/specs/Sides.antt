@@ -4,9 +4,9 @@ use Rattle.std.specs.Int.{w32, from_be_bytes, to_be_bytes}
 use Rattle.tks_disk.specs.DiskModel.{Images}
 use Rattle.tks_disk.specs.declared.disk.Side.{Side}
 use Rattle.tks_disk.specs.declared.disk.Side.TheVariants.{A, B}
-use Rattle.tks_codec.specs.Header.{header_at}
-use Rattle.tks_codec.specs.Spelling.{Read}
-use Rattle.tks_codec.specs.declared.header.Header.{Header}
+use Rattle.tks_spelling.specs.Header.{header_at}
+use Rattle.tks_spelling.specs.Spelling.{Read}
+use Rattle.tks_spelling.specs.declared.header.Header.{Header}
 use Rattle.tks_journal.specs.declared.fault.SideFault.{SideFault}
 use Rattle.tks_journal.specs.declared.fault.SideFault.TheVariants.{UnknownFormat, Damaged}
 

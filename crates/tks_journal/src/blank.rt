@@ -5,8 +5,8 @@ ghost use Rattle.tks_disk.specs.DiskModel.{Counts};
 use crate::journal::Journal;
 use crate::side::start_side;
 use std::marker::Model;
-use tks_codec::Header;
 use tks_disk::{Disk, Side};
+use tks_spelling::Header;
 
 /// A disk that holds nothing, all of it synced. Contracts see it as the disk.
 #[derive(Drop)]

@@ -9,6 +9,7 @@ ghost use Rattle.tks_journal.specs.Sides.{holds, with_frames};
 
 use crate::gate::open_gate;
 use crate::pieces::write_pieces;
+use byteorder::{BigEndian, ByteOrder};
 use tks_disk::{DeviceFault, Disk, Side};
 
 /// Writes a frame and the next gate, closed, behind the gate, which stays closed, and syncs the side.
@@ -29,7 +30,8 @@ fn stage_frame<D: Disk>(
     ensures honesty { D.honest disk.old ↔ D.honest disk.new }
     ensures counts { Counts result (D.failures disk.old) (D.failures disk.new) }
 {
-    let size = (body.len() as u32).to_be_bytes();
+    let mut size = [0; 4];
+    BigEndian::write_u32(&mut size, body.len() as u32);
     write_pieces(disk, live, gate + 1, &size)?;
     write_pieces(disk, live, gate + 5, body)?;
     write_pieces(disk, live, gate + 5 + body.len(), &[0])?;

@@ -10,8 +10,9 @@ use crate::fault::SideFault;
 use crate::reading::{byte_at, read_exactly};
 use crate::side::FORMAT;
 use std::alloc::Global;
-use tks_codec::{CodecFault, Header, read_header};
 use tks_disk::{Disk, Side};
+use tks_spelling::{CodecFault, Header, read_header};
+use tks_text::MAX_NUMBER;
 
 /// How many bytes behind the format are read at first.
 const FIRST_READ: usize = 256;
@@ -69,7 +70,7 @@ fn try_header(alloc: Global, bytes: &[u8]) -> Result<Attempt, OpenError>
 fn headed(header: Header, at: usize, len: usize) -> Front
     ensures { result ≡ front_with header at len }
 {
-    if header.generation == 0 || header.generation > 1 << 62 {
+    if header.generation == 0 || header.generation > MAX_NUMBER {
         return Front::Broken;
     }
     Front::Intact(Head { header, at, len })

@@ -5,8 +5,8 @@ ghost use Rattle.tks_disk.specs.DiskModel.{Counts};
 use crate::frame::append_frame;
 use crate::side::{other, start_side};
 use std::marker::Model;
-use tks_codec::Header;
 use tks_disk::{DeviceFault, Disk, Side};
+use tks_spelling::Header;
 
 /// The most bytes that a side grows to.
 const SIDE_MAX: usize = 1 << 40;

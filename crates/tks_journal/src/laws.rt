@@ -1,6 +1,6 @@
 //! Laws of what sides hold.
 ghost use Rattle.std.specs.Prelude.{◌≡◌, ◌≢◌, ◌↔◌, ℕ, true, List, ◌∷◌, ◌++◌, length, Some, Ok};
-ghost use Rattle.tks_codec.specs.declared.header.Header.{Header};
+ghost use Rattle.tks_spelling.specs.declared.header.Header.{Header};
 ghost use Rattle.tks_disk.specs.declared.disk.Side.{Side};
 ghost use Rattle.tks_journal.specs.AreFrames.{AreFrames};
 ghost use Rattle.tks_journal.specs.Journal.{SpelledAs};

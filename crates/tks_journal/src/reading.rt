@@ -5,6 +5,7 @@ ghost use Rattle.tks_journal.specs.Opening.{Tells, NoSideFault};
 ghost use Rattle.tks_journal.specs.Sides.{size_at};
 
 use crate::error::OpenError;
+use byteorder::{BigEndian, ByteOrder};
 use std::alloc::Global;
 use tks_disk::{DeviceFault, Disk, Side};
 
@@ -52,5 +53,5 @@ pub fn size_from<D: Disk>(disk: &mut D, side: Side, at: usize) -> Result<u32, De
 {
     let mut bytes = [0; 4];
     let _read = disk.read_at(side, at, &mut bytes)?;
-    Ok(u32::from_be_bytes(bytes))
+    Ok(BigEndian::read_u32(&bytes))
 }

@@ -1,7 +1,7 @@
 //! A side that is begun: its header and world, behind a gate that is opened last.
 ghost use Rattle.std.specs.Prelude.{◌≡◌, ◌↔◌, ◌<◌, ◌^◌, ◌+◌, ◌++◌, ◌∷◌, [], ℕ, true, List, OnOk, IfOk, length, take, Ok};
-ghost use Rattle.tks_codec.specs.Header as headers;
-ghost use Rattle.tks_codec.specs.Header.{AreNames};
+ghost use Rattle.tks_spelling.specs.Header as headers;
+ghost use Rattle.tks_spelling.specs.Header.{AreNames};
 ghost use Rattle.tks_disk.specs.DiskModel.{View, Images, on, beside, Counts};
 ghost use Rattle.tks_journal.specs.Journal.{SpelledAs};
 ghost use Rattle.tks_journal.specs.Moments.{LeavesOnly, IsSettled};
@@ -12,8 +12,8 @@ ghost use Rattle.tks_journal.specs.Sides.{holds, is_given, other_of};
 use crate::gate::{close_gate, open_gate};
 use crate::pieces::write_pieces;
 use std::alloc::{AllocError, Global};
-use tks_codec::{Header, write_header};
 use tks_disk::{DeviceFault, Disk, Side};
+use tks_spelling::{Header, write_header};
 
 /// The format in which sides are written.
 pub const FORMAT: u8 = 1;

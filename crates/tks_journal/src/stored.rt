@@ -8,8 +8,8 @@ use crate::loading::world_from;
 use crate::opening::survey;
 use std::alloc::Global;
 use std::marker::Model;
-use tks_codec::Header;
 use tks_disk::{Disk, Side};
+use tks_spelling::Header;
 
 /// Why a disk wasn't opened, and the disk.
 #[derive(Drop)]

@@ -5,7 +5,6 @@ use Rattle.std.specs.List.{list_all}
 use Rattle.std.proofs.lemmas.Bool.Decides.{nat_tests}
 use Rattle.tks_text.specs.Limits.{Wider}
 use Rattle.tks_text.specs.declared.limits.Limits.{Limits}
-use Rattle.tks_app.specs.declared.memories.Memory.{Memory}
 use Rattle.tks_bind.specs.declared.binding.Binding.{Binding}
 use Rattle.tks_bind.specs.declared.virtual_event.VirtualEvent.{VirtualEvent}
 use Rattle.tks_event.specs.declared.event.Event.{Event}
@@ -141,10 +140,6 @@ module _ (a b : Limits) (w : Wider a b) where
       both (count (length x.timers)) (both (each (λ t. kinds.fits a t.script) (λ t. kinds.fits b t.script) (λ t. text t.script) x.timers)
       (both (count (length x.idles)) (each (λ i. kinds.fits a i.script) (λ i. kinds.fits b i.script) (λ i. text i.script) x.idles)))
 
-  memories : (xs : List Memory) → Tells (kinds.memories_fit a xs) (kinds.memories_fit b xs)
-  memories xs =
-      both (count (length xs)) (each (λ m. kinds.fits a m.name && kinds.fits a m.text) (λ m. kinds.fits b m.name && kinds.fits b m.text) (λ m. both (text m.name) (text m.text)) xs)
-
   history : (xs : List Event) → Tells (kinds.history_fits a xs) (kinds.history_fits b xs)
   history xs = each (kinds.event_fits a) (kinds.event_fits b) event xs
 
@@ -159,4 +154,4 @@ module _ (a b : Limits) (w : Wider a b) where
 
 pub wider_admits : (a b : Limits) (x : World) → Wider a b → within a x ≡ true → within b x ≡ true
 unfolding within
-wider_admits a b x w = both (all_windows a b w x) (both (variables a b w x.variables) (both (all_events a b w x) (both (memories a b w x.memories) (texts a b w x.faults))))
+wider_admits a b x w = both (all_windows a b w x) (both (variables a b w x.variables) (both (all_events a b w x) (both (elements a b w x.memories) (texts a b w x.faults))))

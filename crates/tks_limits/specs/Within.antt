@@ -4,7 +4,6 @@ use Rattle.std.specs.Prelude.{ℕ, Bool, true, ◌&&◌, nat_le, List, length, O
 use Rattle.std.specs.FinMap as map
 use Rattle.std.specs.List.{list_all}
 use Rattle.tks_text.specs.declared.limits.Limits.{Limits}
-use Rattle.tks_app.specs.declared.memories.Memory.{Memory}
 use Rattle.tks_bind.specs.declared.binding.Binding.{Binding}
 use Rattle.tks_bind.specs.declared.virtual_event.VirtualEvent.{VirtualEvent}
 use Rattle.tks_event.specs.declared.event.Event.{Event}
@@ -25,17 +24,15 @@ use Rattle.tks_vars.specs.Variables.{Variables}
 use Rattle.tks_vars.specs.declared.content.Content as globals
 use Rattle.tks_vars.specs.declared.content.Content.TheVariants.{Scalar, Array}
 use Rattle.tks_vars.specs.declared.procedure.Procedure.{Procedure}
+pub use Rattle.tks_text.specs.Limits.{fits}
 
 module _ (limits : Limits) where
-  -- whether a text passes no limit, and whether a list of so many members does
-  abbrev pub fits : List ℕ → Bool
-  fits text = nat_le (length text) limits.text
-
+  -- whether a list of so many members passes no limit
   abbrev pub may_hold : ℕ → Bool
   may_hold count = nat_le count limits.items
 
   abbrev pub texts_fit : List (List ℕ) → Bool
-  texts_fit texts = list_all fits texts
+  texts_fit texts = list_all (fits limits) texts
 
   -- ---- windows
 
@@ -44,17 +41,17 @@ module _ (limits : Limits) where
   tags_fit (Some tags) = may_hold (length tags) && texts_fit tags
 
   abbrev pub listbox_fits : Listbox → Bool
-  listbox_fits l = may_hold (length l.items) && list_all (λ i. fits i.text) l.items
+  listbox_fits l = may_hold (length l.items) && list_all (λ i. fits limits i.text) l.items
 
   abbrev pub lines_fit : Lines → Bool
   lines_fit t =
-      fits t.text
-      && (may_hold (length t.tags) && (list_all (λ g. fits g.name) t.tags && (may_hold (length t.marks) && list_all (λ m. fits m.name) t.marks)))
+      fits limits t.text
+      && (may_hold (length t.tags) && (list_all (λ g. fits limits g.name) t.tags && (may_hold (length t.marks) && list_all (λ m. fits limits m.name) t.marks)))
 
   abbrev pub content_fits : Widget → Bool
   content_fits (widget.Frame o) = true
   content_fits (widget.Caption o) = true
-  content_fits (widget.Entry e) = fits e.text
+  content_fits (widget.Entry e) = fits limits e.text
   content_fits (widget.Listbox l) = listbox_fits l
   content_fits (widget.Text t) = lines_fit t
 
@@ -62,29 +59,29 @@ module _ (limits : Limits) where
   kept_fits k = texts_fit (values_in_order (options_of k.widget)) && (tags_fit k.tags && content_fits k.widget)
 
   abbrev pub paths_fit : List tree.Window → Bool
-  paths_fit windows = may_hold (length windows) && list_all (λ w. fits w.path) windows
+  paths_fit windows = may_hold (length windows) && list_all (λ w. fits limits w.path) windows
 
   -- ---- variables and procedures
 
   abbrev pub elements_fit : Map (List ℕ) → Bool
-  elements_fit m = may_hold (map.len m) && list_all (λ e. fits e.0 && fits e.1) (map.entries m)
+  elements_fit m = may_hold (map.len m) && list_all (λ e. fits limits e.0 && fits limits e.1) (map.entries m)
 
   abbrev pub global_fits : globals.Content → Bool
-  global_fits (Scalar value) = fits value
+  global_fits (Scalar value) = fits limits value
   global_fits (Array elements) = elements_fit elements
 
   abbrev pub globals_fit : Map globals.Content → Bool
-  globals_fit m = may_hold (map.len m) && list_all (λ e. fits e.0 && global_fits e.1) (map.entries m)
+  globals_fit m = may_hold (map.len m) && list_all (λ e. fits limits e.0 && global_fits e.1) (map.entries m)
 
   abbrev pub default_fits : Option (List ℕ) → Bool
   default_fits None = true
-  default_fits (Some value) = fits value
+  default_fits (Some value) = fits limits value
 
   abbrev pub procedure_fits : Procedure → Bool
-  procedure_fits p = list_all (λ a. fits a.name && default_fits a.default) p.params && fits p.body
+  procedure_fits p = list_all (λ a. fits limits a.name && default_fits a.default) p.params && fits limits p.body
 
   abbrev pub procedures_fit : Map Procedure → Bool
-  procedures_fit m = may_hold (map.len m) && list_all (λ e. fits e.0 && procedure_fits e.1) (map.entries m)
+  procedures_fit m = may_hold (map.len m) && list_all (λ e. fits limits e.0 && procedure_fits e.1) (map.entries m)
 
   -- (no script's frame stands between inputs)
   abbrev pub variables_fit : Variables → Bool
@@ -93,22 +90,22 @@ module _ (limits : Limits) where
   -- ---- events
 
   abbrev pub sequence_fits : List Pattern → Bool
-  sequence_fits s = list_all (λ p. fits p.detail) s
+  sequence_fits s = list_all (λ p. fits limits p.detail) s
 
   abbrev pub binding_fits : Binding → Bool
-  binding_fits b = fits b.tag && (sequence_fits b.sequence && fits b.script)
+  binding_fits b = fits limits b.tag && (sequence_fits b.sequence && fits limits b.script)
 
   abbrev pub bindings_fit : List Binding → Bool
   bindings_fit bindings = may_hold (length bindings) && list_all binding_fits bindings
 
   abbrev pub virtual_fits : VirtualEvent → Bool
-  virtual_fits v = fits v.name && (may_hold (length v.sequences) && list_all sequence_fits v.sequences)
+  virtual_fits v = fits limits v.name && (may_hold (length v.sequences) && list_all sequence_fits v.sequences)
 
   abbrev pub virtuals_fit : List VirtualEvent → Bool
   virtuals_fit virtuals = may_hold (length virtuals) && list_all virtual_fits virtuals
 
   abbrev pub event_fits : Event → Bool
-  event_fits e = fits e.detail && fits e.payload
+  event_fits e = fits limits e.detail && fits limits e.payload
 
   abbrev pub history_fits : List Event → Bool
   history_fits events = list_all event_fits events
@@ -119,12 +116,12 @@ module _ (limits : Limits) where
   abbrev pub timers_fit : Content → Bool
   timers_fit x =
       may_hold (length x.timers)
-      && (list_all (λ t. fits t.script) x.timers && (may_hold (length x.idles) && list_all (λ i. fits i.script) x.idles))
+      && (list_all (λ t. fits limits t.script) x.timers && (may_hold (length x.idles) && list_all (λ i. fits limits i.script) x.idles))
 
   -- ---- memories
 
-  abbrev pub memories_fit : List Memory → Bool
-  memories_fit memories = may_hold (length memories) && list_all (λ m. fits m.name && fits m.text) memories
+  abbrev pub memories_fit : Map (List ℕ) → Bool
+  memories_fit memories = elements_fit memories
 
   -- ---- the world
 

@@ -6,8 +6,8 @@ ghost use Rattle.tks_limits.specs.Within as kinds;
 use crate::texts::{fits, may_hold};
 use tks_bind::{Binding, Bindings, VirtualEvent, Virtuals};
 use tks_event::{Event, Pattern, Sequence};
-use tks_mark::Items;
 use tks_queue::{Queue, Queued};
+use tks_share::Items;
 use tks_text::Limits;
 use tks_timer::{Idle, Timer, Timers};
 
@@ -46,7 +46,7 @@ fn each_binding_fits(bindings: Items<'_, Binding>, limits: &Limits) -> bool
 
 /// Whether bindings fit.
 pub fn bindings_fit(bindings: &Bindings, limits: &Limits) -> bool
-    ensures { result ≡ kinds.bindings_fit limits.now bindings.now.present.bindings }
+    ensures { result ≡ kinds.bindings_fit limits.now bindings.now.bindings }
 {
     may_hold(bindings.len(), limits) && each_binding_fits(bindings.bindings(), limits)
 }
@@ -87,7 +87,7 @@ fn each_virtual_fits(events: Items<'_, VirtualEvent>, limits: &Limits) -> bool
 
 /// Whether virtual events fit.
 pub fn virtuals_fit(virtuals: &Virtuals, limits: &Limits) -> bool
-    ensures { result ≡ kinds.virtuals_fit limits.now virtuals.now.present }
+    ensures { result ≡ kinds.virtuals_fit limits.now virtuals.now }
 {
     may_hold(virtuals.len(), limits) && each_virtual_fits(virtuals.events(), limits)
 }
@@ -125,7 +125,7 @@ fn each_event_fits(events: Items<'_, Queued>, limits: &Limits) -> bool
 
 /// Whether events that wait fit.
 pub fn queue_fits(queue: &Queue, limits: &Limits) -> bool
-    ensures { result ≡ kinds.queue_fits limits.now queue.now.present }
+    ensures { result ≡ kinds.queue_fits limits.now queue.now }
 {
     may_hold(queue.len(), limits) && each_event_fits(queue.events(), limits)
 }
@@ -156,7 +156,7 @@ fn each_idle_fits(idles: Items<'_, Idle>, limits: &Limits) -> bool
 
 /// Whether timers and idle scripts fit.
 pub fn timers_fit(timers: &Timers, limits: &Limits) -> bool
-    ensures { result ≡ kinds.timers_fit limits.now timers.now.present }
+    ensures { result ≡ kinds.timers_fit limits.now timers.now }
 {
     may_hold(timers.timer_count(), limits)
         && each_timer_fits(timers.timers(), limits)

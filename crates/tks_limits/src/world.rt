@@ -8,16 +8,17 @@ use crate::events::{bindings_fit, history_fits, queue_fits, timers_fit, virtuals
 use crate::texts::{fits, may_hold, texts_fit};
 use crate::variables::variables_fit;
 use crate::windows::{all_kept_fit, paths_fit};
-use tks_app::Memory;
+use tks_app::Memories;
 use tks_state::World;
-use tks_text::Limits;
+use tks_text::{Limits, Txt};
+use tks_vars::Iter;
 
 // Whether the names and texts of memories fit.
-fn each_memory_fits(memories: &[Memory], limits: &Limits) -> bool
-    ensures { result ≡ list_all (λ m. kinds.fits limits.now m.name && kinds.fits limits.now m.text) memories.now }
+fn each_memory_fits(memories: Iter<'_, Txt>, limits: &Limits) -> bool
+    ensures { result ≡ list_all (λ e. kinds.fits limits.now e.0 && kinds.fits limits.now e.1) memories.entry }
 {
-    for memory in memories {
-        if !fits(memory.name.as_bytes(), limits) || !fits(memory.text.as_bytes(), limits) {
+    for (name, text) in memories {
+        if !fits(name, limits) || !fits(text.as_bytes(), limits) {
             return false;
         }
     }
@@ -25,10 +26,10 @@ fn each_memory_fits(memories: &[Memory], limits: &Limits) -> bool
 }
 
 // Whether memories fit.
-fn memories_fit(memories: &[Memory], limits: &Limits) -> bool
+fn memories_fit(memories: &Memories, limits: &Limits) -> bool
     ensures { result ≡ kinds.memories_fit limits.now memories.now }
 {
-    may_hold(memories.len(), limits) && each_memory_fits(memories, limits)
+    may_hold(memories.texts().len(), limits) && each_memory_fits(memories.texts().iter(), limits)
 }
 
 // Whether the windows fit.
@@ -58,6 +59,6 @@ pub fn is_within(world: &World, limits: &Limits) -> bool
     windows_fit(world, limits)
         && variables_fit(world.variables(), limits)
         && events_fit(world, limits)
-        && memories_fit(world.memories().all(), limits)
+        && memories_fit(world.memories(), limits)
         && texts_fit(world.faults(), limits)
 }

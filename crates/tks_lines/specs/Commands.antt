@@ -1,16 +1,16 @@
 -- The subcommands of a text widget (text(n), "WIDGET COMMAND"). That `insert` and `delete` take one text and one range, and
 -- that a gravity that isn't named is a wrong word, are this project's own rules.
-use Rattle.std.specs.Prelude.{ℕ, ◌+◌, Bool, true, false, not, if◌then◌else◌, List, [], ◌∷◌, ◌++◌, length, take, drop, map, codes, Option, Some, None, Result, Ok, Err}
+use Rattle.std.specs.Prelude.{ℕ, ◌+◌, Bool, true, false, if◌then◌else◌, List, [], ◌∷◌, ◌++◌, length, take, drop, map, codes, Option, Some, None, Result, Ok, Err}
 use Rattle.std.specs.Fmt.{decimal}
 use Rattle.std.specs.List.{filter}
 use Rattle.tks_text.specs.Text.{same_text}
 use Rattle.tks_text.specs.Fault.{fault_about}
-use Rattle.tks_text.specs.declared.fault.ErrorNumber.TheVariants.{WrongWords, NotAList, NoSuchMark}
+use Rattle.tks_text.specs.declared.fault.ErrorNumber.TheVariants.{NotAList, NoSuchMark}
 use Rattle.tks_text.specs.declared.fault.ScriptFault.{ScriptFault}
 use Rattle.tks_list.specs.Reading.{list_of}
 use Rattle.tks_list.specs.Quoting.{joined}
 use Rattle.tks_opt.specs.Options.{after}
-use Rattle.tks_opt.specs.Calls.{wrong_words, subcommand_does}
+use Rattle.tks_opt.specs.Calls.{wrong_words, subcommand_does, with_subcommand}
 use Rattle.tks_opt.specs.declared.said.Said.{Said}
 use Rattle.tks_opt.specs.declared.said.Said.TheVariants.{Text}
 use Rattle.tks_lines.specs.declared.parts.Tag.{Tag}
@@ -200,6 +200,4 @@ lines_does path name words t =
 
 -- the words of a whole command, the widget's path first
 abbrev pub called : Lines → List (List ℕ) → Called
-called t [] = Err (record { number = WrongWords; subject = None })
-called t (path ∷ []) = wrong_words path
-called t (path ∷ name ∷ words) = lines_does path name words t
+called t words = with_subcommand words (λ path name rest. lines_does path name rest t)

@@ -1,9 +1,9 @@
 -- What a user of text widgets would doubt (text(n), "INDICES", "TAGS", "MARKS"), said of their changes and answers.
-use Rattle.std.specs.Prelude.{◌≡◌, ℕ, ◌+◌, ◌≤◌, ◌<◌, ◌&&◌, ◌||◌, nat_le, nat_lt, Bool, true, false, List, [], ◌∷◌, length, map, Option, slice_get}
+use Rattle.std.specs.Prelude.{◌≡◌, ℕ, ◌+◌, ◌≤◌, ◌<◌, ◌&&◌, ◌||◌, nat_le, nat_lt, Bool, false, List, [], ◌∷◌, length, map, Option, slice_get}
 use Rattle.std.specs.List.{filter}
 use Rattle.tks_lines.specs.declared.parts.Tag.{Tag}
 use Rattle.tks_lines.specs.declared.parts.Mark.{Mark}
-use Rattle.tks_lines.specs.Lines.{Lines, inserted, deleted, moved_on, is_true}
+use Rattle.tks_lines.specs.Lines.{Lines, inserted, deleted, is_true}
 use Rattle.tks_lines.specs.Commands.{edges, names_on}
 
 -- characters came in at a place and were taken out again

@@ -6,10 +6,8 @@ use Rattle.std.specs.List.{filter, list_any, AllByRecursion}
 use Rattle.tks_text.specs.Text.{same_text}
 use Rattle.tks_text.specs.declared.class.Class.TheVariants as class
 use Rattle.tks_opt.specs.Options.{Options, first_options, value_in}
-use Rattle.tks_opt.specs.Values.{state_named}
+use Rattle.tks_opt.specs.Values.{state_named, is_normal}
 use Rattle.tks_opt.specs.declared.name.OptionName.TheVariants as name
-use Rattle.tks_opt.specs.declared.state.State.{State}
-use Rattle.tks_opt.specs.declared.state.State.TheVariants as state
 use Rattle.tks_lines.specs.declared.parts.Tag.{Tag}
 use Rattle.tks_lines.specs.declared.parts.Mark.{Mark}
 
@@ -161,13 +159,6 @@ abbrev pub turned_marks : List ℕ → Bool → List Mark → List Mark
 turned_marks name left marks = map (turned name left) marks
 
 -- ---- changes of the text
-
-abbrev pub is_normal : Option State → Bool
-is_normal None = false
-is_normal (Some state.Normal) = true
-is_normal (Some state.Active) = false
-is_normal (Some state.Disabled) = false
-is_normal (Some state.ReadOnly) = false
 
 -- whether scripts may change the text
 abbrev pub is_editable : Lines → Bool

@@ -8,7 +8,7 @@ ghost use Rattle.tks_lines.specs.Commands.{get_does, index_does, insert_does, de
 use crate::answers::{between, spelled};
 use crate::lines::TextWidget;
 use tks_list::{ListFault, split};
-use tks_opt::{Said, wrong_words};
+use tks_opt::{Said, too_few_words, wrong_words};
 use tks_text::{ErrorNumber, Failure, ScriptFault, Seq, Txt};
 
 impl TextWidget {
@@ -141,14 +141,8 @@ impl TextWidget {
         ensures err { OnErr result (self.new ≡ self.old) }
         ensures class { self.new.options.class ≡ self.old.options.class }
     {
-        let Some((path, behind)) = words.split_first() else {
-            return Err(Failure::Script(ScriptFault {
-                number: ErrorNumber::WrongWords,
-                subject: None,
-            }));
-        };
-        let Some((name, rest)) = behind.split_first() else {
-            return Err(wrong_words(path));
+        let [path, name, rest @ ..] = words else {
+            return Err(too_few_words(words));
         };
         let said = self.subcommand(path, name, rest)?;
         Ok(said)

@@ -1,6 +1,6 @@
 //! Changes of a text widget's text, marks and tags.
 ghost use Rattle.std.specs.Prelude.{◌≡◌, ◌≤◌, ◌<◌, ◌^◌, ◌+◌, true, false, length, map, IfOk, OnOk, OnErr};
-ghost use Rattle.tks_lines.specs.Lines.{cut, spliced, is_editable, at_most_last, inserted, inserted_with, deleted, with_mark, without_marks, turned_marks, with_tag, without_tags, tagged};
+ghost use Rattle.tks_lines.specs.Lines.{cut, spliced, at_most_last, inserted, inserted_with, deleted, with_mark, without_marks, turned_marks, with_tag, without_tags, tagged};
 
 use crate::lines::TextWidget;
 use crate::marks::{all_moved_back, all_moved_on, all_turned, with_mark, without_marks};
@@ -8,7 +8,6 @@ use crate::tags::{
     all_grown_among, all_grown_around, all_shrunk, all_tagged, with_tag, with_tags, without_tags,
 };
 use std::alloc::{AllocError, Global};
-use tks_opt::State;
 use tks_text::{Seq, Txt};
 
 // A text with more at a place.
@@ -49,23 +48,13 @@ impl TextWidget {
         place.min(self.len())
     }
 
-    // Whether scripts may change the text.
-    fn is_editable(&self) -> bool
-        ensures { result ≡ is_editable self.now }
-    {
-        match self.options.state() {
-            Some(State::Normal) => true,
-            _ => false,
-        }
-    }
-
     // Puts characters in at a place, with the tags on both sides.
     pub(crate) fn insert(&mut self, place: usize, more: &Txt) -> Result<(), AllocError>
         ensures ok { OnOk result (self.new ≡ inserted place more.now self.old) }
         ensures err { OnErr result (self.new ≡ self.old) }
         ensures class { self.new.options.class ≡ self.old.options.class }
     {
-        if !self.is_editable() {
+        if !self.options.is_editable() {
             return Ok(());
         }
         let len = self.len();
@@ -91,7 +80,7 @@ impl TextWidget {
         ensures err { OnErr result (self.new ≡ self.old) }
         ensures class { self.new.options.class ≡ self.old.options.class }
     {
-        if !self.is_editable() {
+        if !self.options.is_editable() {
             return Ok(());
         }
         let len = self.len();
@@ -114,7 +103,7 @@ impl TextWidget {
         ensures err { OnErr result (self.new ≡ self.old) }
         ensures class { self.new.options.class ≡ self.old.options.class }
     {
-        if !self.is_editable() {
+        if !self.options.is_editable() {
             return Ok(());
         }
         let text = text_without(self.alloc, &self.text, first, last)?;

@@ -1,3 +1,4 @@
+//! Which characters of a text have a tag.
 ghost use Rattle.std.specs.Prelude.{◌≡◌, ◌++◌, ◌<◌, ◌^◌, length, take, drop, replicate, false, ◌-◌, ◌≤◌, None, IfOk, OnOk, slice_get};
 ghost use Rattle.tks_lines.specs.Lines.{spliced, cut, painted, is_true};
 ghost use Rattle.tks_lines.specs.Ranges.{ranges_of, flags_of, AreRanges};

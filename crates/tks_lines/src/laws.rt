@@ -1,3 +1,4 @@
+//! Laws of text widgets.
 ghost use Rattle.std.specs.Prelude.{◌≡◌, ℕ, Bool, true, false, ◌+◌, ◌^◌, ◌<◌, ◌≤◌, List, length, take, Some, None};
 ghost use Rattle.tks_lines.specs.declared.parts.Mark.{Mark};
 ghost use Rattle.tks_lines.specs.declared.parts.Tag.{Tag};

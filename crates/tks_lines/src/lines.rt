@@ -1,3 +1,4 @@
+//! The text widget: characters in lines, tags, marks (text(n)).
 ghost use Rattle.std.specs.Prelude.{◌≡◌, ◌∷◌, [], IfOk, OnErr};
 ghost use Rattle.tks_text.specs.Fault.{Gives};
 ghost use Rattle.tks_text.specs.Short.{IsShort};

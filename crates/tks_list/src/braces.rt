@@ -1,3 +1,4 @@
+//! Where a brace closes.
 ghost use Rattle.std.specs.Prelude.{◌≡◌, ◌<◌, ◌≤◌, ◌+◌, ◌-◌, ◌^◌, length, IfSome};
 ghost use Rattle.tks_list.specs.Reading.{brace_after, closing_brace, no_braces};
 

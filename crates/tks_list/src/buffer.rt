@@ -1,3 +1,4 @@
+//! A buffer in which the characters of elements are made.
 ghost use Rattle.std.specs.Prelude.{◌≡◌, ◌++◌, [], ◌∷◌, OnOk, true};
 ghost use Rattle.tks_text.specs.Text.{is_text_byte, IsText};
 

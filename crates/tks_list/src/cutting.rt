@@ -1,3 +1,4 @@
+//! A text that is being cut into elements.
 ghost use Rattle.std.specs.Prelude.{◌≡◌, ◌≤◌, ◌++◌, [], ◌∷◌, length, IfOk, OnOk};
 ghost use Rattle.tks_text.specs.Text.{IsText};
 ghost use Rattle.tks_list.specs.Cuts.{cut, CutSoFar};

@@ -1,3 +1,4 @@
+//! The elements of a list, as spans of one buffer.
 ghost use Rattle.std.specs.Prelude.{◌≡◌, ◌<◌, ◌≤◌, ◌++◌, [], ◌∷◌, length, map, take, drop, get_or, position, IfOk, IfSome, OnOk, OnErr};
 ghost use Rattle.tks_text.specs.Short.{IsShort};
 ghost use Rattle.tks_text.specs.Text.{IsText, same_text};

@@ -1,3 +1,4 @@
+//! Where the characters of an element end.
 ghost use Rattle.std.specs.Prelude.{◌≡◌};
 ghost use Rattle.tks_list.specs.ListText.{ends_at};
 

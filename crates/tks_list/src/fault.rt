@@ -1,3 +1,4 @@
+//! Why a text gave no list.
 use std::alloc::AllocError;
 use thiserror::Error;
 

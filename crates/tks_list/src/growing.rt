@@ -1,3 +1,4 @@
+//! Texts that grow, and know of what list they are the text.
 ghost use Rattle.std.specs.Prelude.{◌≡◌, ◌++◌, length, true, IfOk, IfSome, OnOk, OnErr, Some, nat_le};
 ghost use Rattle.tks_text.specs.Text.{IsText};
 ghost use Rattle.tks_list.specs.Growing.{TakesElements};
@@ -62,8 +63,8 @@ impl Suffix {
     }
 }
 
-// A text of fewer bytes is read as quickly as a list that is kept of it is found.
-const LEAST_LEN: usize = 32;
+/// From how many bytes on it is worth while to keep the list of a text: a shorter one is read as quickly as its list is found.
+pub const LEAST_KEPT: usize = 32;
 
 /// A text that grows: it may know that it is a list with some elements, spelled as `join` spells lists, and then a further
 /// element joins it without the others being read. It may keep the list that it splits into, so that this is read once.
@@ -166,7 +167,7 @@ impl ListText {
     pub fn is_long(&self) -> bool
         ensures { result ≡ nat_le 32 (length self.now) }
     {
-        self.text.len() >= LEAST_LEN
+        self.text.len() >= LEAST_KEPT
     }
 
     /// The list that the text splits into, where it is kept.

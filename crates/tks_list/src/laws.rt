@@ -1,3 +1,4 @@
+//! Laws of lists.
 ghost use Rattle.std.specs.Prelude.{◌≡◌, ◌↔◌, [], ◌∷◌, List, ℕ, Some};
 ghost use Rattle.tks_list.specs.ListText.{Splits};
 ghost use Rattle.tks_list.specs.Quoting.{backslashed, joined};

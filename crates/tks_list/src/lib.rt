@@ -15,7 +15,7 @@ mod writing;
 
 pub use elements::Elements;
 pub use fault::ListFault;
-pub use growing::{ListText, Suffix};
+pub use growing::{LEAST_KEPT, ListText, Suffix};
 pub use laws::{backslash_form_splits_back, join_splits_back, one_list};
 pub use reading::{read, split};
 pub use writing::{backslash_form, join, quote};

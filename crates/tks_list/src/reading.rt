@@ -1,3 +1,4 @@
+//! Reading a list from its text.
 ghost use Rattle.std.specs.Prelude.{◌≡◌, ◌<◌, ◌≤◌, ◌+◌, ◌-◌, ◌++◌, [], ◌∷◌, List, ℕ, length, take, drop, IfOk, IfSome, OnOk, true};
 ghost use Rattle.std.specs.List.{prefix_len};
 ghost use Rattle.tks_text.specs.Text.{IsText, is_text_byte};

@@ -1,3 +1,4 @@
+//! Writing elements, quoted where they have to be.
 ghost use Rattle.std.specs.Prelude.{◌≡◌, ◌<◌, ◌≤◌, ◌+◌, ◌-◌, ◌^◌, ◌==◌, ◌++◌, not, IfOk, IfSome, OnOk, true};
 ghost use Rattle.std.specs.List.{list_all};
 ghost use Rattle.tks_text.specs.Text.{IsText, is_text_byte};

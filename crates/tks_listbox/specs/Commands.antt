@@ -5,11 +5,11 @@ use Rattle.tks_text.specs.Text.{same_text}
 use Rattle.tks_text.specs.Fault.{fault_about}
 use Rattle.tks_text.specs.Integer.{integer_of}
 use Rattle.tks_text.specs.declared.integer.Range.{Range}
-use Rattle.tks_text.specs.declared.fault.ErrorNumber.TheVariants.{WrongWords, NotAnInteger, OutOfRange}
+use Rattle.tks_text.specs.declared.fault.ErrorNumber.TheVariants.{NotAnInteger, OutOfRange}
 use Rattle.tks_text.specs.declared.fault.ScriptFault.{ScriptFault}
 use Rattle.tks_list.specs.Quoting.{joined}
 use Rattle.tks_opt.specs.Options.{after}
-use Rattle.tks_opt.specs.Calls.{wrong_words, subcommand_does}
+use Rattle.tks_opt.specs.Calls.{wrong_words, subcommand_does, with_subcommand}
 use Rattle.tks_opt.specs.declared.said.Said.{Said}
 use Rattle.tks_opt.specs.declared.said.Said.TheVariants.{Text}
 use Rattle.tks_listbox.specs.Listbox.{Listbox, index_in, last_of, rounded, front_of, behind_of, among, inserted, deleted, activated, selected, item_at, selected_from}
@@ -160,6 +160,4 @@ listbox_does path name words l =
 
 -- the words of a whole command, the listbox's path first
 abbrev pub called : Listbox → List (List ℕ) → Called
-called l [] = Err (record { number = WrongWords; subject = None })
-called l (path ∷ []) = wrong_words path
-called l (path ∷ name ∷ words) = listbox_does path name words l
+called l words = with_subcommand words (λ path name rest. listbox_does path name rest l)

@@ -10,10 +10,8 @@ use Rattle.tks_text.specs.declared.class.Class.TheVariants as class
 use Rattle.tks_text.specs.declared.fault.ErrorNumber.TheVariants.{BadIndex, OutOfRange}
 use Rattle.tks_text.specs.declared.fault.ScriptFault.{ScriptFault}
 use Rattle.tks_opt.specs.Options.{Options, first_options, value_in}
-use Rattle.tks_opt.specs.Values.{state_named}
+use Rattle.tks_opt.specs.Values.{state_named, is_normal}
 use Rattle.tks_opt.specs.declared.name.OptionName.TheVariants as name
-use Rattle.tks_opt.specs.declared.state.State.{State}
-use Rattle.tks_opt.specs.declared.state.State.TheVariants as state
 use Rattle.tks_listbox.specs.declared.item.Item.{Item}
 
 pub record Listbox : Type 0 where
@@ -85,13 +83,6 @@ abbrev pub among : {X : Type 0} → ℕ → ℕ → List X → List X
 among front behind items = take (behind - front) (drop front items)
 
 -- ---- changes
-
-abbrev pub is_normal : Option State → Bool
-is_normal None = false
-is_normal (Some state.Normal) = true
-is_normal (Some state.Active) = false
-is_normal (Some state.Disabled) = false
-is_normal (Some state.ReadOnly) = false
 
 -- whether scripts may change items and selection
 abbrev pub is_editable : Listbox → Bool

@@ -13,7 +13,7 @@ use crate::items::{among, selected_texts, texts_of};
 use crate::listbox::{ListWidget, behind_of, front_of, rounded};
 use std::alloc::AllocError;
 use tks_list::join;
-use tks_opt::{Said, wrong_words};
+use tks_opt::{Said, too_few_words, wrong_words};
 use tks_text::{ErrorNumber, Failure, ScriptFault, Txt, decimal_of, integer_of};
 
 // A number of a row.
@@ -345,14 +345,8 @@ impl ListWidget {
         ensures err { OnErr result (self.new ≡ self.old) }
         ensures class { self.new.options.class ≡ self.old.options.class }
     {
-        let Some((path, behind)) = words.split_first() else {
-            return Err(Failure::Script(ScriptFault {
-                number: ErrorNumber::WrongWords,
-                subject: None,
-            }));
-        };
-        let Some((name, rest)) = behind.split_first() else {
-            return Err(wrong_words(path));
+        let [path, name, rest @ ..] = words else {
+            return Err(too_few_words(words));
         };
         let said = self.subcommand(path, name, rest)?;
         Ok(said)

@@ -1,3 +1,4 @@
+//! An item of a listbox.
 ghost use Rattle.std.specs.Prelude.{◌≡◌, IfOk};
 ghost use Rattle.tks_listbox.specs.Listbox.{new_item, turned};
 

@@ -1,3 +1,4 @@
+//! Laws of listboxes.
 ghost use Rattle.std.specs.Prelude.{ℕ, true, ◌≡◌, ◌+◌, ◌≤◌, ◌<◌, List, length, Some};
 ghost use Rattle.tks_text.specs.declared.class.Class.TheVariants as class;
 ghost use Rattle.tks_opt.specs.Options.{Options};

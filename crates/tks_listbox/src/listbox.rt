@@ -1,16 +1,17 @@
+//! The listbox: items, the active one, and which are selected (listbox(n)).
 ghost use Rattle.std.specs.Prelude.{◌≡◌, ◌≤◌, ◌<◌, ◌^◌, length, IfOk, OnOk, OnErr};
 ghost use Rattle.tks_text.specs.Fault.{Gives};
 ghost use Rattle.tks_text.specs.Short.{IsShort};
 ghost use Rattle.tks_text.specs.declared.class.Class.TheVariants as class;
 ghost use Rattle.tks_opt.specs.Options.{configured};
-ghost use Rattle.tks_listbox.specs.Listbox.{first_listbox, HasActive, has_active, restored, index_in, last_of, rounded, front_of, behind_of, is_editable, moved_on, moved_back, inserted, deleted, activated, selected};
+ghost use Rattle.tks_listbox.specs.Listbox.{first_listbox, HasActive, has_active, restored, index_in, last_of, rounded, front_of, behind_of, moved_on, moved_back, inserted, deleted, activated, selected};
 ghost use Rattle.tks_listbox.specs.Commands.{behind_index, item_index};
 
 use crate::item::Item;
 use crate::items::{copies, turned_in, with_new, without};
 use std::alloc::{AllocError, Global};
 use std::marker::Model;
-use tks_opt::{Options, State};
+use tks_opt::Options;
 use tks_text::{Class, ErrorNumber, Failure, ScriptFault, Seq, Txt, integer_of};
 
 /// A listbox (listbox(n)): items, one of which is active, and each of which is selected or not.
@@ -228,16 +229,6 @@ impl ListWidget {
         Ok(number)
     }
 
-    // Whether scripts may change items and selection.
-    fn is_editable(&self) -> bool
-        ensures { result ≡ is_editable self.now }
-    {
-        match self.options.state() {
-            Some(State::Normal) => true,
-            _ => false,
-        }
-    }
-
     // Puts items with these texts in at a place.
     pub(crate) fn insert(&mut self, place: usize, texts: &[Txt]) -> Result<(), AllocError>
         requires { place ≤ length self.old.items }
@@ -245,7 +236,7 @@ impl ListWidget {
         ensures err { OnErr result (self.new ≡ self.old) }
         ensures class { self.new.options.class ≡ self.old.options.class }
     {
-        if !self.is_editable() {
+        if !self.options.is_editable() {
             return Ok(());
         }
         let len = self.len();
@@ -262,7 +253,7 @@ impl ListWidget {
         ensures err { OnErr result (self.new ≡ self.old) }
         ensures class { self.new.options.class ≡ self.old.options.class }
     {
-        if front >= behind || !self.is_editable() {
+        if front >= behind || !self.options.is_editable() {
             return Ok(());
         }
         let len = self.len();
@@ -286,7 +277,7 @@ impl ListWidget {
         ensures err { OnErr result (self.new ≡ self.old) }
         ensures class { self.new.options.class ≡ self.old.options.class }
     {
-        if !self.is_editable() {
+        if !self.options.is_editable() {
             return Ok(());
         }
         self.items = turned_in(self.alloc, self.items.as_slice(), on, front, behind)?;

@@ -36,8 +36,17 @@ subcommand_does path name words t =
     if same_text name (codes "configure") then configure_does path words t
     else (if same_text name (codes "cget") then cget_does path words t else wrong_words path)
 
+-- the error about too few words of a whole command: about the window's path, where that is there
+abbrev pub too_few : List (List ℕ) → ScriptFault
+too_few [] = record { number = WrongWords; subject = None }
+too_few (path ∷ words) = fault_about WrongWords path
+
+-- what a whole command does, whose words are the window's path, a subcommand and the words behind it
+abbrev pub with_subcommand : {X : Type 0} → List (List ℕ) → (List ℕ → List ℕ → List (List ℕ) → Result X ScriptFault) → Result X ScriptFault
+with_subcommand [] does = Err (too_few [])
+with_subcommand (path ∷ []) does = Err (too_few (path ∷ []))
+with_subcommand (path ∷ name ∷ words) does = does path name words
+
 -- the words of a whole command, the window's path first
 abbrev pub called : Options → List (List ℕ) → Called
-called t [] = Err (record { number = WrongWords; subject = None })
-called t (path ∷ []) = wrong_words path
-called t (path ∷ name ∷ words) = subcommand_does path name words t
+called t words = with_subcommand words (λ path name rest. subcommand_does path name rest t)

@@ -1,6 +1,6 @@
 -- What values of options spell (options(n), pack(n)); sizes, and what is told of no value, are this
 -- project's own.
-use Rattle.std.specs.Prelude.{ℕ, Bool, true, ◌&&◌, ◌==◌, not, nat_le, if◌then◌else◌, List, [], ◌∷◌, ℤ, pos, negsuc, Option, Some, None, Result, Ok, Err, codes}
+use Rattle.std.specs.Prelude.{ℕ, Bool, true, false, ◌&&◌, ◌==◌, not, nat_le, if◌then◌else◌, List, [], ◌∷◌, ℤ, pos, negsuc, Option, Some, None, Result, Ok, Err, codes}
 use Rattle.tks_text.specs.Text.{same_text}
 use Rattle.tks_text.specs.Integer.{integer_of}
 use Rattle.tks_text.specs.Truth.{truth_of_word}
@@ -55,3 +55,11 @@ states = (codes "normal", state.Normal) ∷ (codes "active", state.Active) ∷ (
 
 abbrev pub state_named : List ℕ → Option State
 state_named text = named_in states text
+
+-- is it the state in which scripts may change what a widget holds?
+abbrev pub is_normal : Option State → Bool
+is_normal None = false
+is_normal (Some state.Normal) = true
+is_normal (Some state.Active) = false
+is_normal (Some state.Disabled) = false
+is_normal (Some state.ReadOnly) = false

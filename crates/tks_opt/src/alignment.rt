@@ -1,3 +1,4 @@
+//! Where something is put along one axis.
 ghost use Rattle.std.specs.Prelude.{◌≡◌, ◌≤◌};
 ghost use Rattle.tks_opt.specs.Alignment.{horizontal, vertical, gap};
 

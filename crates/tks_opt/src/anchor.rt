@@ -1,3 +1,4 @@
+//! Anchors (options(n), `-anchor`).
 ghost use Rattle.std.specs.Prelude.{◌≡◌};
 ghost use Rattle.tks_opt.specs.Numbers.{anchor_number, anchor_numbered};
 ghost use Rattle.tks_opt.specs.Values.{anchor_named};

@@ -2,7 +2,7 @@
 ghost use Rattle.std.specs.Prelude.{◌≡◌, OnErr};
 ghost use Rattle.tks_text.specs.Fault.{Gives, fault_about, TellsSo};
 ghost use Rattle.tks_text.specs.declared.fault.ErrorNumber.TheVariants.{WrongWords};
-ghost use Rattle.tks_opt.specs.Calls.{are_pairs, configure_does, cget_does, subcommand_does, called};
+ghost use Rattle.tks_opt.specs.Calls.{are_pairs, configure_does, cget_does, subcommand_does, too_few, called};
 
 use crate::options::Options;
 use crate::said::Said;
@@ -13,6 +13,19 @@ pub fn wrong_words(path: &Txt) -> Failure
     ensures { TellsSo (fault_about WrongWords path.now) result }
 {
     Failure::about(ErrorNumber::WrongWords, path)
+}
+
+/// The error about too few words of a widget's whole command: about the window's path, where that is there.
+pub fn too_few_words(words: &[Txt]) -> Failure
+    ensures { TellsSo (too_few words.now) result }
+{
+    match words {
+        [] => Failure::Script(ScriptFault {
+            number: ErrorNumber::WrongWords,
+            subject: None,
+        }),
+        [path, ..] => wrong_words(path),
+    }
 }
 
 /// Whether words are pairs, one or more.
@@ -72,14 +85,8 @@ impl Options {
         ensures err { OnErr result (self.new ≡ self.old) }
         ensures class { self.new.class ≡ self.old.class }
     {
-        let Some((path, behind)) = words.split_first() else {
-            return Err(Failure::Script(ScriptFault {
-                number: ErrorNumber::WrongWords,
-                subject: None,
-            }));
-        };
-        let Some((name, rest)) = behind.split_first() else {
-            return Err(wrong_words(path));
+        let [path, name, rest @ ..] = words else {
+            return Err(too_few_words(words));
         };
         let said = self.subcommand(path, name, rest)?;
         Ok(said)

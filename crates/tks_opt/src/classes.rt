@@ -1,3 +1,4 @@
+//! The numbers of classes, as bytes tell them.
 ghost use Rattle.std.specs.Prelude.{◌≡◌};
 ghost use Rattle.tks_opt.specs.Numbers.{class_number, class_numbered};
 

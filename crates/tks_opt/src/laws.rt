@@ -1,3 +1,4 @@
+//! Laws of options.
 ghost use Rattle.std.specs.Prelude.{◌≡◌, ℕ, List, Some};
 ghost use Rattle.tks_text.specs.declared.class.Class.{Class};
 ghost use Rattle.tks_opt.specs.declared.anchor.Anchor.{Anchor};

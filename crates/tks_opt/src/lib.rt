@@ -16,7 +16,7 @@ mod table;
 
 pub use alignment::Alignment;
 pub use anchor::Anchor;
-pub use calls::{are_pairs, wrong_words};
+pub use calls::{are_pairs, too_few_words, wrong_words};
 pub use cells::{blank_row, blank_rows, line_row};
 pub use classes::{class_number, class_numbered};
 pub use laws::{

@@ -1,3 +1,4 @@
+//! The names of options.
 ghost use Rattle.std.specs.Prelude.{◌≡◌};
 ghost use Rattle.tks_opt.specs.Values.{named_in};
 ghost use Rattle.tks_opt.specs.Table.{common_names, shown_names, done_names, option_named};

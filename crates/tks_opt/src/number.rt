@@ -1,3 +1,4 @@
+//! Numbers and truth values as values of options.
 ghost use Rattle.std.specs.Prelude.{◌≡◌};
 ghost use Rattle.tks_opt.specs.Values.{number_within, boolean};
 

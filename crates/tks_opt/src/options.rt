@@ -1,9 +1,10 @@
+//! The options of a window: just those of its class, each with a legal value.
 ghost use Rattle.std.specs.Prelude.{◌≡◌, ◌<◌, ◌^◌, length, IfOk, OnErr, [], true, Some, option_map, option_and_then, slice_get};
 ghost use Rattle.std.specs.List.{zip};
 ghost use Rattle.indexmap.specs.IndexMap.{insert_all};
 ghost use Rattle.tks_text.specs.Fault.{Gives};
 ghost use Rattle.tks_opt.specs.Table.{option_named, max_size};
-ghost use Rattle.tks_opt.specs.Values.{number_within, anchor_named, state_named};
+ghost use Rattle.tks_opt.specs.Values.{is_normal, number_within, anchor_named, state_named};
 ghost use Rattle.tks_opt.specs.Options.{Legal, first_options, had, has_option, value_in, value_of, values_in_order, with_value, configured, replaced, same_name, are_values, restored};
 
 use crate::anchor::Anchor;
@@ -175,6 +176,16 @@ impl Options {
         ensures { result ≡ option_and_then state_named (value_in self.now.values OptionName.State) }
     {
         State::named(self.value(OptionName::State)?)
+    }
+
+    /// Whether scripts may change what the widget holds: its state is `normal`.
+    pub fn is_editable(&self) -> bool
+        ensures { result ≡ is_normal (option_and_then state_named (value_in self.now.values OptionName.State)) }
+    {
+        match self.state() {
+            Some(State::Normal) => true,
+            _ => false,
+        }
     }
 
     /// The value of the option that a text names: a class without such an option is an error about the text.

@@ -1,3 +1,4 @@
+//! What a widget's subcommand answers.
 use tks_text::Txt;
 
 /// What a subcommand of a widget comes to.
@@ -6,5 +7,5 @@ pub enum Said {
     /// This text is its answer.
     Text(Txt),
     /// What this script answers, run at global level.
-    Eval(Txt),
+    Run(Txt),
 }

@@ -1,3 +1,4 @@
+//! The states that `-state` names.
 ghost use Rattle.std.specs.Prelude.{◌≡◌};
 ghost use Rattle.tks_opt.specs.Values.{state_named};
 

@@ -1,94 +1,92 @@
 -- A window's place among contents.
-use Rattle.std.proofs.Common.{◌≡◌, ◌<◌, ◌≤◌, ℕ, zero, suc, ◌+◌, ◌==◌, Bool, true, false, not, cond, nat_lt, if◌then◌else◌, List, [], ◌∷◌, ◌++◌, length, take, drop, set, get_or, Some, None, position, refl, ap, arith}
-use Rattle.std.specs.List.{prefix_len}
-use Rattle.std.proofs.lemmas.Bool.Decides.{nat_tests}
-use Rattle.std.proofs.lemmas.List.Quantifiers.{position-Some}
+use Rattle.std.specs.List.{remove}
+use Rattle.std.proofs.Common.{◌≡◌, ◌<◌, ◌≤◌, ℕ, zero, suc, ◌==◌, Bool, true, false, List, [], ◌∷◌, ◌++◌, length, slice_set, refl, ap, arith}
+use Rattle.std.proofs.lemmas.Bool.{eqb-true}
 use Rattle.tks_pack.specs.declared.packing.Content.{Content}
-use Rattle.tks_pack.specs.declared.settings.Settings.{Settings}
+use Rattle.tks_pack.specs.Indexes.{index_of, AllUpTo}
 use Rattle.tks_pack.specs.Packing.{settings_of, put, taken_out}
 use Rattle.tks_pack.specs.Settings.{default_settings}
 
-module _ (w : ℕ) where
-  abbrev is : Content → Bool
-  is c = c.window == w
+-- ---- windows that were made later than all that are packed
 
-  abbrev pub new : Settings → Content
-  new p = record { window = w; settings = p }
+newer : (a w n : ℕ) → a ≤ n → n < w → (a == w) ≡ false
+newer a w n h k = by (a == w) refl
+  where
+    by : (b : Bool) → (a == w) ≡ b → (a == w) ≡ false
+    by true e = absurd (let same = eqb-true a w e in omega (arith, same, h, k))
+    by false e = e
 
-  -- the first content of the window is the one at i
-  abbrev First : List Content → ℕ → Content → Type 0
-  First cs i d = (i < length cs) × (is (get_or cs i d) ≡ true) × ((k : ℕ) → k < i → is (get_or cs k d) ≡ false)
+pub settings_new : (w n : ℕ) (cs : List Content) → AllUpTo n cs → n < w → settings_of w cs ≡ default_settings
+settings_new w n [] h k = refl
+settings_new w n (c ∷ cs) h k = rw (newer c.window w n h.0 k) (settings_new w n cs h.1 k)
 
-  behind : (c : Content) (cs : List Content) (i : ℕ) (d : Content) → First (c ∷ cs) (suc i) d → First cs i d
-  behind c cs i d h = (omega (arith, h.0), h.1, λ k l. h.2 (suc k) (omega (arith, l)))
+pub index_new : (w n : ℕ) (cs : List Content) → AllUpTo n cs → n < w → index_of w cs ≡ length cs
+index_new w n [] h k = refl
+index_new w n (c ∷ cs) h k = rw (newer c.window w n h.0 k) (ap suc (index_new w n cs h.1 k))
 
-  first_other : (c : Content) (cs : List Content) (i : ℕ) (d : Content) → First (c ∷ cs) (suc i) d → is c ≡ false
-  first_other c cs i d h = h.2 0 (omega arith)
+-- ---- what is done to contents
 
-  put_first : (p : Settings) (cs : List Content) (i : ℕ) (d : Content) → First cs i d → put w p cs ≡ set cs i (new p)
-  put_first p [] i d h = absurd (omega (arith, h.0))
-  put_first p (c ∷ cs) zero d h = rw h.1 refl
-  put_first p (c ∷ cs) (suc i) d h = rw (first_other c cs i d h) (ap {B = List Content} (λ r. c ∷ r) (put_first p cs i d (behind c cs i d h)))
+-- where it is there, it is replaced
+pub put_there : (d : Content) (cs : List Content) → index_of d.window cs < length cs → slice_set cs (index_of d.window cs) d ≡ put d.window d.settings cs
+put_there d [] h = absurd (omega (arith, h))
+put_there d (c ∷ cs) h = by (c.window == d.window) refl h (put_there d cs)
+  where
+    by : (t : Bool) → (c.window == d.window) ≡ t → index_of d.window (c ∷ cs) < suc (length cs)
+        → (index_of d.window cs < length cs → slice_set cs (index_of d.window cs) d ≡ put d.window d.settings cs)
+        → slice_set (c ∷ cs) (index_of d.window (c ∷ cs)) d ≡ put d.window d.settings (c ∷ cs)
+    by true e i rest = rw e refl
+    by false e i rest = rw e (let j : suc (index_of d.window cs) < suc (length cs) = rw e at i in ap (λ r. c ∷ r) (rest (omega arith)))
 
-  settings_first : (cs : List Content) (i : ℕ) (d : Content) → First cs i d → settings_of w cs ≡ (get_or cs i d).settings
-  settings_first [] i d h = absurd (omega (arith, h.0))
-  settings_first (c ∷ cs) zero d h = rw h.1 refl
-  settings_first (c ∷ cs) (suc i) d h = rw (first_other c cs i d h) (settings_first cs i d (behind c cs i d h))
+-- where it isn't, it comes last
+pub put_last : (d : Content) (cs : List Content) → length cs ≤ index_of d.window cs → cs ++ d ∷ [] ≡ put d.window d.settings cs
+put_last d [] h = refl
+put_last d (c ∷ cs) h = by (c.window == d.window) refl h (put_last d cs)
+  where
+    by : (t : Bool) → (c.window == d.window) ≡ t → suc (length cs) ≤ index_of d.window (c ∷ cs)
+        → (length cs ≤ index_of d.window cs → cs ++ d ∷ [] ≡ put d.window d.settings cs) → (c ∷ cs) ++ d ∷ [] ≡ put d.window d.settings (c ∷ cs)
+    by true e i rest = absurd (let j : suc (length cs) ≤ 0 = rw e at i in omega arith)
+    by false e i rest = rw e (let j : suc (length cs) ≤ suc (index_of d.window cs) = rw e at i in ap (λ r. c ∷ r) (rest (omega arith)))
 
-  taken_first : (cs : List Content) (i : ℕ) (d : Content) → First cs i d → taken_out w cs ≡ take i cs ++ drop (suc i) cs
-  taken_first [] i d h = absurd (omega (arith, h.0))
-  taken_first (c ∷ cs) zero d h = rw h.1 refl
-  taken_first (c ∷ cs) (suc i) d h = rw (first_other c cs i d h) (ap {B = List Content} (λ r. c ∷ r) (taken_first cs i d (behind c cs i d h)))
+pub taken_there : (w : ℕ) (cs : List Content) → index_of w cs < length cs → remove cs (index_of w cs) ≡ taken_out w cs
+taken_there w [] h = absurd (omega (arith, h))
+taken_there w (c ∷ cs) h = by (c.window == w) refl h (taken_there w cs)
+  where
+    by : (t : Bool) → (c.window == w) ≡ t → index_of w (c ∷ cs) < suc (length cs) → (index_of w cs < length cs → remove cs (index_of w cs) ≡ taken_out w cs)
+        → remove (c ∷ cs) (index_of w (c ∷ cs)) ≡ taken_out w (c ∷ cs)
+    by true e i rest = rw e refl
+    by false e i rest = rw e (let j : suc (index_of w cs) < suc (length cs) = rw e at i in ap (λ r. c ∷ r) (rest (omega arith)))
 
-  -- the window is among the contents
-  pub put_at : (p : Settings) (cs : List Content) (i : ℕ) (d : Content) → position is cs ≡ Some i → put w p cs ≡ set cs i (new p)
-  put_at p cs i d e = put_first p cs i d (position-Some is cs i d e)
+pub none_taken : (w : ℕ) (cs : List Content) → length cs ≤ index_of w cs → cs ≡ taken_out w cs
+none_taken w [] h = refl
+none_taken w (c ∷ cs) h = by (c.window == w) refl h (none_taken w cs)
+  where
+    by : (t : Bool) → (c.window == w) ≡ t → suc (length cs) ≤ index_of w (c ∷ cs) → (length cs ≤ index_of w cs → cs ≡ taken_out w cs)
+        → c ∷ cs ≡ taken_out w (c ∷ cs)
+    by true e i rest = absurd (let j : suc (length cs) ≤ 0 = rw e at i in omega arith)
+    by false e i rest = rw e (let j : suc (length cs) ≤ suc (index_of w cs) = rw e at i in ap (λ r. c ∷ r) (rest (omega arith)))
 
-  pub settings_at : (cs : List Content) (i : ℕ) (d : Content) → position is cs ≡ Some i → settings_of w cs ≡ (get_or cs i d).settings
-  settings_at cs i d e = settings_first cs i d (position-Some is cs i d e)
+-- ---- that none is newer
 
-  pub taken_at : (cs : List Content) (i : ℕ) (d : Content) → position is cs ≡ Some i → taken_out w cs ≡ take i cs ++ drop (suc i) cs
-  taken_at cs i d e = taken_first cs i d (position-Some is cs i d e)
+pub up_to_more : (m n : ℕ) (cs : List Content) → m ≤ n → AllUpTo m cs → AllUpTo n cs
+up_to_more m n [] le h = tt
+up_to_more m n (c ∷ cs) le h = (omega (arith, le, h.0), up_to_more m n cs le h.1)
 
-  -- it isn't
-  abbrev Others : List Content → ℕ
-  Others cs = prefix_len (λ c. not (is c)) cs
+pub up_to_pushed : (n : ℕ) (cs : List Content) (d : Content) → AllUpTo n cs → d.window ≤ n → AllUpTo n (cs ++ d ∷ [])
+up_to_pushed n [] d h k = (k, tt)
+up_to_pushed n (c ∷ cs) d h k = (h.0, up_to_pushed n cs d h.1 k)
 
-  absent : (a b : ℕ) → cond (nat_lt a b) (Some a) None ≡ None → b ≤ a
-  absent a b e = grind (arith, nat_tests)
+-- one takes the place of the same window's
+pub up_to_set : (n : ℕ) (cs : List Content) (d : Content) → AllUpTo n cs → index_of d.window cs < length cs → AllUpTo n (slice_set cs (index_of d.window cs) d)
+up_to_set n [] d h k = absurd (omega (arith, k))
+up_to_set n (c ∷ cs) d h k = by (c.window == d.window) refl k (up_to_set n cs d h.1)
+  where
+    by : (t : Bool) → (c.window == d.window) ≡ t → index_of d.window (c ∷ cs) < suc (length cs)
+        → (index_of d.window cs < length cs → AllUpTo n (slice_set cs (index_of d.window cs) d)) → AllUpTo n (slice_set (c ∷ cs) (index_of d.window (c ∷ cs)) d)
+    by true e i rest = rw e (let same = eqb-true c.window d.window e in (omega (arith, h.0, same), h.1))
+    by false e i rest = rw e (let j : suc (index_of d.window cs) < suc (length cs) = rw e at i in (h.0, rest (omega arith)))
 
-  put_last : (p : Settings) (cs : List Content) → length cs ≤ Others cs → put w p cs ≡ cs ++ new p ∷ []
-  put_last p [] h = refl
-  put_last p (c ∷ cs) h =
-      let P : Bool → Type 0 = λ b. (1 + length cs ≤ cond (not b) (1 + Others cs) 0) → (if b then new p ∷ cs else c ∷ put w p cs) ≡ c ∷ (cs ++ new p ∷ []) in
-      elim (is c) as P [
-        | true ↦ λ (k : 1 + length cs ≤ 0). absurd (omega arith)
-        | false ↦ λ (k : 1 + length cs ≤ 1 + Others cs). ap {B = List Content} (λ r. c ∷ r) (put_last p cs (omega arith))
-      ] (omega arith)
-
-  settings_default : (cs : List Content) → length cs ≤ Others cs → settings_of w cs ≡ default_settings
-  settings_default [] h = refl
-  settings_default (c ∷ cs) h =
-      let P : Bool → Type 0 = λ b. (1 + length cs ≤ cond (not b) (1 + Others cs) 0) → (if b then c.settings else settings_of w cs) ≡ default_settings in
-      elim (is c) as P [
-        | true ↦ λ (k : 1 + length cs ≤ 0). absurd (omega arith)
-        | false ↦ λ (k : 1 + length cs ≤ 1 + Others cs). settings_default cs (omega arith)
-      ] (omega arith)
-
-  taken_none : (cs : List Content) → length cs ≤ Others cs → taken_out w cs ≡ cs
-  taken_none [] h = refl
-  taken_none (c ∷ cs) h =
-      let P : Bool → Type 0 = λ b. (1 + length cs ≤ cond (not b) (1 + Others cs) 0) → (if b then cs else c ∷ taken_out w cs) ≡ c ∷ cs in
-      elim (is c) as P [
-        | true ↦ λ (k : 1 + length cs ≤ 0). absurd (omega arith)
-        | false ↦ λ (k : 1 + length cs ≤ 1 + Others cs). ap {B = List Content} (λ r. c ∷ r) (taken_none cs (omega arith))
-      ] (omega arith)
-
-  pub put_new : (p : Settings) (cs : List Content) → position is cs ≡ None → put w p cs ≡ cs ++ new p ∷ []
-  put_new p cs e = put_last p cs (absent (Others cs) (length cs) e)
-
-  pub settings_new : (cs : List Content) → position is cs ≡ None → settings_of w cs ≡ default_settings
-  settings_new cs e = settings_default cs (absent (Others cs) (length cs) e)
-
-  pub taken_new : (cs : List Content) → position is cs ≡ None → taken_out w cs ≡ cs
-  taken_new cs e = taken_none cs (absent (Others cs) (length cs) e)
+pub up_to_removed : (n : ℕ) (cs : List Content) (i : ℕ) → AllUpTo n cs → AllUpTo n (remove cs i)
+up_to_removed n [] zero h = tt
+up_to_removed n [] (suc i) h = tt
+up_to_removed n (c ∷ cs) zero h = h.1
+up_to_removed n (c ∷ cs) (suc i) h = (h.0, up_to_removed n cs i h.1)

@@ -1,3 +1,4 @@
+-- The definitions that contracts cite.
 pub mod Padding
 pub mod Settings
 pub mod Stretch
@@ -9,3 +10,4 @@ pub mod Shares
 pub mod Laws
 pub mod Meets
 pub mod Numbers
+pub mod Indexes

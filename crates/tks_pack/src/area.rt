@@ -1,3 +1,4 @@
+//! Cells of the grid: an area, and an extent.
 /// A size in cells.
 #[derive(Clone, Copy, Debug)]
 pub struct Extent {

@@ -1,3 +1,4 @@
+//! Laws of the packer.
 ghost use Rattle.std.specs.Prelude.{List, ◌∷◌, ◌≡◌, ◌≤◌, ◌↔◌, ℕ, Some, true};
 ghost use Rattle.std.specs.List.{AllByRecursion};
 ghost use Rattle.tks_pack.specs.declared.area.Extent.{Extent};

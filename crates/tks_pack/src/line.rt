@@ -1,3 +1,4 @@
+//! Where windows lie along one axis, and what a container asks for along it.
 ghost use Rattle.std.specs.Prelude.{◌≡◌, ℕ, ◌<◌, ◌≤◌, ◌+◌, ◌-◌, ◌^◌, max, IfOk, min};
 ghost use Rattle.tks_pack.specs.Stretch.{outer};
 ghost use Rattle.tks_pack.specs.Packer.{parcel_at, behind, shown_length, within, spans, request_before, request};

@@ -1,3 +1,4 @@
+//! What contents ask for up to one of them, and how many share up to it.
 ghost use Rattle.std.specs.Prelude.{◌≡◌, ◌<◌, ◌≤◌, ◌+◌, ◌-◌, ◌/◌, ◌^◌, ℕ, IfOk};
 ghost use Rattle.tks_pack.specs.Requests.{too_long};
 ghost use Rattle.tks_pack.specs.Notes.{asked_with, note_at, past, no_note, notes};

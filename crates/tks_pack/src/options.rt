@@ -1,3 +1,4 @@
+//! The packer's options.
 ghost use Rattle.std.specs.Prelude.{◌≡◌, drop};
 ghost use Rattle.tks_text.specs.Fault.{Gives};
 ghost use Rattle.tks_pack.specs.Settings.{side_of, fill_of, padding_of, option_of, changed, with_option, with_options};

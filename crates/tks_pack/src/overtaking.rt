@@ -1,3 +1,4 @@
+//! Which note overtakes another, and from which share on.
 ghost use Rattle.std.specs.Prelude.{◌≡◌, ◌<◌, ◌≤◌, ◌+◌, length, IfOk};
 ghost use Rattle.tks_pack.specs.Notes.{Rise, Overtaken, AreOvertaken};
 

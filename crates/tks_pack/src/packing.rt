@@ -1,5 +1,6 @@
-ghost use Rattle.std.specs.Prelude.{◌≡◌, ◌==◌, length, position, map, IfOk, OnOk, OnErr};
-ghost use Rattle.tks_text.specs.Short.{IsShort};
+//! What is packed in a container.
+ghost use Rattle.std.specs.Prelude.{◌≡◌, ◌++◌, ◌∷◌, [], ◌<◌, ◌≤◌, ◌^◌, length, IfOk, OnOk, OnErr};
+ghost use Rattle.tks_pack.specs.Indexes.{index_of};
 ghost use Rattle.tks_pack.specs.Meets.{PacksSo};
 ghost use Rattle.tks_pack.specs.Packing.{nothing_packed, settings_of, put, packed, forgotten, area, areas, horizontals, verticals, places, requested};
 
@@ -10,7 +11,8 @@ use crate::settings::Settings;
 use crate::stretch::Stretch;
 use std::alloc::{AllocError, Global};
 use std::marker::Model;
-use tks_text::{ErrorNumber, Failure, ScriptFault, Seq, Txt};
+use tks_share::{Items, SharedList};
+use tks_text::{ErrorNumber, Failure, ScriptFault, Txt};
 use tks_tree::WindowId;
 
 /// A packed window, and how it is packed.
@@ -33,10 +35,12 @@ pub trait Requests {
 }
 
 /// The windows that are packed in a container, in order, and whether the container asks to be as large as they
-/// need.
+/// need. Copies share what they have in common.
 pub struct Packing {
     alloc: Global,
-    contents: Seq<Content>,
+    contents: SharedList<Content>,
+    // No packed window has a greater number, so that one that was made later is known to be new here.
+    newest: u64,
     propagates: bool,
 }
 
@@ -46,6 +50,7 @@ impl Drop for Packing {
         let Packing {
             alloc: _,
             contents: _,
+            newest: _,
             propagates: _,
         } = self;
     }
@@ -57,47 +62,37 @@ impl Model for Packing {
     ghost Value = { Packed };
 
     ghost view = { λ p. record { contents = p.contents; propagates = p.propagates } };
+
+    ghost use Rattle.tks_pack.specs.Indexes.{AllUpTo};
+
+    ghost invariant = { λ p. AllUpTo p.newest p.contents };
 }
 
-// Where a window stands among contents.
-fn position(contents: &[Content], window: WindowId) -> Option<usize>
-    ensures { result ≡ position (λ c. c.window == window) contents.now }
+// The index of a window among contents, or their end.
+fn index_of(contents: &SharedList<Content>, window: WindowId) -> usize
+    ensures { result ≡ index_of window contents.now }
 {
-    contents.iter().position(|content| content.window == window)
+    let len = contents.len();
+    let mut left = len;
+    for content in contents.iter() {
+        if content.window == window {
+            return len - left;
+        }
+        left -= 1;
+    }
+    len
 }
 
 // How a window is packed, or would be if no option were given.
-#[tactic(auto, using(crate::proofs::Contents::settings_at, crate::proofs::Contents::settings_new))]
-fn settings_of(contents: &[Content], window: WindowId) -> Settings
+fn settings_of(contents: &SharedList<Content>, window: WindowId) -> Settings
     ensures { result ≡ settings_of window contents.now }
 {
-    match position(contents, window) {
-        Some(index) => contents[index].settings,
-        None => Settings::new(),
+    for content in contents.iter() {
+        if content.window == window {
+            return content.settings;
+        }
     }
-}
-
-// Puts a content in the place of the window's present one, or behind all where it has none.
-fn put(contents: &mut Seq<Content>, content: Content) -> Result<(), AllocError>
-    ensures ok { OnOk result (contents.new ≡ put content.window content.settings contents.old) }
-    ensures err { OnErr result (contents.new ≡ contents.old) }
-{
-    match position(contents.as_slice(), content.window) {
-        Some(index) => contents.set(index, content),
-        None => contents.push(content)?,
-    }
-    Ok(())
-}
-
-// Equal contents.
-fn copied(alloc: Global, contents: &[Content]) -> Result<Seq<Content>, AllocError>
-    ensures { IfOk result (λ copy. copy ≡ contents.now) }
-{
-    let mut copy = Seq::new(alloc);
-    for content in contents {
-        copy.push(*content)?;
-    }
-    Ok(copy)
+    Settings::new()
 }
 
 // A window's cells by its places along the axes.
@@ -138,12 +133,12 @@ fn areas(
 // What contents ask for from left to right.
 fn horizontals<R: Requests>(
     alloc: Global,
-    contents: &[Content],
+    contents: Items<'_, Content>,
     requests: &R,
 ) -> Result<Vec<Stretch>, AllocError>
-    ensures { IfOk result (λ v. v.items ≡ horizontals (R.size requests.now) contents.now) }
+    ensures { IfOk result (λ v. v.items ≡ horizontals (R.size requests.now) contents.entry) }
 {
-    let mut stretches = Vec::with_capacity(alloc, contents.len())?;
+    let mut stretches = Vec::new(alloc);
     for content in contents {
         let size = requests.requested(content.window);
         stretches.push(Stretch::horizontal(&content.settings, size))?;
@@ -154,12 +149,12 @@ fn horizontals<R: Requests>(
 // What contents ask for from top to bottom.
 fn verticals<R: Requests>(
     alloc: Global,
-    contents: &[Content],
+    contents: Items<'_, Content>,
     requests: &R,
 ) -> Result<Vec<Stretch>, AllocError>
-    ensures { IfOk result (λ v. v.items ≡ verticals (R.size requests.now) contents.now) }
+    ensures { IfOk result (λ v. v.items ≡ verticals (R.size requests.now) contents.entry) }
 {
-    let mut stretches = Vec::with_capacity(alloc, contents.len())?;
+    let mut stretches = Vec::new(alloc);
     for content in contents {
         let size = requests.requested(content.window);
         stretches.push(Stretch::vertical(&content.settings, size))?;
@@ -174,28 +169,42 @@ impl Packing {
     {
         Packing {
             alloc,
-            contents: Seq::new(alloc),
+            contents: SharedList::new(alloc),
+            newest: 0,
             propagates: true,
         }
     }
 
-    /// The packing with these contents, in order, so that one is made again from what it had.
-    pub fn restore(alloc: Global, contents: Seq<Content>, propagates: bool) -> Packing
-        ensures { result ≡ record { contents = contents; propagates = propagates } }
+    /// The packing with these contents, in order, so that one is made again from what it had. One too many is refused as memory
+    /// is.
+    pub fn restore(
+        alloc: Global,
+        contents: Vec<Content>,
+        propagates: bool,
+    ) -> Result<Packing, AllocError>
+        ensures { IfOk result (λ p. p ≡ record { contents = contents.items; propagates = propagates }) }
     {
-        Packing {
-            alloc,
-            contents,
-            propagates,
+        let mut packing = Packing::new(alloc);
+        for content in contents {
+            packing.add(content)?;
         }
+        packing.propagates = propagates;
+        Ok(packing)
     }
 
     /// The packed windows in order, with their settings.
-    pub fn contents(&self) -> &[Content]
-        ensures value { result.now ≡ self.now.contents }
-        ensures short { IsShort self.now.contents }
+    pub fn contents(&self) -> Items<'_, Content>
+        ensures { result ≡ self.now.contents }
     {
-        self.contents.as_slice()
+        self.contents.iter()
+    }
+
+    /// How many windows are packed.
+    pub fn len(&self) -> usize
+        ensures value { result ≡ length self.now.contents }
+        ensures short { length self.now.contents < 2 ^ 32 }
+    {
+        self.contents.len()
     }
 
     /// Whether the container asks to be as large as its contents need (pack(n), `pack propagate`).
@@ -212,15 +221,64 @@ impl Packing {
         self.propagates = propagates;
     }
 
-    /// An equal packing.
-    pub fn try_clone(&self) -> Result<Packing, AllocError>
+    /// The same packing, held once more. It takes no memory, whatever is packed.
+    pub fn share(&self) -> Result<Packing, AllocError>
         ensures { IfOk result (λ p. p ≡ self.now) }
     {
         Ok(Packing {
             alloc: self.alloc,
-            contents: copied(self.alloc, self.contents.as_slice())?,
+            contents: self.contents.share()?,
+            newest: self.newest,
             propagates: self.propagates,
         })
+    }
+
+    // How a window is packed, or would be if no option were given.
+    #[tactic(auto, using(crate::proofs::Contents::settings_new))]
+    fn settings_of(&self, window: WindowId) -> Settings
+        ensures { result ≡ settings_of window self.now.contents }
+    {
+        if self.newest < window.number() {
+            return Settings::new();
+        }
+        settings_of(&self.contents, window)
+    }
+
+    // The index of a window among contents, or their end.
+    #[tactic(auto, using(crate::proofs::Contents::index_new))]
+    fn index_of(&self, window: WindowId) -> usize
+        ensures { result ≡ index_of window self.now.contents }
+    {
+        if self.newest < window.number() {
+            return self.contents.len();
+        }
+        index_of(&self.contents, window)
+    }
+
+    // Adds a content behind the others.
+    fn add(&mut self, content: Content) -> Result<(), AllocError>
+        ensures ok { OnOk result (self.new ≡ record self.old { contents = self.old.contents ++ content ∷ [] }) }
+        ensures err { OnErr result (self.new ≡ self.old) }
+    {
+        if self.newest < content.window.number() {
+            self.newest = content.window.number();
+        }
+        self.contents.push(content)
+    }
+
+    // Puts a content in the place of the window's present one, or behind all where it has none.
+    #[tactic(auto, using(crate::proofs::Contents::put_there, crate::proofs::Contents::put_last))]
+    fn put(&mut self, content: Content) -> Result<(), AllocError>
+        ensures ok { OnOk result (self.new ≡ record self.old { contents = put content.window content.settings self.old.contents }) }
+        ensures err { OnErr result (self.new ≡ self.old) }
+    {
+        let index = self.index_of(content.window);
+        if index < self.contents.len() {
+            self.contents.set(index, content)?;
+        } else {
+            self.add(content)?;
+        }
+        Ok(())
     }
 
     /// Packs a window (pack(n), `pack configure`) with options and values in turn: a new one goes last, one that
@@ -239,19 +297,22 @@ impl Packing {
                 subject: None,
             }));
         }
-        let settings = settings_of(self.contents.as_slice(), window);
-        let settings = with_options(self.alloc, settings, options)?;
-        put(&mut self.contents, Content { window, settings })?;
+        let settings = with_options(self.alloc, self.settings_of(window), options)?;
+        self.put(Content { window, settings })?;
         Ok(())
     }
 
     /// Takes a window out, if it is packed (pack(n), `pack forget`).
-    pub fn forget(&mut self, window: WindowId)
-        ensures { self.new ≡ forgotten window self.old }
+    #[tactic(auto, using(crate::proofs::Contents::taken_there, crate::proofs::Contents::none_taken))]
+    pub fn forget(&mut self, window: WindowId) -> Result<(), AllocError>
+        ensures ok { OnOk result (self.new ≡ forgotten window self.old) }
+        ensures err { OnErr result (self.new ≡ self.old) }
     {
-        if let Some(index) = position(self.contents.as_slice(), window) {
-            self.contents.remove(index);
+        let index = self.index_of(window);
+        if index < self.contents.len() {
+            self.contents.remove(index)?;
         }
+        Ok(())
     }
 
     /// How large the container asks to be, where its contents decide that: none where there are none, or they
@@ -259,12 +320,12 @@ impl Packing {
     pub fn requested<R: Requests>(&self, requests: &R) -> Option<Extent>
         ensures { result ≡ requested (R.size requests.now) self.now.propagates self.now.contents }
     {
-        if !self.propagates || self.contents.is_empty() {
+        if !self.propagates || self.contents.len() == 0 {
             return None;
         }
         let mut across = Reach::new();
         let mut down = Reach::new();
-        for content in self.contents.as_slice() {
+        for content in self.contents.iter() {
             let size = requests.requested(content.window);
             across = across.past(&Stretch::horizontal(&content.settings, size));
             down = down.past(&Stretch::vertical(&content.settings, size));
@@ -284,8 +345,8 @@ impl Packing {
     ) -> Result<Vec<Option<Area>>, AllocError>
         ensures { IfOk result (λ v. v.items ≡ places (R.size requests.now) container self.now.contents) }
     {
-        let across = horizontals(self.alloc, self.contents.as_slice(), requests)?;
-        let down = verticals(self.alloc, self.contents.as_slice(), requests)?;
+        let across = horizontals(self.alloc, self.contents.iter(), requests)?;
+        let down = verticals(self.alloc, self.contents.iter(), requests)?;
         let across = spans(self.alloc, &across, container.width)?;
         let down = spans(self.alloc, &down, container.height)?;
         let areas = areas(self.alloc, &across, &down)?;

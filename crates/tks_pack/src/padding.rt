@@ -1,3 +1,4 @@
+//! Padding, in cells.
 ghost use Rattle.std.specs.Prelude.{◌≡◌, ◌≤◌};
 ghost use Rattle.tks_pack.specs.Padding.{max_padding};
 

@@ -1,3 +1,4 @@
+//! How a window is packed.
 ghost use Rattle.std.specs.Prelude.{◌≡◌};
 ghost use Rattle.tks_pack.specs.Numbers.{side_number, side_numbered, fill_number, fill_numbered};
 

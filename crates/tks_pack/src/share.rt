@@ -1,3 +1,4 @@
+//! The share that a window that expands gets of what is left.
 ghost use Rattle.std.specs.Prelude.{◌≡◌, ◌<◌, ◌+◌, ℕ, length, drop, IfOk};
 ghost use Rattle.tks_pack.specs.Packer.{first_share};
 ghost use Rattle.tks_pack.specs.Requests.{too_long};

@@ -1,3 +1,4 @@
+//! A window on one axis: which edge of the cavity it is packed against, and what it asks for.
 ghost use Rattle.std.specs.Prelude.{◌≡◌, ◌<◌, ◌^◌};
 ghost use Rattle.tks_pack.specs.Stretch.{horizontal_edge, vertical_edge, fills_horizontally, fills_vertically, horizontal, vertical, lies_along, takes_share, inner, outer};
 

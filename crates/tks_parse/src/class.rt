@@ -1,3 +1,4 @@
+//! Which part a byte plays in a word.
 ghost use Rattle.std.specs.Prelude.{◌≡◌, ◌≤◌, length};
 ghost use Rattle.std.specs.List.{prefix_len};
 ghost use Rattle.tks_parse.specs.Class.{is_separator, is_name_char, is_no_close_brace, begins_newline, is_fold};

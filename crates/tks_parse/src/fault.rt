@@ -1,3 +1,4 @@
+//! Faults of a script's text, and how they are told.
 ghost use Rattle.std.specs.Prelude.{◌≡◌};
 ghost use Rattle.tks_text.specs.declared.fault.Failure.TheVariants as failure;
 ghost use Rattle.tks_parse.specs.Fault.{fault_of};

@@ -1,3 +1,4 @@
+//! Laws of scripts.
 ghost use Rattle.std.specs.Prelude.{◌≡◌, ◌↔◌, List, ℕ};
 ghost use Rattle.tks_parse.specs.Reading.{script_of};
 ghost use Rattle.tks_parse.specs.Script.{Spells};

@@ -1,3 +1,4 @@
+//! Where in a script a word stands, and what ends it there.
 ghost use Rattle.std.specs.Prelude.{◌≡◌};
 ghost use Rattle.tks_parse.specs.Class.{ends_script, ends_word, ends_word_at, ends_parts};
 ghost use Rattle.tks_parse.specs.Fault.{syntax_of};

@@ -1,3 +1,4 @@
+//! Whose syntax a text is read by.
 ghost use Rattle.std.specs.Prelude.{◌≡◌};
 ghost use Rattle.tks_text.specs.declared.fault.Failure.TheVariants as failure;
 ghost use Rattle.tks_parse.specs.Fault.{fault_of, told};

@@ -1,10 +1,11 @@
+//! The tree of a script.
 ghost use Rattle.std.specs.Prelude.{◌≡◌, IfOk, IfSome, false, option_copied};
 ghost use Rattle.tks_text.specs.Text.{IsText};
 ghost use Rattle.tks_parse.specs.Tree.{chars, no_part};
 ghost use Rattle.tks_parse.specs.View.{script_of_commands, words_of, ready_words, words_of_command, parts_of};
 
-use crate::left::Left;
-use crate::left_script::LeftScript;
+use crate::remaining::Remaining;
+use crate::remaining_script::RemainingScript;
 use std::alloc::{AllocError, Global};
 use std::marker::Model;
 use std::rc::Rc;
@@ -135,10 +136,10 @@ impl Script {
     }
 
     /// The same, to go on in.
-    pub fn into_left(self) -> LeftScript
+    pub fn into_remaining(self) -> RemainingScript
         ensures { result ≡ self }
     {
-        LeftScript::all(self.contents)
+        RemainingScript::all(self.contents)
     }
 }
 
@@ -193,16 +194,6 @@ impl Command {
             },
         }
     }
-
-    /// The same command, held once more.
-    pub fn share(&self) -> Result<Command, AllocError>
-        ensures { IfOk result (λ c. words_of_command c ≡ words_of_command self.now) }
-    {
-        match self {
-            Command::Ready(texts) => Ok(Command::Ready(texts.clone()?)),
-            Command::Made(words) => Ok(Command::Made(words.clone()?)),
-        }
-    }
 }
 
 impl Parts {
@@ -217,10 +208,10 @@ impl Parts {
     }
 
     /// The parts, to go on in.
-    pub fn left(&self) -> Result<Left<Part>, AllocError>
+    pub fn remaining(&self) -> Result<Remaining<Part>, AllocError>
         ensures { IfOk result (λ parts. parts_of parts ≡ self.now) }
     {
-        Ok(Left::all(self.parts.clone()?))
+        Ok(Remaining::all(self.parts.clone()?))
     }
 
     /// The parts, in order.

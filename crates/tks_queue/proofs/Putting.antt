@@ -24,6 +24,19 @@ put_at_index place.Tail e queue = insert_end queue (queued false e)
 put_at_index place.Head e queue = refl
 put_at_index place.Mark e queue = put_by_index e queue
 
+up_within : (queue : List Queued) → up_to_mark queue ≤ length queue
+up_within [] = omega arith
+up_within (q ∷ queue) = by (some_with_mark (q ∷ queue)) refl (up_within queue)
+  where
+    by : (b : Bool) → some_with_mark (q ∷ queue) ≡ b → up_to_mark queue ≤ length queue → up_to_mark (q ∷ queue) ≤ suc (length queue)
+    by true e h = rw e (omega (arith, h))
+    by false e h = rw e (omega arith)
+
+pub index_within : (p : Place) (queue : List Queued) → index_for p queue ≤ length queue
+index_within place.Tail queue = omega arith
+index_within place.Head queue = omega arith
+index_within place.Mark queue = up_within queue
+
 -- ---- counting up to the last one that was put with `mark`
 
 none_up_to : (queue : List Queued) → some_with_mark queue ≡ false → up_to_mark queue ≡ 0

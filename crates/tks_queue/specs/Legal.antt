@@ -1,7 +1,6 @@
 -- Which queues there are (this project's own rule): each event that waits is one that there is.
-use Rattle.std.specs.Prelude.{◌≡◌, true, List, IfSome}
+use Rattle.std.specs.Prelude.{◌≡◌, true, List}
 use Rattle.std.specs.List.{AllByRecursion}
-use Rattle.tks_mark.specs.Views.{Views}
 use Rattle.tks_event.specs.Legality.{is_event}
 use Rattle.tks_queue.specs.declared.queued.Queued.{Queued}
 
@@ -10,8 +9,3 @@ IsLegal q = is_event q.event ≡ true
 
 abbrev pub AreLegal : List Queued → Type 0
 AreLegal queue = AllByRecursion IsLegal queue
-
--- of those that wait, and of those that waited at the mark
-pub record Legal (v : Views Queued) : Type 0 where
-  pub present : AreLegal v.present
-  pub at_mark : IfSome v.at_mark AreLegal

@@ -1,3 +1,4 @@
+-- The definitions that contracts cite.
 pub mod EventQueue
 pub mod Index
 pub mod Legal

@@ -1,3 +1,4 @@
+//! Where an event is put.
 /// Where an event is put into the queue.
 #[derive(Clone, Copy, Debug, PartialEq, Eq)]
 pub enum Place {

@@ -1,8 +1,11 @@
-ghost use Rattle.std.specs.Prelude.{◌≡◌, ◌<◌, ◌^◌, true, length, Some, None, [], IsSome, is_some, IfSome, IfOk, IfErr, OnOk, OnErr};
-ghost use Rattle.std.specs.List.{remove};
+//! The queue: events that wait, and what is done to them.
+ghost use Rattle.std.specs.Prelude.{◌≡◌, ◌==◌, not, ◌<◌, ◌^◌, Bool, true, length, [], IfSome, IfOk, IfErr, OnOk, OnErr};
+ghost use Rattle.std.specs.List.{filter};
 ghost use Rattle.tks_event.specs.Legality.{is_event};
+ghost use Rattle.tks_share.specs.Lists.{Says, Decides};
+ghost use Rattle.tks_queue.specs.declared.queued.Queued.{Queued};
 ghost use Rattle.tks_queue.specs.Legal.{AreLegal};
-ghost use Rattle.tks_queue.specs.EventQueue.{queued, put, first, without_first, without_window};
+ghost use Rattle.tks_queue.specs.EventQueue.{put, first, without_first, without_window};
 ghost use Rattle.tks_queue.specs.Index.{up_to_mark, is_mark, index_for};
 
 use crate::place::Place;
@@ -10,165 +13,141 @@ use crate::queued::Queued;
 use std::alloc::{AllocError, AllocFailed, Global};
 use std::marker::Model;
 use tks_event::Event;
-use tks_mark::{Items, Marked};
-use tks_share::Copied;
+use tks_share::{Items, SharedList};
 
-/// The events that wait to be delivered, the next one first: each is one that there is. They know what they were at a mark.
+/// The events that wait to be delivered, the next one first: each is one that there is. Copies share what they have in common.
 pub struct Queue {
-    alloc: Global,
-    events: Marked<Queued>,
+    events: SharedList<Queued>,
 }
 
 // Written out, so that to let go of it is one step for whoever owns it.
 impl Drop for Queue {
     fn drop(self) {
-        let Queue {
-            alloc: _,
-            events: _,
-        } = self;
+        let Queue { events: _ } = self;
     }
 }
 
 impl Model for Queue {
-    ghost use Rattle.tks_mark.specs.Views.{Views};
+    ghost use Rattle.std.specs.Prelude.{List};
     ghost use Rattle.tks_queue.specs.declared.queued.Queued.{Queued};
 
-    ghost Value = { Views Queued };
+    ghost Value = { List Queued };
 
     ghost view = { λ q. q.events };
 
-    ghost use Rattle.tks_queue.specs.Legal.{Legal};
+    ghost use Rattle.tks_queue.specs.Legal.{AreLegal};
 
-    ghost invariant = { λ q. Legal q.events };
+    ghost invariant = { λ q. AreLegal q.events };
 }
 
 impl Queue {
-    /// No event, and no mark.
+    /// No event.
     pub fn new(alloc: Global) -> Queue
-        ensures { result ≡ record { present = []; at_mark = None } }
+        ensures { result ≡ [] }
     {
         Queue {
-            alloc,
-            events: Marked::new(alloc),
+            events: SharedList::new(alloc),
         }
     }
 
-    /// The queue of these events, the next one first, with no mark, so that one is made again from what it had.
+    /// The queue of these events, the next one first, so that one is made again from what it had.
     pub fn restore(alloc: Global, events: Vec<Queued>) -> Result<Queue, AllocError>
         requires { AreLegal events.items }
-        ensures { IfOk result (λ made. made ≡ record { present = events.items; at_mark = None }) }
+        ensures { IfOk result (λ made. made ≡ events.items) }
     {
         Ok(Queue {
-            alloc,
-            events: Marked::of(alloc, events)?,
+            events: SharedList::of(alloc, events)?,
+        })
+    }
+
+    /// The same queue, held once more. It takes no memory, whatever waits.
+    pub fn share(&self) -> Result<Queue, AllocError>
+        ensures { IfOk result (λ same. same ≡ self.now) }
+    {
+        Ok(Queue {
+            events: self.events.share()?,
         })
     }
 
     /// The events that wait, the next one first.
     pub fn events(&self) -> Items<'_, Queued>
-        ensures value { result ≡ self.now.present }
-        ensures legal { AreLegal self.now.present }
+        ensures value { result ≡ self.now }
+        ensures legal { AreLegal self.now }
     {
-        self.events.items()
+        self.events.iter()
     }
 
     /// How many events wait.
     pub fn len(&self) -> usize
-        ensures value { result ≡ length self.now.present }
-        ensures short { length self.now.present < 2 ^ 32 }
+        ensures value { result ≡ length self.now }
+        ensures short { length self.now < 2 ^ 32 }
     {
         self.events.len()
     }
 
-    /// Puts an event into its place. Where memory is refused, it hands the event back.
-    #[tactic(auto, using(crate::proofs::Putting::put_at_index))]
+    /// Puts an event into its place. Where memory is refused, or it is one too many, it hands the event back.
     pub fn put(&mut self, place: Place, event: Event) -> Result<(), AllocFailed<Event>>
         requires { is_event event ≡ true }
-        ensures ok { OnOk result (self.new ≡ record self.old { present = put place event self.old.present }) }
+        ensures ok { OnOk result (self.new ≡ put place event self.old) }
         ensures err { OnErr result (self.new ≡ self.old) }
         ensures handed_back { IfErr result (λ refused. refused.value ≡ event) }
     {
-        let index = index_for(place, &self.events);
+        match self.put_copy(place, &event) {
+            Ok(()) => Ok(()),
+            Err(_) => Err(AllocFailed { value: event }),
+        }
+    }
+
+    // Puts a copy of an event into its place, since what the list has taken can't be had back.
+    #[tactic(auto, using(crate::proofs::Putting::put_at_index, crate::proofs::Putting::index_within))]
+    fn put_copy(&mut self, place: Place, event: &Event) -> Result<(), AllocError>
+        requires { is_event event.now ≡ true }
+        ensures ok { OnOk result (self.new ≡ put place event.now self.old) }
+        ensures err { OnErr result (self.new ≡ self.old) }
+    {
         let queued = Queued {
-            event,
+            event: event.try_clone()?,
             with_mark: is_mark(place),
         };
-        match self.events.insert(index, queued) {
-            Ok(()) => Ok(()),
-            Err(refused) => Err(AllocFailed {
-                value: refused.value.event,
-            }),
-        }
+        let index = index_for(place, &self.events);
+        self.events.insert(index, queued)
     }
 
     /// Takes out the first event, and hands out a copy of it.
     pub fn take(&mut self) -> Result<Option<Event>, AllocError>
-        ensures value { IfOk result (λ event. event ≡ first self.old.present) }
+        ensures value { IfOk result (λ event. event ≡ first self.old) }
         ensures legal { IfOk result (λ o. IfSome o (λ event. is_event event ≡ true)) }
-        ensures ok { OnOk result (self.new ≡ record self.old { present = without_first self.old.present }) }
+        ensures ok { OnOk result (self.new ≡ without_first self.old) }
         ensures err { OnErr result (self.new ≡ self.old) }
     {
-        let event = match self.events.items().next() {
+        let event = match self.events.get(0) {
             Some(queued) => queued.event.try_clone()?,
             None => return Ok(None),
         };
-        self.events.remove(0);
+        let _taken = self.events.remove(0)?;
         Ok(Some(event))
     }
 
-    /// Takes out the event in this place, counted from 0. It takes no memory.
-    pub fn remove(&mut self, index: usize)
-        requires { index < length self.old.present }
-        ensures { self.new ≡ record self.old { present = remove self.old.present index } }
+    /// Takes out the events that the closure doesn't accept. Where it accepts all, nothing is made.
+    pub fn retain<F: Fn(&Queued) -> bool>(&mut self, keep: F) -> Result<(), AllocError>
+        requires callable { F.IsAlwaysCallable keep }
+        requires decided { Decides (F.post keep) }
+        ensures ok { OnOk result ((p : Queued → Bool) → Says (F.post keep) p → self.new ≡ filter p self.old) }
+        ensures err { OnErr result (self.new ≡ self.old) }
     {
-        self.events.remove(index);
+        self.events.retain(keep)
     }
 
-    /// Takes out all events of a window. It takes no memory.
-    pub fn drop_window(&mut self, window: u64)
-        ensures { self.new ≡ record self.old { present = without_window window self.old.present } }
+    /// Takes out all events of a window.
+    pub fn drop_window(&mut self, window: u64) -> Result<(), AllocError>
+        ensures ok { OnOk result (self.new ≡ without_window window self.old) }
+        ensures err { OnErr result (self.new ≡ self.old) }
     {
-        self.events.drop_number(window);
-    }
-
-    /// Whether a mark stands.
-    pub fn is_marked(&self) -> bool
-        ensures { result ≡ is_some self.now.at_mark }
-    {
-        self.events.is_marked()
-    }
-
-    /// Sets the mark. It takes no memory.
-    pub fn mark(&mut self)
-        requires { self.old.at_mark ≡ None }
-        ensures { self.new ≡ record self.old { at_mark = Some self.old.present } }
-    {
-        self.events.mark();
-    }
-
-    /// Makes the queue what it was at the mark, and takes the mark away. It takes no memory.
-    pub fn back_to(&mut self)
-        requires { IsSome self.old.at_mark }
-        ensures { IfSome self.old.at_mark (λ events. self.new ≡ record { present = events; at_mark = None }) }
-    {
-        self.events.back_to();
-    }
-
-    /// Takes the mark away, and leaves the queue as it is. It takes no memory.
-    pub fn forget(&mut self)
-        ensures { self.new ≡ record self.old { at_mark = None } }
-    {
-        self.events.forget();
-    }
-}
-
-impl Copied for Queue {
-    // What it was at a mark is copied too.
-    fn copied(&self, alloc: Global) -> Result<Queue, AllocError> {
-        Ok(Queue {
-            alloc,
-            events: self.events.copied(alloc)?,
-        })
+        self.retain(
+            |queued: &Queued| -> bool
+                ensures { result ≡ not (queued.now.event.window == window) }
+            { queued.event.window != window },
+        )
     }
 }
 
@@ -180,8 +159,8 @@ fn is_mark(place: Place) -> bool
 }
 
 // Before which event one is put into a place.
-fn index_for(place: Place, events: &Marked<Queued>) -> usize
-    ensures { result ≡ index_for place events.now.present }
+fn index_for(place: Place, events: &SharedList<Queued>) -> usize
+    ensures { result ≡ index_for place events.now }
 {
     match place {
         Place::Tail => events.len(),
@@ -191,13 +170,13 @@ fn index_for(place: Place, events: &Marked<Queued>) -> usize
 }
 
 // How many events stand up to the last one that was put at `Place::Mark`.
-fn up_to_mark(events: &Marked<Queued>) -> usize
-    ensures { result ≡ up_to_mark events.now.present }
+fn up_to_mark(events: &SharedList<Queued>) -> usize
+    ensures { result ≡ up_to_mark events.now }
 {
     let len = events.len();
     let mut behind = len;
     let mut count = 0;
-    for queued in events.items() {
+    for queued in events.iter() {
         behind -= 1;
         if queued.with_mark {
             count = len - behind;

@@ -1,3 +1,4 @@
+//! The grid of characters.
 ghost use Rattle.std.specs.Prelude.{◌≡◌, IfOk};
 ghost use Rattle.tks_screen.specs.Screen.{blank};
 

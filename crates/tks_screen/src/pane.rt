@@ -1,3 +1,4 @@
+//! What each window that is shown shows, and where.
 ghost use Rattle.std.specs.Prelude.{◌≡◌, map, IfOk};
 ghost use Rattle.tks_opt.specs.Cells.{row, rows};
 ghost use Rattle.tks_state.specs.Layout.{shown_windows};

@@ -1,3 +1,4 @@
+//! The screen: what each cell shows, and which window is on top there.
 ghost use Rattle.std.specs.Prelude.{◌≡◌, OnOk, OnErr, IfOk, option_map};
 ghost use Rattle.tks_state.specs.Layout.{topmost};
 ghost use Rattle.tks_opt.specs.Cells.{rows};

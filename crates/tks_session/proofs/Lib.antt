@@ -1,9 +1,5 @@
-mod Opens
-mod Pending
-mod Reading
-mod Rooms
-pub mod Runs
-mod Starts
-pub mod Crashes
-pub mod Lives
-pub mod Drains
+pub mod Steps
+pub mod Leads
+pub mod Wider
+mod Names
+mod Stored

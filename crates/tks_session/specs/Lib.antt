@@ -1,9 +1,2 @@
+pub mod Terminals
 pub mod Crash
-pub mod Inputs
-pub mod Lives
-pub mod Machine
-pub mod Opening
-pub mod Refusing
-pub mod Session
-pub mod Starting
-pub mod Draining

@@ -1,42 +1,37 @@
-//! Laws of runs and of crashes.
-ghost use Rattle.std.specs.Prelude.{◌≡◌, ◌++◌, List, Result, Ok, false};
+//! Laws of terminals.
+ghost use Rattle.std.specs.Prelude.{◌≡◌, ℕ, List, Ok};
+ghost use Rattle.tks_text.specs.Limits.{Wider};
+ghost use Rattle.tks_text.specs.Size.{Extent};
+ghost use Rattle.tks_text.specs.declared.limits.Limits.{Limits};
+ghost use Rattle.tks_app.specs.Applications.{Application};
 ghost use Rattle.tks_disk.specs.DiskModel.{Images};
 ghost use Rattle.tks_input.specs.declared.input.Input.{Input};
-ghost use Rattle.tks_session.specs.Crash.{HoldsAcknowledged, IsRunOfPrefix, OpensToPrefix};
-ghost use Rattle.tks_session.specs.Opening.{opens, run};
-ghost use Rattle.tks_session.specs.declared.fault.SessionFault.{SessionFault};
+ghost use Rattle.tks_durable.specs.Crash.{OpensToCount, OpensToPrefix};
+ghost use Rattle.tks_durable.specs.Opening.{opens};
+ghost use Rattle.tks_state.specs.World.{World};
+ghost use Rattle.tks_session.specs.Crash.{LeadsBehind, LeadsByFirst};
+ghost use Rattle.tks_session.specs.Terminals.{terminal};
 
-use crate::machine::Machine;
-use crate::session::Session;
-use tks_disk::Disk;
+/// What opening gives after a crash: where inputs waited behind a world, the world that is opened is the one that the first
+/// of them lead to, each accepted whole, with all its scripts.
+pub fn a_crash_leaves_whole_inputs()
+    ensures { (app : Application) (limits : Limits) (grid : Extent) (start : World) (inputs : List Input) (images : Images) (world : World)
+        → OpensToPrefix (terminal app limits grid) (Ok start) inputs images → opens (terminal app limits grid) images ≡ Ok world
+        → LeadsByFirst app limits start inputs world }
+{}
 
-/// Inputs run one after the other: a run over two lists is a run over the second from where the first one ends.
-#[tactic(auto, using(crate::proofs::Runs::run_on))]
-pub fn runs_join<M: Machine>(machine: &M)
-    ensures { (start : Result M.World SessionFault) (first second : List Input)
-        → run (M.meaning machine.now) start (first ++ second) ≡ run (M.meaning machine.now) (run (M.meaning machine.now) start first) second }
-{
-    let _ = machine;
-}
+/// What opens within limits opens within wider ones, to the same world.
+pub fn wider_limits_open()
+    ensures { (app : Application) (limits wider : Limits) (grid : Extent) (images : Images) (world : World)
+        → Wider limits wider → opens (terminal app limits grid) images ≡ Ok world → opens (terminal app wider grid) images ≡ Ok world }
+{}
 
-/// What opening answers after a crash: where the images that it left open to what a prefix of the inputs leaves, a world that is
-/// opened is what some first inputs leave, each of them whole.
-pub fn a_crash_leaves_a_prefix<M: Machine>(machine: &M)
-    ensures { (start : Result M.World SessionFault) (inputs : List Input) (images : Images) (world : M.World)
-        → OpensToPrefix (M.meaning machine.now) start inputs images → opens (M.meaning machine.now) images ≡ Ok world
-        → IsRunOfPrefix (M.meaning machine.now) start inputs world }
-{
-    let _ = machine;
-}
-
-/// What opening answers after a crash: where the images that it left open to what a prefix of the inputs that wait leaves, as they
-/// do at every moment of a session's calls, a world that is opened is what the first of these inputs leave behind those that
-/// were acknowledged, all of them and nothing else; each input is there whole or not at all.
-pub fn a_crash_keeps_what_was_acknowledged<D: Disk, M: Machine>(session: &Session<D, M>)
-    ensures { (images : Images) (world : M.World) → session.now.journal.failed ≡ false → D.honest session.now.journal.disk
-        → OpensToPrefix (M.meaning session.now.machine) (opens (M.meaning session.now.machine) (D.view session.now.journal.disk).reads) session.now.waiting images
-        → opens (M.meaning session.now.machine) images ≡ Ok world
-        → HoldsAcknowledged (M.meaning session.now.machine) session.now.acknowledged session.now.waiting world }
-{
-    session.stands();
-}
+/// What opening gives after a crash at any moment of a session's calls, a moment inside a write too: the windows, options,
+/// contents, bindings, variables, queued events and timers that the first of the inputs that wait lead to, each accepted whole,
+/// behind those that were acknowledged, all of them and nothing else. That what is read opens to those that were acknowledged is
+/// what a session tells (`Session::stands`), and what a crash leaves is told by its calls.
+pub fn a_crash_keeps_what_was_acknowledged()
+    ensures { (app : Application) (limits : Limits) (grid : Extent) (reads : Images) (acknowledged : ℕ) (waiting : List Input) (images : Images) (world : World)
+        → OpensToCount (terminal app limits grid) reads acknowledged → OpensToPrefix (terminal app limits grid) (opens (terminal app limits grid) reads) waiting images
+        → opens (terminal app limits grid) images ≡ Ok world → LeadsBehind app limits acknowledged waiting world }
+{}

@@ -1,13 +1,14 @@
 -- Places in a list, on either side of an item and at it.
-use Rattle.std.proofs.Common.{◌≡◌, ℕ, zero, suc, ◌+◌, ◌-◌, ◌<◌, ◌≤◌, ◌==◌, Bool, true, false, cond, List, [], ◌∷◌, ◌++◌, length, Option, Some, None, refl, sym, ap, ◌∙◌, arith, length-append}
+use Rattle.std.proofs.Common.{◌≡◌, ℕ, zero, suc, ◌+◌, ◌-◌, ◌<◌, ◌≤◌, ◌==◌, Bool, true, false, cond, not, List, [], ◌∷◌, ◌++◌, length, Option, Some, None, refl, sym, ap, ◌∙◌, arith, length-append}
 use Rattle.std.specs.Prelude.{slice_get, slice_set, drop}
-use Rattle.std.specs.List.{filter, position, position_from}
+use Rattle.std.specs.List.{filter, position, position_from, insert, remove}
 use Rattle.std.specs.Option.{option_map}
 use Rattle.std.proofs.Math.Nat.{min-eq_left}
 use Rattle.std.proofs.Math.Seq.{set-append_seam}
 use Rattle.std.proofs.lemmas.Bool.{ne_eqb, eq-eqb, eqb-true}
 use Rattle.std.proofs.lemmas.List.Elements.{filter-append}
 use Rattle.std.proofs.lemmas.List.{set-append_left, set-append_right}
+use Rattle.std.proofs.lemmas.List.Edits.{insert-append_left, insert-append_right, remove-append_left, remove-append_right}
 use Rattle.std.proofs.lemmas.Iterator.Adapters.{position_from-zero}
 use Rattle.tks_share.specs.Tree.{counted}
 use Rattle.tks_share.specs.Lists.{Fits, Rises}
@@ -89,6 +90,35 @@ module _ {X : Type 0} (l : List X) (x : X) (r es : List X) (is : es ≡ l ++ x �
           ∙ sym (set-append_right l (x ∷ r) (length l) i y refl (omega (arith, h, at_length)))
           ∙ ap (λ t. slice_set t i y) (sym is)
 
+      pub inserted_left : i ≤ place → (left : List X) → left ≡ insert l i y → left ++ x ∷ r ≡ insert es i y
+      inserted_left h left e = ap (λ t. t ++ x ∷ r) e ∙ sym (insert-append_left l (x ∷ r) i y (omega (arith, h, at_length))) ∙ ap (λ t. insert t i y) (sym is)
+
+      pub inserted_right : place < i → (right : List X) → right ≡ insert r (i - place - 1) y → l ++ x ∷ right ≡ insert es i y
+      inserted_right h right e =
+          ap (λ t. l ++ x ∷ t) e
+          ∙ ap (λ n. l ++ insert (x ∷ r) n y) (sym (right_suc (omega (arith, h)) (λ e. omega (arith, h, e))))
+          ∙ sym (insert-append_right l (x ∷ r) (length l) i y refl (omega (arith, h, at_length)))
+          ∙ ap (λ t. insert t i y) (sym is)
+
+    pub removed_left : i < place → (left : List X) → left ≡ remove l i → left ++ x ∷ r ≡ remove es i
+    removed_left h left e = ap (λ t. t ++ x ∷ r) e ∙ sym (remove-append_left l (x ∷ r) i (omega (arith, h, at_length))) ∙ ap (λ t. remove t i) (sym is)
+
+    pub removed_here : i ≡ place → l ++ r ≡ remove es i
+    removed_here e =
+        ap (λ n. l ++ remove (x ∷ r) n) (sym zeroth)
+        ∙ sym (remove-append_right l (x ∷ r) (length l) i refl (omega (arith, e, at_length)))
+        ∙ ap (λ t. remove t i) (sym is)
+      where
+        zeroth : i - length l ≡ zero
+        zeroth = omega (arith, e, at_length)
+
+    pub removed_right : place ≤ i → (i ≡ place → ⊥) → (right : List X) → right ≡ remove r (i - place - 1) → l ++ x ∷ right ≡ remove es i
+    removed_right h apart right e =
+        ap (λ t. l ++ x ∷ t) e
+        ∙ ap (λ n. l ++ remove (x ∷ r) n) (sym (right_suc h apart))
+        ∙ sym (remove-append_right l (x ∷ r) (length l) i refl (omega (arith, h, at_length)))
+        ∙ ap (λ t. remove t i) (sym is)
+
 -- where the item of a number stands
 module _ {X : Type 0} (number : X → ℕ) where
   rises_left : (low : ℕ) (l m : List X) → Rises number low (l ++ m) → Rises number low l
@@ -144,6 +174,47 @@ module _ {X : Type 0} (number : X → ℕ) where
 
     from_zero : (m : List X) → position is_it m ≡ position_from is_it 0 m
     from_zero m = position_from-zero is_it m
+
+    -- taking out the item of the number is leaving out those of the number
+    abbrev isnt_it : X → Bool
+    isnt_it x = not (number x == n)
+
+    none_out : (m : List X) → NoneHas m → filter isnt_it m ≡ m
+    none_out [] h = refl
+    none_out (y ∷ m) h = ap (λ b. cond (not b) (y ∷ filter isnt_it m) (filter isnt_it m)) h.0 ∙ ap (λ t. y ∷ t) (none_out m h.1)
+
+    nowhere_out : (k : ℕ) (m : List X) → position_from is_it k m ≡ None → filter isnt_it m ≡ m
+    nowhere_out k [] e = refl
+    nowhere_out k (y ∷ m) e =
+        elim (number y == n) as (λ b. cond b (Some k) (position_from is_it (k + 1) m) ≡ None → cond (not b) (y ∷ filter isnt_it m) (filter isnt_it m) ≡ y ∷ m) [
+          | true ↦ λ same. cc
+          | false ↦ λ same. ap (λ t. y ∷ t) (nowhere_out (k + 1) m same)
+        ] e
+
+    somewhere_out : (k low i : ℕ) (m : List X) → Rises number low m → position_from is_it k m ≡ Some i → (k ≤ i) × (remove m (i - k) ≡ filter isnt_it m)
+    somewhere_out k low i [] rises e = cc
+    somewhere_out k low i (y ∷ m) rises e =
+        elim (number y == n) as (λ b. (number y == n) ≡ b → cond b (Some k) (position_from is_it (k + 1) m) ≡ Some i
+        → (k ≤ i) × (remove (y ∷ m) (i - k) ≡ cond (not b) (y ∷ filter isnt_it m) (filter isnt_it m))) [
+          | true ↦ λ here same.
+              let at : k ≡ i = cc in
+              let zeroth : i - k ≡ zero = omega (arith, at) in
+              let last : number y ≡ n = eqb-true (number y) n here in
+              (omega (arith, at), ap (remove (y ∷ m)) zeroth ∙ sym (none_out m (behind_has_none (number y + 1) m rises.1 (omega (arith, last)))))
+          | false ↦ λ apart same.
+              let rest = somewhere_out (k + 1) (number y + 1) i m rises.1 same in
+              let next : i - k ≡ suc (i - (k + 1)) = omega (arith, rest.0) in
+              (omega (arith, rest.0), ap (remove (y ∷ m)) next ∙ ap (λ t. y ∷ t) rest.1)
+        ] refl e
+
+    pub not_there : (m : List X) → position is_it m ≡ None → m ≡ filter isnt_it m
+    not_there m e = sym (nowhere_out 0 m (sym (from_zero m) ∙ e))
+
+    pub taken_out : (low i : ℕ) (m : List X) → Rises number low m → position is_it m ≡ Some i → remove m i ≡ filter isnt_it m
+    taken_out low i m rises e = ap (remove m) whole_way ∙ (somewhere_out 0 low i m rises (sym (from_zero m) ∙ e)).1
+      where
+        whole_way : i ≡ i - 0
+        whole_way = omega arith
 
     module _ (l : List X) (x : X) (r es : List X) (is : es ≡ l ++ x ∷ r) (low : ℕ) (rises : Rises number low es) where
       split : Rises number low (l ++ x ∷ r)

@@ -1,3 +1,4 @@
+-- The definitions that contracts cite.
 pub mod Names
 pub mod Tree
 pub mod Falls

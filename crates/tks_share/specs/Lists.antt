@@ -15,6 +15,11 @@ Rises number low (x ∷ xs) = (low ≤ number x) × Rises number (number x + 1) 
 abbrev pub Says : {X : Type 0} → (Bor X → Bool → Type 0) → (X → Bool) → Type 0
 Says says p = (x : Bor _) (b : Bool) → says x b → b ≡ p x.now
 
+-- what is said of each item is decided by a test
+pub record Decides {X : Type 0} (says : Bor X → Bool → Type 0) : Type 0 where
+  pub test : X → Bool
+  pub so : Says says test
+
 -- the item at an index was changed, the change gave this answer, and nothing else is new
 pub record IsChangedAt {X A : Type 0} (gives : X → X → A → Type 0) (index : ℕ) (old new : List X) (answer : A) : Type 0 where
   pub before : X

@@ -1,3 +1,4 @@
+//! What changes a value where it stands.
 /// A change of a value where it stands.
 pub trait Change<V> {
     /// What is told of it.

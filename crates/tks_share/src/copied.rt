@@ -1,3 +1,4 @@
+//! Equal values, made where memory serves.
 ghost use Rattle.std.specs.Prelude.{◌≡◌, IfOk};
 
 use std::alloc::{AllocError, Global};

@@ -1,3 +1,4 @@
+//! What is held once more with no copy.
 ghost use Rattle.std.specs.Prelude.{◌≡◌, IfOk};
 
 use std::alloc::AllocError;

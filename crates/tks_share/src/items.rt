@@ -1,3 +1,4 @@
+//! Going over the items of a list.
 ghost use Rattle.std.specs.Iterator.{YieldsFirstRef, item_count};
 ghost use Rattle.tks_share.specs.Lists.{Fits};
 
@@ -36,6 +37,16 @@ impl<'a, T: Drop> Items<'a, T> {
         ensures { result ≡ tree.now }
     {
         Items { tree, next: 0 }
+    }
+
+    /// The same, from here on once more.
+    pub fn again(&self) -> Items<'a, T>
+        ensures { result ≡ self.now }
+    {
+        Items {
+            tree: self.tree,
+            next: self.next,
+        }
     }
 }
 

@@ -1,3 +1,4 @@
+//! Going over the entries of a map.
 ghost use Rattle.std.specs.Prelude.{◌≡◌, T};
 ghost use Rattle.std.specs.Iterator.{YieldsFirstBy, item_count};
 ghost use Rattle.std.specs.FinMap.Entries.{is_sorted};

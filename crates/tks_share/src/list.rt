@@ -1,5 +1,6 @@
-ghost use Rattle.std.specs.Prelude.{◌≡◌, ◌++◌, [], ◌∷◌, ◌==◌, ◌<◌, Bool, length, slice_get, slice_set, position, None, IfOk, IfSome, IfNone, OnOk, OnErr, option_copied};
-ghost use Rattle.std.specs.List.{filter};
+//! Lists by their places, whose copies share what they have in common.
+ghost use Rattle.std.specs.Prelude.{◌≡◌, ◌++◌, [], ◌∷◌, ◌==◌, ◌<◌, ◌≤◌, not, Bool, Some, length, slice_get, slice_set, position, None, IfOk, IfSome, IfNone, OnOk, OnErr, option_copied};
+ghost use Rattle.std.specs.List.{filter, insert, remove};
 ghost use Rattle.tks_share.specs.Lists.{Fits, Rises, Says};
 
 use crate::change::Change;
@@ -52,6 +53,17 @@ impl<T: Drop> SharedList<T> {
         }
     }
 
+    /// The list of these items. One too many is refused as memory is.
+    pub fn of(alloc: Global, items: Vec<T>) -> Result<SharedList<T>, AllocError>
+        ensures { IfOk result (λ list. list ≡ items.items) }
+    {
+        let mut list = SharedList::new(alloc);
+        for item in items {
+            list.push(item)?;
+        }
+        Ok(list)
+    }
+
     /// The same list, held once more. It takes no memory, whatever the list holds.
     pub fn share(&self) -> Result<SharedList<T>, AllocError>
         ensures { IfOk result (λ l. l ≡ self.now) }
@@ -100,6 +112,34 @@ impl<T: Drop> SharedList<T> {
     {
         let item = Shared::new(self.alloc, item)?;
         places::set(&mut self.tree, index, item)
+    }
+
+    /// Puts an item before the one at an index, or at the end. One too many is refused as memory is.
+    pub fn insert(&mut self, index: usize, item: T) -> Result<(), AllocError>
+        requires { index ≤ length self.old }
+        ensures ok { OnOk result (self.new ≡ insert self.old index item) }
+        ensures err { OnErr result (self.new ≡ self.old) }
+    {
+        if self.len() >= MAX_LEN {
+            return Err(AllocError);
+        }
+        let item = Shared::new(self.alloc, item)?;
+        places::insert(&mut self.tree, self.alloc, index, item)
+    }
+
+    /// Takes out the item at an index, and hands it out. It is held on to and not copied, since other lists may hold it too.
+    pub fn remove(&mut self, index: usize) -> Result<Shared<T>, AllocError>
+        requires { index < length self.old }
+        ensures taken { IfOk result (λ item. slice_get self.old index ≡ Some item) }
+        ensures ok { OnOk result (self.new ≡ remove self.old index) }
+        ensures err { OnErr result (self.new ≡ self.old) }
+    {
+        let Some(item) = places::at(&self.tree, index) else {
+            unreachable!()
+        };
+        let item = item.share()?;
+        places::remove(&mut self.tree, index)?;
+        Ok(item)
     }
 
     /// The list of those items that the closure accepts. They are held on to and not copied.
@@ -156,6 +196,18 @@ impl<T: Numbered> SharedList<T> {
         ensures { result ≡ position (λ x. T.number_of x == number) self.now }
     {
         places::place_of(&self.tree, number)
+    }
+
+    /// Takes out the item of a number, if there is one. Numbers must rise.
+    pub fn remove_number(&mut self, number: u64) -> Result<(), AllocError>
+        requires { Rises T.number_of 0 self.old }
+        ensures ok { OnOk result (self.new ≡ filter (λ x. not (T.number_of x == number)) self.old) }
+        ensures err { OnErr result (self.new ≡ self.old) }
+    {
+        let Some(index) = places::place_of(&self.tree, number) else {
+            return Ok(());
+        };
+        places::remove(&mut self.tree, index)
     }
 }
 

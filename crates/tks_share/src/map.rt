@@ -1,3 +1,4 @@
+//! Maps from names, whose copies share what they have in common.
 ghost use Rattle.std.specs.Prelude.{◌≡◌, ◌<◌, ◌^◌, true, IfOk, IfSome, IfNone, None, OnOk, OnErr, option_copied};
 ghost use Rattle.std.specs.FinMap as map;
 

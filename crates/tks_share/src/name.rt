@@ -1,3 +1,4 @@
+//! Names, and how they stand to each other.
 ghost use Rattle.std.specs.Prelude.{◌≡◌, IfOk};
 ghost use Rattle.tks_share.specs.Names.{order};
 

@@ -1,3 +1,4 @@
+//! What has a number.
 /// What has a number.
 pub trait Numbered: Drop {
     ghost use Rattle.std.specs.Prelude.{◌≡◌, ℕ};

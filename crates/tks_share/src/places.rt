@@ -1,6 +1,6 @@
 //! Items by their places, in a tree.
 ghost use Rattle.std.specs.Prelude.{◌≡◌, ◌∷◌, ◌++◌, ◌==◌, ◌<◌, ◌≤◌, ℕ, Bool, length, slice_get, slice_set, position, None, IfOk, IfSome, IfNone, OnOk, OnErr, option_copied};
-ghost use Rattle.std.specs.List.{filter};
+ghost use Rattle.std.specs.List.{filter, insert, remove};
 ghost use Rattle.tks_share.specs.Lists.{Fits, Rises, Says, IsChangedAt};
 
 use crate::change::Change;
@@ -8,7 +8,7 @@ use crate::copied::Copied;
 use crate::held::Held;
 use crate::numbered::Numbered;
 use crate::shared::Shared;
-use crate::tree::{Tree, balance, forked, outweighs};
+use crate::tree::{Tree, balance, close, forked, lone, outweighs};
 use std::alloc::{AllocError, Global};
 use std::rc::Rc;
 
@@ -50,6 +50,65 @@ pub(crate) fn set<E: Held>(tree: &mut Tree<E>, index: usize, item: E) -> Result<
         Ok(())
     } else {
         set(&mut fork.right, index - place - 1, item)
+    }
+}
+
+/// Puts an item before the one at an index, or at the end.
+pub(crate) fn insert<E: Held>(
+    tree: &mut Tree<E>,
+    alloc: Global,
+    index: usize,
+    item: E,
+) -> Result<(), AllocError>
+    ensures ok { OnOk result (Fits tree.old → tree.new ≡ insert tree.old index item) }
+    ensures err { OnErr result (tree.new ≡ tree.old) }
+{
+    match &mut tree.root {
+        None => {
+            *tree = lone(alloc, item)?;
+            Ok(())
+        }
+        Some(root) => {
+            let fork = Rc::make_mut(root)?;
+            let place = fork.left.count();
+            if index <= place {
+                insert(&mut fork.left, alloc, index, item)?;
+                balance(fork);
+                Ok(())
+            } else {
+                insert(&mut fork.right, alloc, index - place - 1, item)?;
+                balance(fork);
+                Ok(())
+            }
+        }
+    }
+}
+
+/// Takes out the item at an index.
+pub(crate) fn remove<E: Held>(tree: &mut Tree<E>, index: usize) -> Result<(), AllocError>
+    ensures ok { OnOk result (Fits tree.old → tree.new ≡ remove tree.old index) }
+    ensures err { OnErr result (tree.new ≡ tree.old) }
+{
+    match &mut tree.root {
+        None => Ok(()),
+        Some(root) => {
+            let fork = Rc::make_mut(root)?;
+            let place = fork.left.count();
+            if index < place {
+                remove(&mut fork.left, index)?;
+                balance(fork);
+                Ok(())
+            } else if index == place {
+                if let Some(left) = close(fork)? {
+                    *tree = left;
+                }
+                Ok(())
+            } else {
+                remove(&mut fork.right, index - place - 1)?;
+                balance(fork);
+                Ok(())
+            }
+        }
     }
 }
 

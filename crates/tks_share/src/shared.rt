@@ -1,3 +1,4 @@
+//! A value that several hold.
 ghost use Rattle.std.specs.Prelude.{◌≡◌, IfOk};
 
 use crate::copied::Copied;

@@ -1,3 +1,4 @@
+//! Balanced trees of items in order, of which several may have parts in common.
 ghost use Rattle.std.specs.Prelude.{◌≡◌, [], ◌∷◌, ◌++◌, IfOk, IfSome, IfNone, OnOk, OnErr, option_copied};
 ghost use Rattle.tks_share.specs.Tree.{items_at, front, counted, Weighed};
 

@@ -4,7 +4,6 @@ mod Layouts
 mod Marks
 pub mod Children
 mod Linked
-mod Holding
 pub mod Restored
 pub mod Possible
 pub mod Legal

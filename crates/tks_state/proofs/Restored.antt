@@ -158,7 +158,7 @@ told false y x h = absurd (some_is_none (sym h))
 abbrev made : WorldParts → Windows → Events → World
 made p x e = record (world_of p) { tree = x.tree; kept = x.kept; bindings = e.bindings; virtuals = e.virtuals; history = e.history; faults = e.faults }
 
-pub possible : (p : WorldParts) (x : Windows) (e : Events) → counts_fit p.accepted p.clock ≡ true → length p.variables.locals ≡ 0 → all_in p.tree.windows (loop_of (world_of p)) ≡ true → length p.history.present ≤ max_history
+pub possible : (p : WorldParts) (x : Windows) (e : Events) → counts_fit p.accepted p.clock ≡ true → length p.variables.locals ≡ 0 → all_in p.tree.windows (loop_of (world_of p)) ≡ true → length p.history ≤ max_history
     → (if are_windows (windows_of (world_of p)) then Some (windows_of (world_of p)) else None) ≡ Some x
     → (if nat_le (length p.faults) max_faults then Some (events_of (world_of p)) else None) ≡ Some e
     → Some (made p x e) ≡ restored p

@@ -6,7 +6,7 @@ use Rattle.tks_event.specs.declared.event.Event.{Event}
 use Rattle.tks_bind.specs.Binding.{Content}
 use Rattle.tks_bind.specs.declared.binding.Binding.{Binding}
 use Rattle.tks_bind.specs.declared.virtual_event.VirtualEvent.{VirtualEvent}
-use Rattle.tks_tree.specs.Path.{begins_dot}
+use Rattle.tks_text.specs.Text.{begins_dot}
 use Rattle.tks_tree.specs.Windows as tree
 use Rattle.tks_state.specs.ClassBindings.{first_bindings}
 

@@ -1,7 +1,7 @@
+-- The definitions that contracts cite.
 pub mod Widget
 pub mod Links
 pub mod Events
-pub mod Lost
 pub mod ClassBindings
 pub mod EventLoop
 pub mod Windows

@@ -7,7 +7,7 @@ use Rattle.tks_opt.specs.Options as options
 use Rattle.tks_tree.specs.Windows as tree
 use Rattle.tks_vars.specs.Variables.{Variables, no_variables}
 use Rattle.tks_app.specs.Memories.{first_memories}
-use Rattle.tks_app.specs.declared.memories.Memory.{Memory}
+use Rattle.tks_vars.specs.Table.{Map}
 use Rattle.tks_event.specs.declared.event.Event.{Event}
 use Rattle.tks_event.specs.declared.held.Held.{Held}
 use Rattle.tks_event.specs.declared.pattern.Pattern.{Pattern}
@@ -51,12 +51,12 @@ pub record World : Type 0 where
   -- the number of the window that took the last press
   pub pressed : Option ℕ
   -- what the commands of an application keep
-  pub memories : List Memory
+  pub memories : Map (List ℕ)
   pub faults : List (List ℕ)
   pub grid : Extent
 
 -- the world of these parts
-abbrev pub world_with : ℕ → Windows → Variables → Events → EventLoop → List Memory → Extent → World
+abbrev pub world_with : ℕ → Windows → Variables → Events → EventLoop → Map (List ℕ) → Extent → World
 world_with accepted windows variables events loop memories grid = record {
   accepted = accepted;
   clock = loop.clock;

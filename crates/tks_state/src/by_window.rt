@@ -1,3 +1,4 @@
+//! A map from windows.
 ghost use Rattle.std.specs.Prelude.{◌≡◌, OnOk, OnErr};
 ghost use Rattle.std.specs.FinMap as map;
 

@@ -18,9 +18,9 @@ fn bind(
     script: &[u8],
 ) -> Result<(), AllocError>
     requires texts { IsText tag.now × IsText sequence.now × IsText script.now }
-    requires room { bindings.old.present.next < 100 }
-    ensures value { OnOk result (bindings.new.present ≡ one_bound (first_binding tag.now sequence.now script.now) bindings.old.present) }
-    ensures next { OnOk result (bindings.new.present.next ≤ bindings.old.present.next + 1) }
+    requires room { bindings.old.next < 100 }
+    ensures value { OnOk result (bindings.new ≡ one_bound (first_binding tag.now sequence.now script.now) bindings.old) }
+    ensures next { OnOk result (bindings.new.next ≤ bindings.old.next + 1) }
 {
     let tag = Txt::from_text(alloc, tag)?;
     let sequence = Txt::from_text(alloc, sequence)?;
@@ -38,9 +38,9 @@ fn bind(
 
 // A press gives the focus.
 fn bind_presses(alloc: Global, bindings: &mut Bindings) -> Result<(), AllocError>
-    requires { bindings.old.present.next < 50 }
-    ensures value { OnOk result (bindings.new.present ≡ all_bound presses bindings.old.present) }
-    ensures next { OnOk result (bindings.new.present.next ≤ bindings.old.present.next + 5) }
+    requires { bindings.old.next < 50 }
+    ensures value { OnOk result (bindings.new ≡ all_bound presses bindings.old) }
+    ensures next { OnOk result (bindings.new.next ≤ bindings.old.next + 5) }
 {
     bind(alloc, bindings, b"Entry", b"<ButtonPress-1>", b"focus %W")?;
     bind(
@@ -65,9 +65,9 @@ fn bind_presses(alloc: Global, bindings: &mut Bindings) -> Result<(), AllocError
 // Keys that print are typed.
 fn bind_typing(alloc: Global, bindings: &mut Bindings, tag: &[u8]) -> Result<(), AllocError>
     requires text { IsText tag.now }
-    requires room { bindings.old.present.next < 50 }
-    ensures value { OnOk result (bindings.new.present ≡ all_bound (typing tag.now) bindings.old.present) }
-    ensures next { OnOk result (bindings.new.present.next ≤ bindings.old.present.next + 3) }
+    requires room { bindings.old.next < 50 }
+    ensures value { OnOk result (bindings.new ≡ all_bound (typing tag.now) bindings.old) }
+    ensures next { OnOk result (bindings.new.next ≤ bindings.old.next + 3) }
 {
     bind(
         alloc,
@@ -83,9 +83,9 @@ fn bind_typing(alloc: Global, bindings: &mut Bindings, tag: &[u8]) -> Result<(),
 
 // Keys that edit an entry.
 fn bind_entry_keys(alloc: Global, bindings: &mut Bindings) -> Result<(), AllocError>
-    requires { bindings.old.present.next < 50 }
-    ensures value { OnOk result (bindings.new.present ≡ all_bound entry_keys bindings.old.present) }
-    ensures next { OnOk result (bindings.new.present.next ≤ bindings.old.present.next + 4) }
+    requires { bindings.old.next < 50 }
+    ensures value { OnOk result (bindings.new ≡ all_bound entry_keys bindings.old) }
+    ensures next { OnOk result (bindings.new.next ≤ bindings.old.next + 4) }
 {
     bind(
         alloc,
@@ -120,9 +120,9 @@ fn bind_entry_keys(alloc: Global, bindings: &mut Bindings) -> Result<(), AllocEr
 
 // Keys that edit a text.
 fn bind_text_keys(alloc: Global, bindings: &mut Bindings) -> Result<(), AllocError>
-    requires { bindings.old.present.next < 50 }
-    ensures value { OnOk result (bindings.new.present ≡ all_bound text_keys bindings.old.present) }
-    ensures next { OnOk result (bindings.new.present.next ≤ bindings.old.present.next + 4) }
+    requires { bindings.old.next < 50 }
+    ensures value { OnOk result (bindings.new ≡ all_bound text_keys bindings.old) }
+    ensures next { OnOk result (bindings.new.next ≤ bindings.old.next + 4) }
 {
     bind(
         alloc,
@@ -158,9 +158,9 @@ fn bind_text_keys(alloc: Global, bindings: &mut Bindings) -> Result<(), AllocErr
 // Buttons are invoked.
 fn bind_invoking(alloc: Global, bindings: &mut Bindings, tag: &[u8]) -> Result<(), AllocError>
     requires text { IsText tag.now }
-    requires room { bindings.old.present.next < 50 }
-    ensures value { OnOk result (bindings.new.present ≡ all_bound (invoking tag.now) bindings.old.present) }
-    ensures next { OnOk result (bindings.new.present.next ≤ bindings.old.present.next + 2) }
+    requires room { bindings.old.next < 50 }
+    ensures value { OnOk result (bindings.new ≡ all_bound (invoking tag.now) bindings.old) }
+    ensures next { OnOk result (bindings.new.next ≤ bindings.old.next + 2) }
 {
     bind(alloc, bindings, tag, b"<ButtonRelease-1>", b"%W invoke")?;
     bind(alloc, bindings, tag, b"<KeyPress-space>", b"%W invoke")?;
@@ -169,8 +169,8 @@ fn bind_invoking(alloc: Global, bindings: &mut Bindings, tag: &[u8]) -> Result<(
 
 // The focus goes round.
 fn bind_traversal(alloc: Global, bindings: &mut Bindings) -> Result<(), AllocError>
-    requires { bindings.old.present.next < 50 }
-    ensures { OnOk result (bindings.new.present ≡ all_bound traversal bindings.old.present) }
+    requires { bindings.old.next < 50 }
+    ensures { OnOk result (bindings.new ≡ all_bound traversal bindings.old) }
 {
     bind(
         alloc,
@@ -192,7 +192,7 @@ fn bind_traversal(alloc: Global, bindings: &mut Bindings) -> Result<(), AllocErr
 /// The bindings of classes that a world has before any input.
 #[tactic(auto, unfolding(crate::specs::ClassBindings::first_bindings))]
 pub fn first_bindings(alloc: Global) -> Result<Bindings, AllocError>
-    ensures { IfOk result (λ bindings. bindings.present ≡ first_bindings) }
+    ensures { IfOk result (λ bindings. bindings ≡ first_bindings) }
 {
     let mut bindings = Bindings::new(alloc);
     bind_presses(alloc, &mut bindings)?;

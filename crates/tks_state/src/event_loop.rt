@@ -7,25 +7,22 @@ ghost use Rattle.tks_timer.specs.After as after;
 ghost use Rattle.tks_timer.specs.After.{script_in, kept_under, with_script};
 ghost use Rattle.tks_tree.specs.Windows.{of_number};
 ghost use Rattle.tks_state.specs.EventLoop.{first_loop, is_there, is_for, is_press, all_in, left_queue, left_focus, left_pressed, left};
-ghost use Rattle.tks_state.specs.Lost.{first_lost};
 ghost use Rattle.tks_state.specs.WellFormed.{WellFormedLoop};
 
 use std::alloc::{AllocError, AllocFailed, Global};
 use std::marker::Model;
 use tks_event::{Event, Held};
-use tks_mark::Items;
 use tks_queue::{Place, Queue, Queued};
-use tks_share::Shared;
+use tks_share::Items;
 use tks_text::Txt;
 use tks_timer::{AfterFault, Timers};
 use tks_tree::{Tree, WindowId};
 
-/// What turns work on. The clock is at most 2^62. Copies share the events and scripts that wait, as long as none of them changes them.
+/// What turns work on. The clock is at most 2^62. Copies share the events and scripts that wait, but for what one of them has changed.
 pub struct EventLoop {
-    alloc: Global,
     clock: u64,
-    queue: Shared<Queue>,
-    timers: Shared<Timers>,
+    queue: Queue,
+    timers: Timers,
     focus: WindowId,
     held: Held,
     pressed: Option<WindowId>,
@@ -35,7 +32,6 @@ pub struct EventLoop {
 impl Drop for EventLoop {
     fn drop(self) {
         let EventLoop {
-            alloc: _,
             clock: _,
             queue: _,
             timers: _,
@@ -51,7 +47,7 @@ impl Model for EventLoop {
 
     ghost Value = { EventLoop };
 
-    ghost view = { λ x. record { clock = x.clock; queue = x.queue.present; timers = x.timers.present; focus = x.focus; held = x.held; pressed = x.pressed } };
+    ghost view = { λ x. record { clock = x.clock; queue = x.queue; timers = x.timers; focus = x.focus; held = x.held; pressed = x.pressed } };
 
     ghost use Rattle.std.specs.Prelude.{◌≤◌, ◌^◌};
 
@@ -60,42 +56,39 @@ impl Model for EventLoop {
 
 impl EventLoop {
     /// The clock stands at 0, nothing waits, `.` has the focus, and nothing is held.
-    pub fn new(alloc: Global) -> Result<EventLoop, AllocError>
-        ensures { IfOk result (λ x. x ≡ first_loop) }
+    pub fn new(alloc: Global) -> EventLoop
+        ensures { result ≡ first_loop }
     {
-        Ok(EventLoop {
-            alloc,
+        EventLoop {
             clock: 0,
-            queue: Shared::new(alloc, Queue::new(alloc))?,
-            timers: Shared::new(alloc, Timers::new(alloc))?,
+            queue: Queue::new(alloc),
+            timers: Timers::new(alloc),
             focus: WindowId::root(),
             held: Held::nothing(),
             pressed: None,
-        })
+        }
     }
 
     /// The one with these parts.
     pub fn restore(
-        alloc: Global,
         clock: u64,
         queue: Queue,
         timers: Timers,
         focus: WindowId,
         held: Held,
         pressed: Option<WindowId>,
-    ) -> Result<EventLoop, AllocError>
+    ) -> EventLoop
         requires { clock ≤ 2 ^ 62 }
-        ensures { IfOk result (λ x. x ≡ record { clock = clock; queue = queue.present; timers = timers.present; focus = focus; held = held; pressed = pressed }) }
+        ensures { result ≡ record { clock = clock; queue = queue; timers = timers; focus = focus; held = held; pressed = pressed } }
     {
-        Ok(EventLoop {
-            alloc,
+        EventLoop {
             clock,
-            queue: Shared::new(alloc, queue)?,
-            timers: Shared::new(alloc, timers)?,
+            queue,
+            timers,
             focus,
             held,
             pressed,
-        })
+        }
     }
 
     /// Whether the focus, the events that wait and the last press are of windows that are there.
@@ -103,7 +96,7 @@ impl EventLoop {
         ensures { result ≡ all_in tree.now.windows self.now }
     {
         is_there(tree, self.focus)
-            && are_for(tree, self.queue.get().events())
+            && are_for(tree, self.queue.events())
             && is_press(tree, self.pressed)
     }
 
@@ -125,9 +118,9 @@ impl EventLoop {
 
     /// The events that wait to be delivered, the next one first.
     pub fn queue(&self) -> &Queue
-        ensures { result.now.present ≡ self.now.queue }
+        ensures { result.now ≡ self.now.queue }
     {
-        self.queue.get()
+        &self.queue
     }
 
     /// Puts an event into its place. Where memory is refused, it hands the event back.
@@ -137,10 +130,7 @@ impl EventLoop {
         ensures err { OnErr result (self.new ≡ self.old) }
         ensures handed_back { IfErr result (λ refused. refused.value ≡ event) }
     {
-        match self.queue.get_mut(self.alloc) {
-            Ok(queue) => queue.put(place, event),
-            Err(_) => Err(AllocFailed { value: event }),
-        }
+        self.queue.put(place, event)
     }
 
     /// Takes out the first event.
@@ -150,19 +140,19 @@ impl EventLoop {
         ensures ok { OnOk result (self.new ≡ record self.old { queue = without_first self.old.queue }) }
         ensures err { OnErr result (self.new ≡ self.old) }
     {
-        self.queue.get_mut(self.alloc)?.take()
+        self.queue.take()
     }
 
     /// The scripts that wait to be run.
     pub fn timers(&self) -> &Timers
-        ensures value { result.now.present ≡ self.now.timers }
+        ensures value { result.now ≡ self.now.timers }
         ensures formed { WellFormedLoop self.now }
     {
         // What holds of the clock, of all queues and of all timers is asked for here.
         let _ = self.clock();
-        let _ = self.queue.get().events();
-        let _ = self.timers.get().next();
-        self.timers.get()
+        let _ = self.queue.events();
+        let _ = self.timers.next();
+        &self.timers
     }
 
     /// Keeps a script that is due at a time. It answers the script's id.
@@ -172,10 +162,7 @@ impl EventLoop {
         ensures full { (result ≡ Err AfterFault.OutOfNumbers) ↔ (2 ^ 62 ≤ self.old.timers.next) }
         ensures err { OnErr result (self.new ≡ self.old) }
     {
-        if self.timers.get().is_full() {
-            return Err(AfterFault::OutOfNumbers);
-        }
-        self.timers.get_mut(self.alloc)?.after(due, script)
+        self.timers.after(due, script)
     }
 
     /// Keeps a script that runs when nothing else is to be done. It answers the script's id.
@@ -185,10 +172,7 @@ impl EventLoop {
         ensures full { (result ≡ Err AfterFault.OutOfNumbers) ↔ (2 ^ 62 ≤ self.old.timers.next) }
         ensures err { OnErr result (self.new ≡ self.old) }
     {
-        if self.timers.get().is_full() {
-            return Err(AfterFault::OutOfNumbers);
-        }
-        self.timers.get_mut(self.alloc)?.idle(script)
+        self.timers.idle(script)
     }
 
     /// Takes out the script of an id; where there is none, nothing is done.
@@ -196,8 +180,7 @@ impl EventLoop {
         ensures ok { OnOk result (self.new ≡ record self.old { timers = after.without id self.old.timers }) }
         ensures err { OnErr result (self.new ≡ self.old) }
     {
-        self.timers.get_mut(self.alloc)?.cancel(id);
-        Ok(())
+        self.timers.cancel(id)
     }
 
     /// Takes out the script with the least id of those that are equal to this one; where there is none, nothing is done.
@@ -205,8 +188,7 @@ impl EventLoop {
         ensures ok { OnOk result (self.new ≡ record self.old { timers = after.without_found (with_script script.now self.old.timers) self.old.timers }) }
         ensures err { OnErr result (self.new ≡ self.old) }
     {
-        self.timers.get_mut(self.alloc)?.cancel_script(script);
-        Ok(())
+        self.timers.cancel_script(script)
     }
 
     /// Takes out the script of an id, to be run.
@@ -215,7 +197,7 @@ impl EventLoop {
         ensures ok { OnOk result (self.new ≡ record self.old { timers = after.without id self.old.timers }) }
         ensures err { OnErr result (self.new ≡ self.old) }
     {
-        self.timers.get_mut(self.alloc)?.take(id)
+        self.timers.take(id)
     }
 
     /// The window that has the focus.
@@ -265,7 +247,7 @@ impl EventLoop {
         ensures { IfOk result (λ x. x ≡ left tree.now.windows self.now) }
     {
         let mut left = self.try_clone()?;
-        leave(self.alloc, &mut left.queue, tree)?;
+        leave(&mut left.queue, tree)?;
         left.focus = left_focus(tree, left.focus);
         left.pressed = left_pressed(tree, left.pressed);
         Ok(left)
@@ -276,7 +258,6 @@ impl EventLoop {
         ensures { IfOk result (λ x. x ≡ self.now) }
     {
         Ok(EventLoop {
-            alloc: self.alloc,
             clock: self.clock,
             queue: self.queue.share()?,
             timers: self.timers.share()?,
@@ -344,46 +325,13 @@ fn is_for(tree: &Tree, queued: &Queued) -> bool
     is_there(tree, WindowId::of(queued.event.window))
 }
 
-// The index of the first event that doesn't stay, or the end.
-fn first_lost(queue: &Queue, tree: &Tree) -> usize
-    ensures { result ≡ first_lost (is_for tree.now.windows) queue.now.present }
-{
-    let len = queue.len();
-    let mut left = len;
-    for queued in queue.events() {
-        if !is_for(tree, queued) {
-            return len - left;
-        }
-        left -= 1;
-    }
-    len
-}
-
-// Whether no event is of a window that is not there.
-fn all_stay(queue: &Queue, tree: &Tree) -> bool
-    ensures { (result ≡ true) ↔ (left_queue tree.now.windows queue.now.present ≡ queue.now.present) }
-{
-    first_lost(queue, tree) >= queue.len()
-}
-
 // Takes out the events of windows that are not there. Where there are none, nothing is copied.
-fn leave(alloc: Global, queue: &mut Shared<Queue>, tree: &Tree) -> Result<(), AllocError>
-    ensures { OnOk result (queue.new ≡ record queue.old { present = left_queue tree.now.windows queue.old.present }) }
+fn leave(queue: &mut Queue, tree: &Tree) -> Result<(), AllocError>
+    ensures { OnOk result (queue.new ≡ left_queue tree.now.windows queue.old) }
 {
-    if all_stay(queue.get(), tree) {
-        return Ok(());
-    }
-    drop_events(queue.get_mut(alloc)?, tree);
-    Ok(())
-}
-
-// Takes out the events of windows that are not there.
-fn drop_events(queue: &mut Queue, tree: &Tree)
-    ensures { queue.new ≡ record queue.old { present = left_queue tree.now.windows queue.old.present } }
-{
-    let mut index = first_lost(queue, tree);
-    while index < queue.len() {
-        queue.remove(index);
-        index = first_lost(queue, tree);
-    }
+    queue.retain(
+        |queued: &Queued| -> bool
+            ensures { result ≡ is_for tree.entry.now.windows queued.now }
+        { is_for(tree, queued) },
+    )
 }

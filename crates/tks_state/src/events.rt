@@ -6,9 +6,7 @@ ghost use Rattle.tks_bind.specs.History as history;
 ghost use Rattle.tks_bind.specs.VirtualEvents.{is_of_name, added, deleted, deleted_sequence};
 ghost use Rattle.tks_event.specs.Legality.{is_event};
 ghost use Rattle.tks_event.specs.Sequences.{is_name};
-ghost use Rattle.tks_tree.specs.Path.{begins_dot};
 ghost use Rattle.tks_state.specs.Events.{max_faults, first_events, with_fault, is_held, held};
-ghost use Rattle.tks_state.specs.Lost.{first_lost};
 ghost use Rattle.tks_state.specs.WellFormed.{WellFormedEvents};
 
 use crate::class_bindings::first_bindings;
@@ -18,14 +16,14 @@ use std::marker::Model;
 use tks_bind::{BindFault, Binding, Bindings, History, Virtuals};
 use tks_event::{Event, Sequence};
 use tks_share::Shared;
-use tks_text::Txt;
+use tks_text::{Txt, begins_dot};
 use tks_tree::Tree;
 
 /// What scripts bound to events rest on. Copies share the parts that none of them has changed.
 pub struct Events {
     alloc: Global,
-    bindings: Shared<Bindings>,
-    virtuals: Shared<Virtuals>,
+    bindings: Bindings,
+    virtuals: Virtuals,
     history: Shared<History>,
     faults: Shared<Faults>,
 }
@@ -51,7 +49,7 @@ impl Model for Events {
 
     ghost coded = { Prim.hlevel codes };
 
-    ghost view = { λ x. record { bindings = x.bindings.present; virtuals = x.virtuals.present; history = x.history.present; faults = x.faults } };
+    ghost view = { λ x. record { bindings = x.bindings; virtuals = x.virtuals; history = x.history; faults = x.faults } };
 }
 
 impl Events {
@@ -61,8 +59,8 @@ impl Events {
     {
         Ok(Events {
             alloc,
-            bindings: Shared::new(alloc, first_bindings(alloc)?)?,
-            virtuals: Shared::new(alloc, Virtuals::new(alloc))?,
+            bindings: first_bindings(alloc)?,
+            virtuals: Virtuals::new(alloc),
             history: Shared::new(alloc, History::new(alloc))?,
             faults: Shared::new(alloc, Faults::none(alloc))?,
         })
@@ -76,15 +74,15 @@ impl Events {
         history: History,
         faults: Vec<Txt>,
     ) -> Result<Option<Events>, AllocError>
-        ensures { IfOk result (λ made. made ≡ (if nat_le (length faults.items) max_faults then Some (record { bindings = bindings.present; virtuals = virtuals.present; history = history.present; faults = faults.items }) else None)) }
+        ensures { IfOk result (λ made. made ≡ (if nat_le (length faults.items) max_faults then Some (record { bindings = bindings; virtuals = virtuals; history = history; faults = faults.items }) else None)) }
     {
         let Some(faults) = Faults::restore(faults) else {
             return Ok(None);
         };
         Ok(Some(Events {
             alloc,
-            bindings: Shared::new(alloc, bindings)?,
-            virtuals: Shared::new(alloc, virtuals)?,
+            bindings,
+            virtuals,
             history: Shared::new(alloc, history)?,
             faults: Shared::new(alloc, faults)?,
         }))
@@ -92,9 +90,9 @@ impl Events {
 
     /// The bindings.
     pub fn bindings(&self) -> &Bindings
-        ensures { result.now.present ≡ self.now.bindings }
+        ensures { result.now ≡ self.now.bindings }
     {
-        self.bindings.get()
+        &self.bindings
     }
 
     /// The texts of the last errors, the oldest first.
@@ -102,8 +100,8 @@ impl Events {
         ensures value { result.now ≡ self.now.faults }
         ensures formed { WellFormedEvents self.now }
     {
-        let _ = self.bindings.get().next();
-        let _ = self.virtuals.get().is_marked();
+        let _ = self.bindings.next();
+        let _ = self.virtuals.events();
         let _ = self.history.get().events();
         self.faults.get().texts()
     }
@@ -113,8 +111,7 @@ impl Events {
         ensures { option_copied result ≡ chosen (record { bindings = self.now.bindings.bindings; tag = tag.now; event = event.now; history = self.now.history; virtuals = self.now.virtuals }) }
     {
         self.bindings
-            .get()
-            .chosen(tag, event, self.history.get(), self.virtuals.get())
+            .chosen(tag, event, self.history.get(), &self.virtuals)
     }
 
     /// Sets the script that a tag has for a sequence.
@@ -123,26 +120,21 @@ impl Events {
         ensures full { (result ≡ Err BindFault.OutOfNumbers) ↔ ((script.now ≢ []) × (2 ^ 62 ≤ self.old.bindings.next)) }
         ensures err { OnErr result (self.new ≡ self.old) }
     {
-        if !script.as_bytes().is_empty() && self.bindings.get().is_full() {
-            return Err(BindFault::OutOfNumbers);
-        }
-        self.bindings
-            .get_mut(self.alloc)?
-            .bind(tag, sequence, script)
+        self.bindings.bind(tag, sequence, script)
     }
 
     /// The events that scripts were chosen for, the oldest first.
     pub fn history(&self) -> &History
-        ensures { result.now.present ≡ self.now.history }
+        ensures { result.now ≡ self.now.history }
     {
         self.history.get()
     }
 
     /// The virtual events.
     pub fn virtuals(&self) -> &Virtuals
-        ensures { result.now.present ≡ self.now.virtuals }
+        ensures { result.now ≡ self.now.virtuals }
     {
-        self.virtuals.get()
+        &self.virtuals
     }
 
     /// Adds a sequence of physical events to a virtual event. One that is there stays where it is.
@@ -152,7 +144,7 @@ impl Events {
         ensures ok { OnOk result (self.new ≡ record self.old { virtuals = added name.now sequence.now self.old.virtuals }) }
         ensures err { OnErr result (self.new ≡ self.old) }
     {
-        self.virtuals.get_mut(self.alloc)?.event_add(name, sequence)
+        self.virtuals.event_add(name, sequence)
     }
 
     /// Takes a virtual event's sequences away.
@@ -160,8 +152,7 @@ impl Events {
         ensures ok { OnOk result (self.new ≡ record self.old { virtuals = deleted name.now self.old.virtuals }) }
         ensures err { OnErr result (self.new ≡ self.old) }
     {
-        self.virtuals.get_mut(self.alloc)?.event_delete(name);
-        Ok(())
+        self.virtuals.event_delete(name)
     }
 
     /// Takes a sequence of a virtual event away. Where none is left, the name goes too.
@@ -173,9 +164,7 @@ impl Events {
         ensures ok { OnOk result (self.new ≡ record self.old { virtuals = deleted_sequence name.now sequence.now self.old.virtuals }) }
         ensures err { OnErr result (self.new ≡ self.old) }
     {
-        self.virtuals
-            .get_mut(self.alloc)?
-            .event_delete_sequence(name, sequence)
+        self.virtuals.event_delete_sequence(name, sequence)
     }
 
     /// The same without the bindings of windows that are not there.
@@ -183,7 +172,7 @@ impl Events {
         ensures { IfOk result (λ x. x ≡ record self.now { bindings = held tree.now.windows self.now.bindings }) }
     {
         let mut left = self.try_clone()?;
-        hold(self.alloc, &mut left.bindings, tree)?;
+        hold(&mut left.bindings, tree)?;
         Ok(left)
     }
 
@@ -222,13 +211,6 @@ impl Events {
     }
 }
 
-// Whether a tag begins as paths do.
-fn begins_dot(tag: &[u8]) -> bool
-    ensures { result ≡ begins_dot tag.now }
-{
-    matches!(tag, [b'.', ..])
-}
-
 // Whether a binding stays: its tag is no path, or that of a window that is there.
 fn is_held(tree: &Tree, binding: &Binding) -> bool
     ensures { result ≡ is_held tree.now.windows binding.now }
@@ -236,46 +218,13 @@ fn is_held(tree: &Tree, binding: &Binding) -> bool
     !begins_dot(binding.tag.as_bytes()) || tree.find(&binding.tag).is_some()
 }
 
-// The index of the first binding that doesn't stay, or the end.
-fn first_lost(bindings: &Bindings, tree: &Tree) -> usize
-    ensures { result ≡ first_lost (is_held tree.now.windows) bindings.now.present.bindings }
-{
-    let len = bindings.len();
-    let mut left = len;
-    for binding in bindings.bindings() {
-        if !is_held(tree, binding) {
-            return len - left;
-        }
-        left -= 1;
-    }
-    len
-}
-
-// Whether no binding is of a window that is not there.
-fn all_stay(bindings: &Bindings, tree: &Tree) -> bool
-    ensures { (result ≡ true) ↔ (held tree.now.windows bindings.now.present ≡ bindings.now.present) }
-{
-    first_lost(bindings, tree) >= bindings.len()
-}
-
-// Takes away the bindings of windows that are not there. Where there are none, nothing is copied.
-fn hold(alloc: Global, bindings: &mut Shared<Bindings>, tree: &Tree) -> Result<(), AllocError>
-    ensures { OnOk result (bindings.new ≡ record bindings.old { present = held tree.now.windows bindings.old.present }) }
-{
-    if all_stay(bindings.get(), tree) {
-        return Ok(());
-    }
-    drop_lost(bindings.get_mut(alloc)?, tree);
-    Ok(())
-}
-
 // Takes away the bindings of windows that are not there.
-fn drop_lost(bindings: &mut Bindings, tree: &Tree)
-    ensures { bindings.new ≡ record bindings.old { present = held tree.now.windows bindings.old.present } }
+fn hold(bindings: &mut Bindings, tree: &Tree) -> Result<(), AllocError>
+    ensures { OnOk result (bindings.new ≡ held tree.now.windows bindings.old) }
 {
-    let mut index = first_lost(bindings, tree);
-    while index < bindings.len() {
-        bindings.remove(index);
-        index = first_lost(bindings, tree);
-    }
+    bindings.retain(
+        |binding: &Binding| -> bool
+            ensures { result ≡ is_held tree.entry.now.windows binding.now }
+        { is_held(tree, binding) },
+    )
 }

@@ -1,3 +1,4 @@
+//! What is kept of a window beside its place in the tree.
 ghost use Rattle.std.specs.Prelude.{◌≡◌, IfOk, Ok, option_copied};
 ghost use Rattle.tks_text.specs.Fault.{Gives};
 ghost use Rattle.tks_opt.specs.Options.{after};
@@ -9,7 +10,7 @@ use crate::widget::Widget;
 use std::alloc::{AllocError, Global};
 use tks_pack::Packing;
 use tks_share::{Numbered, Shared};
-use tks_text::{Failure, Seq, Txt};
+use tks_text::{Failure, Seq, Txt, texts_again};
 use tks_tree::WindowId;
 
 /// What is kept of a window beside its place in the tree: what it is, its tags, and what is packed in it. Each change makes
@@ -20,7 +21,7 @@ pub struct Kept {
     pub widget: Shared<Widget>,
     /// The tags that were set, if any were.
     pub tags: Option<Seq<Txt>>,
-    pub packing: Shared<Packing>,
+    pub packing: Packing,
 }
 
 impl Numbered for Kept {
@@ -33,19 +34,15 @@ impl Numbered for Kept {
 
 impl Kept {
     /// What is kept of a new window: nothing is packed in it, and no tags were set.
-    pub(crate) fn new(
-        alloc: Global,
-        window: WindowId,
-        widget: Shared<Widget>,
-    ) -> Result<Kept, AllocError>
-        ensures { IfOk result (λ k. k ≡ new_kept window widget) }
+    pub(crate) fn new(alloc: Global, window: WindowId, widget: Shared<Widget>) -> Kept
+        ensures { result ≡ new_kept window widget }
     {
-        Ok(Kept {
+        Kept {
             window,
             widget,
             tags: None,
-            packing: Shared::new(alloc, Packing::new(alloc))?,
-        })
+            packing: Packing::new(alloc),
+        }
     }
 
     /// The same with another widget.
@@ -80,7 +77,7 @@ impl Kept {
             window: self.window,
             widget: self.widget.share()?,
             tags: tags_again(alloc, self.tags.as_ref())?,
-            packing: Shared::new(alloc, packing)?,
+            packing,
         })
     }
 
@@ -94,7 +91,7 @@ impl Kept {
         ensures value { Gives (λ k. k) result (after (packed window options.now self.now.packing) (λ p. Ok (with_packing self.now p))) }
         ensures mark { IfOk result (λ k. mark_of k ≡ mark_of self.now) }
     {
-        let mut packing = self.packing.get().try_clone()?;
+        let mut packing = self.packing.share()?;
         packing.pack(window, options)?;
         let kept = self.with_packing(alloc, packing)?;
         Ok(kept)
@@ -104,8 +101,8 @@ impl Kept {
     pub(crate) fn forgotten(&self, alloc: Global, window: WindowId) -> Result<Kept, AllocError>
         ensures { IfOk result (λ k. k ≡ with_packing self.now (forgotten window self.now.packing)) }
     {
-        let mut packing = self.packing.get().try_clone()?;
-        packing.forget(window);
+        let mut packing = self.packing.share()?;
+        packing.forget(window)?;
         self.with_packing(alloc, packing)
     }
 
@@ -113,7 +110,7 @@ impl Kept {
     pub(crate) fn propagating(&self, alloc: Global, propagates: bool) -> Result<Kept, AllocError>
         ensures { IfOk result (λ k. k ≡ with_packing self.now (record self.now.packing { propagates = propagates })) }
     {
-        let mut packing = self.packing.get().try_clone()?;
+        let mut packing = self.packing.share()?;
         packing.set_propagates(propagates);
         self.with_packing(alloc, packing)
     }
@@ -127,15 +124,4 @@ fn tags_again(alloc: Global, tags: Option<&Seq<Txt>>) -> Result<Option<Seq<Txt>>
         Some(tags) => Ok(Some(texts_again(alloc, tags.as_slice())?)),
         None => Ok(None),
     }
-}
-
-// Equal texts.
-fn texts_again(alloc: Global, texts: &[Txt]) -> Result<Seq<Txt>, AllocError>
-    ensures { IfOk result (λ copies. copies ≡ texts.now) }
-{
-    let mut copies = Seq::new(alloc);
-    for text in texts {
-        copies.push(text.try_clone()?)?;
-    }
-    Ok(copies)
 }

@@ -1,3 +1,4 @@
+//! Laws of worlds.
 ghost use Rattle.std.specs.Prelude.{◌≡◌, ℕ, List, Some, true};
 ghost use Rattle.tks_vars.specs.Variables.{Variables};
 ghost use Rattle.tks_state.specs.Laws.{has_text, Shows};

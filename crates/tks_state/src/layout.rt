@@ -9,7 +9,7 @@ use crate::kept::Kept;
 use crate::world::World;
 use std::alloc::{AllocError, Global};
 use tks_pack::{Area, Content, Extent, Requests, windows_lie_inside};
-use tks_share::SharedList;
+use tks_share::{Items, SharedList};
 use tks_text::Size;
 use tks_tree::WindowId;
 use tks_vars::Vars;
@@ -46,7 +46,7 @@ fn size_of(
 ) -> Result<Extent, AllocError>
     ensures { IfOk result (λ e. e ≡ size_of variables.now kept.now sizes.now) }
 {
-    match kept.packing.get().requested(sizes) {
+    match kept.packing.requested(sizes) {
         Some(size) => Ok(size),
         None => {
             let size = kept.widget.get().requested_as_seen(alloc, variables)?;
@@ -111,12 +111,12 @@ fn place_content(
 fn place_contents(
     placed: &mut ByWindow<Area>,
     container: Area,
-    contents: &[Content],
+    contents: Items<'_, Content>,
     places: &[Option<Area>],
 ) -> Result<(), AllocError>
     requires inside { AllByRecursion (LiesInside (extent_of container)) places.now }
     requires fits { (container.x + container.width < 2 ^ 32) × (container.y + container.height < 2 ^ 32) }
-    ensures { OnOk result (placed.new ≡ with_contents container contents.now places.now placed.old) }
+    ensures { OnOk result (placed.new ≡ with_contents container contents.entry places.now placed.old) }
 {
     let mut rest = places;
     for content in contents {
@@ -146,10 +146,9 @@ fn place_in(
         width: area.width,
         height: area.height,
     };
-    let packing = kept.packing.get();
-    let places = packing.place(sizes, extent)?;
+    let places = kept.packing.place(sizes, extent)?;
     windows_lie_inside();
-    place_contents(placed, area, packing.contents(), &places)?;
+    place_contents(placed, area, kept.packing.contents(), &places)?;
     Ok(())
 }
 

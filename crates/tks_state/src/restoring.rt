@@ -17,7 +17,7 @@ use tks_event::Held;
 use tks_opt::class_number;
 use tks_pack::{Content, Packing};
 use tks_queue::Queue;
-use tks_share::{Shared, SharedList};
+use tks_share::{Items, Shared, SharedList};
 use tks_text::{Seq, Size, Txt};
 use tks_timer::Timers;
 use tks_tree::{Tree, Window, WindowId};
@@ -79,7 +79,7 @@ impl Drop for EventParts {
 impl EventParts {
     /// Those, where no more faults are kept than may be.
     pub(crate) fn made(self, alloc: Global) -> Result<Option<Events>, AllocError>
-        ensures { IfOk result (λ made. made ≡ (if nat_le (length self.faults) max_faults then Some (record { bindings = self.bindings.present; virtuals = self.virtuals.present; history = self.history.present; faults = self.faults }) else None)) }
+        ensures { IfOk result (λ made. made ≡ (if nat_le (length self.faults) max_faults then Some (record { bindings = self.bindings; virtuals = self.virtuals; history = self.history; faults = self.faults }) else None)) }
     {
         let EventParts {
             bindings,
@@ -118,9 +118,9 @@ impl Drop for LoopParts {
 
 impl LoopParts {
     /// The event loop.
-    pub(crate) fn made(self, alloc: Global) -> Result<EventLoop, AllocError>
+    pub(crate) fn made(self) -> EventLoop
         requires { self.clock ≤ 2 ^ 62 }
-        ensures { IfOk result (λ x. x ≡ record { clock = self.clock; queue = self.queue.present; timers = self.timers.present; focus = self.focus; held = self.held; pressed = self.pressed }) }
+        ensures { result ≡ record { clock = self.clock; queue = self.queue; timers = self.timers; focus = self.focus; held = self.held; pressed = self.pressed } }
     {
         let LoopParts {
             clock,
@@ -130,8 +130,7 @@ impl LoopParts {
             held,
             pressed,
         } = self;
-        let event_loop = EventLoop::restore(alloc, clock, queue, timers, focus, held, pressed)?;
-        Ok(event_loop)
+        EventLoop::restore(clock, queue, timers, focus, held, pressed)
     }
 }
 
@@ -148,7 +147,7 @@ fn kept_with(alloc: Global, window: WindowId, part: WindowParts) -> Result<Kept,
         window,
         widget: Shared::new(alloc, widget)?,
         tags,
-        packing: Shared::new(alloc, packing)?,
+        packing,
     })
 }
 
@@ -206,8 +205,8 @@ pub fn are_in_step(tree: &Tree, kept: &SharedList<Kept>) -> bool
 }
 
 // Whether a window is one of those that are packed.
-fn is_among(window: WindowId, contents: &[Content]) -> bool
-    ensures { result ≡ is_among window (map (λ c. c.window) contents.now) }
+fn is_among(window: WindowId, contents: Items<'_, Content>) -> bool
+    ensures { result ≡ is_among window (map (λ c. c.window) contents.entry) }
 {
     for content in contents {
         if window == content.window {
@@ -218,22 +217,21 @@ fn is_among(window: WindowId, contents: &[Content]) -> bool
 }
 
 // Whether packed windows differ.
-fn are_distinct(contents: &[Content]) -> bool
-    ensures { result ≡ are_distinct (map (λ c. c.window) contents.now) }
+fn are_distinct(contents: Items<'_, Content>) -> bool
+    ensures { result ≡ are_distinct (map (λ c. c.window) contents.entry) }
 {
     let mut rest = contents;
-    while let Some((first, behind)) = rest.split_first() {
-        if is_among(first.window, behind) {
+    while let Some(first) = rest.next() {
+        if is_among(first.window, rest.again()) {
             return false;
         }
-        rest = behind;
     }
     true
 }
 
 // Whether windows stand right in one.
-fn are_children(tree: &Tree, container: WindowId, contents: &[Content]) -> bool
-    ensures { result ≡ list_all (λ n. is_number container (parent tree.now n)) (map (λ c. c.window) contents.now) }
+fn are_children(tree: &Tree, container: WindowId, contents: Items<'_, Content>) -> bool
+    ensures { result ≡ list_all (λ n. is_number container (parent tree.now n)) (map (λ c. c.window) contents.entry) }
 {
     for content in contents {
         if tree.parent(content.window) != Some(container) {
@@ -248,8 +246,10 @@ pub fn all_pack_children(tree: &Tree, kept: &SharedList<Kept>) -> bool
     ensures { result ≡ list_all (packs_children tree.now) kept.now }
 {
     for one in kept.iter() {
-        let contents = one.packing.get().contents();
-        if !are_distinct(contents) || !are_children(tree, one.window, contents) {
+        let packing = &one.packing;
+        if !are_distinct(packing.contents())
+            || !are_children(tree, one.window, packing.contents())
+        {
             return false;
         }
     }

@@ -1,3 +1,4 @@
+//! What a window is, by its class.
 ghost use Rattle.std.specs.Prelude.{◌≡◌, IfOk, OnErr};
 ghost use Rattle.tks_text.specs.Fault.{Gives};
 ghost use Rattle.tks_pack.specs.Packing.{capped};

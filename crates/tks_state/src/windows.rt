@@ -209,7 +209,7 @@ impl Windows {
         let path = Txt::from_text(alloc, b".")?;
         let widget = Shared::new(alloc, Widget::Frame(Frame::root(alloc, &path)?))?;
         let mut kept = SharedList::new(alloc);
-        kept.push(Kept::new(alloc, WindowId::root(), widget)?)?;
+        kept.push(Kept::new(alloc, WindowId::root(), widget))?;
         Ok(Windows {
             alloc,
             tree: Tree::new(alloc)?,
@@ -261,7 +261,7 @@ impl Windows {
         let widget = Shared::new(self.alloc, widget)?;
         let mut tree = self.tree.try_clone()?;
         let window = tree.create(path, class)?;
-        self.kept.push(Kept::new(self.alloc, window, widget)?)?;
+        self.kept.push(Kept::new(self.alloc, window, widget))?;
         self.tree = tree;
         Ok(window)
     }

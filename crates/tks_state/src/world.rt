@@ -1,3 +1,4 @@
+//! The world: what is kept between inputs, and its changes.
 ghost use Rattle.std.specs.Prelude.{◌≡◌, true, false, ◌≢◌, ◌↔◌, ◌≤◌, ◌+◌, ◌<◌, ◌^◌, [], Err, option_map, option_copied, IfOk, IfErr, IfSome, OnOk, OnErr};
 ghost use Rattle.tks_text.specs.Fault.{Gives};
 ghost use Rattle.tks_bind.specs.Choosing.{chosen};
@@ -29,16 +30,13 @@ use std::mem;
 use tks_app::Memories;
 use tks_bind::{BindFault, Binding, Bindings, History, Virtuals};
 use tks_event::{Event, Held, Sequence};
-use tks_parsed::ParseTable;
+use tks_parse_table::ParseTable;
 use tks_queue::{Place, Queue};
 use tks_share::{Shared, SharedList};
-use tks_text::{Failure, Seq, Size, Txt};
+use tks_text::{Failure, MAX_NUMBER, Seq, Size, Txt};
 use tks_timer::{AfterFault, Timers};
 use tks_tree::{CreateFault, Tree, WindowId};
 use tks_vars::Vars;
-
-/// No number of a world is above this.
-const MAX_NUMBER: u64 = 1 << 62;
 
 /// What is kept between inputs. Copies share what none of them has changed. Beside what contracts see, a world has what the scripts of
 /// its inputs parsed; no copy of it has that.
@@ -49,7 +47,7 @@ pub struct World {
     variables: Shared<Vars>,
     events: Events,
     event_loop: EventLoop,
-    memories: Shared<Memories>,
+    memories: Memories,
     grid: Size,
     parsed: ParseTable,
 }
@@ -74,12 +72,13 @@ impl Drop for World {
 impl Model for World {
     ghost use Rattle.std.specs.Prelude.{◌≤◌, ◌^◌};
     ghost use Rattle.std.specs.Coded.{codes};
+    ghost use Rattle.tks_app.specs.Memories.{memories_code};
     ghost use Rattle.tks_vars.specs.Variables.{variables_code};
     ghost use Rattle.tks_state.specs.World.{World};
 
     ghost Value = { World };
 
-    ghost coded = { Prim.hlevel (codes, variables_code) };
+    ghost coded = { Prim.hlevel (codes, variables_code, memories_code) };
 
     ghost view = { λ w. record { accepted = w.accepted; clock = w.event_loop.clock; tree = w.windows.tree; kept = w.windows.kept; variables = w.variables; bindings = w.events.bindings; virtuals = w.events.virtuals; history = w.events.history; queue = w.event_loop.queue; timers = w.event_loop.timers; focus = w.event_loop.focus; held = w.event_loop.held; pressed = w.event_loop.pressed; memories = w.memories; faults = w.events.faults; grid = w.grid } };
 
@@ -107,8 +106,8 @@ impl World {
             windows: Shared::new(alloc, Windows::first(alloc)?)?,
             variables: Shared::new(alloc, Vars::new(alloc))?,
             events: Events::first(alloc)?,
-            event_loop: EventLoop::new(alloc)?,
-            memories: Shared::new(alloc, Memories::first(alloc, names)?)?,
+            event_loop: EventLoop::new(alloc),
+            memories: Memories::first(alloc, names)?,
             grid,
             parsed: ParseTable::new(alloc),
         })
@@ -192,7 +191,7 @@ impl World {
         let _ = events.history.events();
         let variables = Shared::new(alloc, variables)?;
         let kept = kept_of_parts(alloc, &tree, windows)?;
-        let event_loop = event_loop.made(alloc)?;
+        let event_loop = event_loop.made();
         if variables.get().depth() > 0 || !event_loop.is_in(&tree) {
             return Ok(None);
         }
@@ -231,7 +230,7 @@ impl World {
             variables,
             events,
             event_loop,
-            memories: Shared::new(alloc, memories)?,
+            memories,
             grid,
             parsed: ParseTable::new(alloc),
         })
@@ -378,7 +377,7 @@ impl World {
 
     /// The bindings, in the order in which they were made.
     pub fn bindings(&self) -> &Bindings
-        ensures { result.now.present ≡ self.now.bindings }
+        ensures { result.now ≡ self.now.bindings }
     {
         self.events.bindings()
     }
@@ -408,14 +407,14 @@ impl World {
 
     /// The events that scripts were chosen for, the oldest first.
     pub fn history(&self) -> &History
-        ensures { result.now.present ≡ self.now.history }
+        ensures { result.now ≡ self.now.history }
     {
         self.events.history()
     }
 
     /// The virtual events, in the order in which they were added.
     pub fn virtuals(&self) -> &Virtuals
-        ensures { result.now.present ≡ self.now.virtuals }
+        ensures { result.now ≡ self.now.virtuals }
     {
         self.events.virtuals()
     }
@@ -486,7 +485,7 @@ impl World {
 
     /// The events that wait to be delivered, the next one first.
     pub fn queue(&self) -> &Queue
-        ensures { result.now.present ≡ self.now.queue }
+        ensures { result.now ≡ self.now.queue }
     {
         self.event_loop.queue()
     }
@@ -515,7 +514,7 @@ impl World {
 
     /// The scripts that wait to be run.
     pub fn timers(&self) -> &Timers
-        ensures { result.now.present ≡ self.now.timers }
+        ensures { result.now ≡ self.now.timers }
     {
         self.event_loop.timers()
     }
@@ -617,11 +616,11 @@ impl World {
     pub fn memories(&self) -> &Memories
         ensures { result.now ≡ self.now.memories }
     {
-        self.memories.get()
+        &self.memories
     }
 
     /// Puts other memories in the place of the present ones, which it returns.
-    pub fn replace_memories(&mut self, memories: Shared<Memories>) -> Shared<Memories>
+    pub fn replace_memories(&mut self, memories: Memories) -> Memories
         ensures before { result ≡ self.old.memories }
         ensures after { self.new ≡ record self.old { memories = memories } }
     {

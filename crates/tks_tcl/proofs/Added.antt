@@ -8,7 +8,8 @@ use Rattle.tks_list.specs.Quoting.{spaced, joined}
 use Rattle.tks_list.specs.Reading.{list_of}
 use Rattle.tks_vars.specs.Meets.{IsValue}
 use Rattle.tks_vars.specs.Variables.{Variables, value_of, with_value, grown_by_value}
-use Rattle.tks_tcl.specs.Cause.{Cause, OverLimit, after, value_or_fault, fits}
+use Rattle.tks_tcl.specs.Cause.{Cause, OverLimit, after, value_or_fault}
+use Rattle.tks_text.specs.Limits.{fits}
 use Rattle.tks_tcl.specs.declared.interrupt.Interrupt.{Interrupt}
 use Rattle.tks_tcl.specs.declared.interrupt.Interrupt.TheVariants as interrupt
 use Rattle.tks_tcl.specs.Meets.{FailsSo}

@@ -4,7 +4,8 @@ use Rattle.std.specs.Fmt.{decimal}
 use Rattle.tks_text.specs.declared.limits.Limits.{Limits}
 use Rattle.tks_list.specs.Reading.{list_of}
 use Rattle.tks_vars.specs.Variables.{Variables}
-use Rattle.tks_tcl.specs.Cause.{Cause, OverLimit, after, fits}
+use Rattle.tks_tcl.specs.Cause.{Cause, OverLimit, after}
+use Rattle.tks_text.specs.Limits.{fits}
 use Rattle.tks_tcl.specs.Words.{list_read}
 use Rattle.tks_tcl.specs.Lists.{indexed, ranged}
 use Rattle.tks_tcl.specs.Variables.{answers}

@@ -4,7 +4,8 @@ use Rattle.tks_text.specs.Fault.{fault_text}
 use Rattle.tks_text.specs.declared.fault.ScriptFault.{ScriptFault}
 use Rattle.tks_text.specs.declared.limits.Limits.{Limits}
 use Rattle.tks_vars.specs.Variables.{Variables}
-use Rattle.tks_tcl.specs.Cause.{Cause, Fault, OverLimit, after, fits}
+use Rattle.tks_tcl.specs.Cause.{Cause, Fault, OverLimit, after}
+use Rattle.tks_text.specs.Limits.{fits}
 use Rattle.tks_tcl.specs.Variables.{Changed, variable_named}
 use Rattle.tks_tcl.specs.Codes.{code_named}
 use Rattle.tks_tcl.specs.Plain.{Answer, Answers, PassesLimit, with_code_0, Command, command_named, errs, answered}

@@ -8,7 +8,8 @@ use Rattle.tks_text.specs.declared.limits.Limits.{Limits}
 use Rattle.tks_vars.specs.Laws.{FramesStay}
 use Rattle.tks_vars.specs.Variables.{Variables, without, with_value, with_global_value, grown_by_value, grown_by_global_value, grown_by_link}
 use Rattle.tks_vars.proofs.Framing.{itself, both, given_stays, global_given_stays, without_stays, link_stays}
-use Rattle.tks_tcl.specs.Cause.{Cause, Fault, OverLimit, after, value_or_fault, fits, within}
+use Rattle.tks_tcl.specs.Cause.{Cause, Fault, OverLimit, after, value_or_fault, within}
+use Rattle.tks_text.specs.Limits.{fits}
 use Rattle.tks_tcl.specs.Codes.{CodeCommand, code_named}
 use Rattle.tks_tcl.specs.Lists.{ListCommand}
 use Rattle.tks_tcl.specs.Variables.{Changed, VariableCommand, value_in, increased, appended, list_appended, without_all, silent, unset_does, answers, may_grow, stores, stores_global, link_within, with_global_links, set_does, incr_does, append_does, lappend_does, global_does, info_does, variable_named}

@@ -3,7 +3,8 @@ use Rattle.std.proofs.Common.{◌≡◌, ℕ, Bool, true, false, ◌&&◌, if◌
 use Rattle.tks_text.specs.declared.fault.ScriptFault.{ScriptFault}
 use Rattle.tks_text.specs.declared.limits.Limits.{Limits}
 use Rattle.tks_vars.specs.Variables.{Variables, with_value, grown_by_value}
-use Rattle.tks_tcl.specs.Cause.{Cause, OverLimit, after, value_or_fault, fits}
+use Rattle.tks_tcl.specs.Cause.{Cause, OverLimit, after, value_or_fault}
+use Rattle.tks_text.specs.Limits.{fits}
 use Rattle.tks_tcl.specs.declared.interrupt.Interrupt.{Interrupt}
 use Rattle.tks_tcl.specs.declared.interrupt.Interrupt.TheVariants as interrupt
 use Rattle.tks_tcl.specs.Meets.{FailsSo}

@@ -4,7 +4,8 @@ use Rattle.std.specs.Prelude.{map, filter}
 use Rattle.std.proofs.lemmas.Bool.Decides.{nat_tests}
 use Rattle.tks_text.specs.declared.limits.Limits.{Limits}
 use Rattle.tks_list.specs.Quoting.{is_sign, stands_bare, stands_in_braces, in_braces, backslashed_char, backslashed_chars, backslashed, quoted, spaced, joined}
-use Rattle.tks_tcl.specs.Cause.{OverLimit, fits, within}
+use Rattle.tks_tcl.specs.Cause.{OverLimit, within}
+use Rattle.tks_text.specs.Limits.{fits}
 use Rattle.tks_tcl.specs.Lists.{separated, joined_by, trimmed, concatenated}
 use Rattle.tks_tcl.specs.Room.{room_of}
 use Rattle.tks_tcl.specs.Variables.{flat}

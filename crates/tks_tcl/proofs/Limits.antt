@@ -2,12 +2,12 @@
 use Rattle.std.proofs.Common.{◌≡◌, ℕ, ◌≤◌, Bool, true, false, ◌&&◌, leb, ltb, if◌then◌else◌, List, [], ◌∷◌, length, codes, Option, Some, None, option_map, IfSome, Result, Ok, Err, refl, subst, arith}
 use Rattle.std.proofs.lemmas.Bool.{le-leb, leb-true, lt-ltb, ltb-true}
 use Rattle.std.proofs.lemmas.Option.{IfSome_then}
-use Rattle.tks_text.specs.Limits.{Wider}
+use Rattle.tks_text.specs.Limits.{Wider, fits}
 use Rattle.tks_text.specs.Text.{same_text}
 use Rattle.tks_text.specs.Fault.{fault_text}
 use Rattle.tks_text.specs.declared.limits.Limits.{Limits}
 use Rattle.tks_vars.specs.Variables.{Variables, with_value, with_global_value, with_global_link, exists, grown_by_value, grown_by_global_value, grown_by_link}
-use Rattle.tks_tcl.specs.Cause.{Cause, Fault, OverLimit, after, value_or_fault, fits, within, wrong_words}
+use Rattle.tks_tcl.specs.Cause.{Cause, Fault, OverLimit, after, value_or_fault, within, wrong_words}
 use Rattle.tks_tcl.specs.Codes.{CodeCommand, bare_code, says, returns, raises, code_named}
 use Rattle.tks_tcl.specs.Words.{truth_text}
 use Rattle.tks_tcl.specs.Lists.{ListCommand}

@@ -1,8 +1,9 @@
 -- What a command comes to: a value, or why there is none.
-use Rattle.std.specs.Prelude.{ℕ, Bool, nat_le, if◌then◌else◌, List, length, Some, None, Result, Ok, Err}
+use Rattle.std.specs.Prelude.{ℕ, if◌then◌else◌, List, Some, None, Result, Ok, Err}
 use Rattle.tks_text.specs.declared.fault.ErrorNumber.{ErrorNumber}
 use Rattle.tks_text.specs.declared.fault.ErrorNumber.TheVariants.{WrongWords}
 use Rattle.tks_text.specs.declared.fault.ScriptFault.{ScriptFault}
+use Rattle.tks_text.specs.Limits.{fits}
 use Rattle.tks_text.specs.declared.limits.Limits.{Limits}
 
 -- an error of the script's own, or something that would pass a limit
@@ -32,10 +33,6 @@ abbrev pub wrong_words : {X : Type 0} → List ℕ → Result X Cause
 wrong_words command = Err (Fault (about WrongWords command))
 
 module _ (limits : Limits) where
-  -- whether a text passes no limit
-  abbrev pub fits : List ℕ → Bool
-  fits text = nat_le (length text) limits.text
-
   -- a text, where it passes no limit
   abbrev pub within : List ℕ → Result (List ℕ) Cause
-  within text = if fits text then Ok text else Err OverLimit
+  within text = if fits limits text then Ok text else Err OverLimit

@@ -6,7 +6,8 @@ use Rattle.tks_text.specs.declared.limits.Limits.{Limits}
 use Rattle.tks_text.specs.declared.fault.Failure.{Failure}
 use Rattle.tks_text.specs.declared.fault.Failure.TheVariants as failure
 use Rattle.tks_vars.specs.Variables.{Variables}
-use Rattle.tks_tcl.specs.Cause.{Cause, Fault, OverLimit, fits}
+use Rattle.tks_tcl.specs.Cause.{Cause, Fault, OverLimit}
+use Rattle.tks_text.specs.Limits.{fits}
 use Rattle.tks_tcl.specs.Growing.{lengthens, adds_elements}
 use Rattle.tks_tcl.specs.Plain.{Answer, Answers, PassesLimit, Ending}
 use Rattle.tks_tcl.specs.declared.interrupt.Interrupt.{Interrupt}

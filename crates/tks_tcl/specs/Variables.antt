@@ -9,7 +9,8 @@ use Rattle.tks_text.specs.declared.fault.ScriptFault.{ScriptFault}
 use Rattle.tks_text.specs.declared.limits.Limits.{Limits}
 use Rattle.tks_list.specs.Quoting.{joined}
 use Rattle.tks_vars.specs.Variables.{Variables, value_of, exists, with_value, with_global_value, without, with_global_link, grown_by_value, grown_by_global_value, grown_by_link}
-use Rattle.tks_tcl.specs.Cause.{Cause, Fault, OverLimit, after, value_or_fault, bare, wrong_words, fits, within}
+use Rattle.tks_tcl.specs.Cause.{Cause, Fault, OverLimit, after, value_or_fault, bare, wrong_words, within}
+use Rattle.tks_text.specs.Limits.{fits}
 use Rattle.tks_tcl.specs.Words.{integer_in, list_in, truth_text}
 
 -- ---- values

@@ -5,10 +5,9 @@ ghost use Rattle.tks_vars.specs.Variables.{Variables};
 ghost use Rattle.tks_tcl.specs.Plain.{Answers, plain};
 
 use crate::elements::{lindex_of, llength_of, lrange_of};
-use crate::interrupt::fits;
 use std::alloc::Global;
 use tks_list::Elements;
-use tks_text::{Limits, Txt};
+use tks_text::{Limits, Txt, fits};
 
 /// What `lindex` answers of any text that splits into this list, and an index. None where that is an error or passes the limit,
 /// or where memory is refused.

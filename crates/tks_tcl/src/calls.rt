@@ -1,3 +1,4 @@
+//! A command that runs no script, given its words.
 ghost use Rattle.std.specs.Prelude.{◌≡◌, OnErr};
 ghost use Rattle.tks_tcl.specs.Plain.{errs, plain};
 ghost use Rattle.tks_tcl.specs.View.{command_of};

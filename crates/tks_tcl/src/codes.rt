@@ -1,3 +1,4 @@
+//! The commands that end with a code of their own.
 ghost use Rattle.tks_tcl.specs.Codes.{bare_code, says, returns, raises};
 ghost use Rattle.tks_tcl.specs.View.{code_command_of};
 ghost use Rattle.tks_tcl.specs.Meets.{GivesSo};

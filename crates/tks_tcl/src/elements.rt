@@ -2,7 +2,8 @@
 ghost use Rattle.std.specs.Prelude.{◌≡◌, ◌++◌, drop, length, nat_le, IfOk, OnOk};
 ghost use Rattle.std.specs.Fmt.{decimal};
 ghost use Rattle.tks_list.specs.Quoting.{joined};
-ghost use Rattle.tks_tcl.specs.Cause.{fits, within};
+ghost use Rattle.tks_tcl.specs.Cause.{within};
+ghost use Rattle.tks_text.specs.Limits.{fits};
 ghost use Rattle.tks_tcl.specs.Index.{range};
 ghost use Rattle.tks_tcl.specs.Lists.{first_or_empty, indexed, ranged, separated, joined_by};
 ghost use Rattle.tks_tcl.specs.Meets.{GivesSo};

@@ -7,13 +7,13 @@ ghost use Rattle.tks_tcl.specs.Meets.{GivesSo, JoinsSo};
 ghost use Rattle.tks_tcl.specs.Variables.{flat, left};
 ghost use Rattle.tks_tcl.specs.Growing.{value_len, lengthened, lengthens, adds_texts, list_with, adds_elements};
 
-use crate::interrupt::{Interrupt, fits};
+use crate::interrupt::Interrupt;
 use crate::room::{have_room, room_behind};
 use crate::variables::{is_missing, store, store_list, store_quietly, value_in, value_or};
 use crate::words::list_in;
 use std::alloc::{AllocError, Global};
 use tks_list::{ListText, Suffix};
-use tks_text::{Failure, Limits, Seq, Txt};
+use tks_text::{Failure, Limits, Seq, Txt, fits};
 use tks_vars::Vars;
 
 // How long the value of a variable or an element is, where it isn't missing.

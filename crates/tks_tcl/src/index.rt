@@ -1,3 +1,4 @@
+//! Indices of lists and texts: `N`, `end`, `end-N`.
 ghost use Rattle.std.specs.Prelude.{◌≡◌, length, min, pos, ◌+ℤ◌};
 ghost use Rattle.tks_text.specs.Text.{IsText};
 ghost use Rattle.tks_tcl.specs.Cause.{about};

@@ -1,9 +1,11 @@
+//! Why a command gave no value.
 ghost use Rattle.std.specs.Prelude.{◌≡◌};
-ghost use Rattle.tks_tcl.specs.Cause.{about, bare, fits, within};
+ghost use Rattle.tks_tcl.specs.Cause.{about, bare, within};
+ghost use Rattle.tks_text.specs.Limits.{fits};
 ghost use Rattle.tks_tcl.specs.Meets.{TellsSo, GivesSo};
 
 use std::alloc::AllocError;
-use tks_text::{ErrorNumber, Failure, Limits, ScriptFault, Txt};
+use tks_text::{ErrorNumber, Failure, Limits, ScriptFault, Txt, fits};
 
 /// Why a command gave no value.
 #[derive(Drop)]
@@ -67,13 +69,6 @@ pub fn wrong_words(command: &Txt) -> Interrupt
     ensures { TellsSo (about ErrorNumber.WrongWords command.now) result }
 {
     error_about(ErrorNumber::WrongWords, command)
-}
-
-/// Whether a text passes no limit.
-pub fn fits(text: &Txt, limits: &Limits) -> bool
-    ensures { result ≡ fits limits.now text.now }
-{
-    text.len() <= limits.text as usize
 }
 
 /// A text, where it passes no limit.

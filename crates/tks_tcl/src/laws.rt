@@ -1,3 +1,4 @@
+//! Laws of commands that run no script.
 ghost use Rattle.std.specs.Prelude.{◌≡◌, ℕ, List, [], ◌∷◌};
 ghost use Rattle.std.specs.List.{slice_get};
 ghost use Rattle.tks_tcl.specs.Index.{Index, range};

@@ -1,3 +1,4 @@
+//! A list that is lent to the command that reads it.
 ghost use Rattle.std.specs.Prelude.{◌≡◌};
 ghost use Rattle.tks_tcl.specs.View.{elements_of};
 

@@ -1,8 +1,10 @@
+//! The commands on lists.
 ghost use Rattle.std.specs.Prelude.{◌≡◌, ◌==◌, ◌<◌, ◌≤◌, ◌^◌, ◌++◌, ◌∷◌, [], length, map, filter, not, IfSome, IfOk, OnOk};
 ghost use Rattle.std.specs.List.{prefix_len};
 ghost use Rattle.tks_text.specs.Text.{IsText};
 ghost use Rattle.tks_text.specs.Integer.{is_space};
-ghost use Rattle.tks_tcl.specs.Cause.{after, fits, within};
+ghost use Rattle.tks_tcl.specs.Cause.{after, within};
+ghost use Rattle.tks_text.specs.Limits.{fits};
 ghost use Rattle.tks_tcl.specs.Meets.{GivesSo};
 ghost use Rattle.tks_list.specs.Quoting.{joined};
 ghost use Rattle.tks_tcl.specs.Lists.{place_text, separated, joined_by, without_end, trimmed, concatenated, is_among, fields, split_at, llength_does, lindex_does, lrange_does, searched, lsearch_does, join_does, split_does};
@@ -275,8 +277,8 @@ fn push_some(list: &mut Seq<Txt>, text: Txt) -> Result<(), AllocError>
     Ok(())
 }
 
-/// The texts without their outer white space, those that are not empty then, with spaces between them.
-pub fn concatenated(alloc: Global, words: &[Txt]) -> Result<Txt, AllocError>
+// The texts without their outer white space, those that are not empty then, with spaces between them.
+fn concatenated(alloc: Global, words: &[Txt]) -> Result<Txt, AllocError>
     ensures { IfOk result (λ t. t ≡ concatenated words.now) }
 {
     let mut kept = Seq::new(alloc);
@@ -304,7 +306,8 @@ fn concatenated_fits(words: &[Txt], limits: &Limits) -> bool
     true
 }
 
-/// The same as `concatenated`, where it passes no limit. Where it would, nothing is made.
+/// The texts without their outer white space, those that are not empty then, with spaces between them, where that passes no limit.
+/// Where it would, nothing is made.
 pub fn concatenated_within(alloc: Global, words: &[Txt], limits: &Limits) -> Result<Txt, Interrupt>
     ensures { GivesSo (λ t. t) result (within limits.now (concatenated words.now)) }
 {

@@ -1,3 +1,4 @@
+//! The command `string`.
 ghost use Rattle.std.specs.Prelude.{◌≡◌, IfOk};
 ghost use Rattle.tks_tcl.specs.Index.{range};
 ghost use Rattle.tks_tcl.specs.Meets.{GivesSo};

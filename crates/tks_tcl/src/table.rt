@@ -9,7 +9,7 @@ use crate::lent::Lent;
 use crate::words::{elements_in, list_in};
 use std::alloc::{AllocError, Global};
 use std::marker::Model;
-use tks_list::Elements;
+use tks_list::{Elements, LEAST_KEPT};
 use tks_share::Shared;
 use tks_text::{Seq, Txt};
 
@@ -48,9 +48,6 @@ impl KeptList {
 
 /// How many lists a table keeps.
 const PLACES: usize = 8;
-
-/// A text of fewer bytes isn't kept: it is read as quickly as it is found.
-const LEAST_LEN: usize = 32;
 
 /// Lists that were read in a run, each with its text. Where no place is left, the oldest goes. Contracts see nothing of what
 /// is kept, and want of memory keeps nothing more.
@@ -131,7 +128,7 @@ impl ListTable {
     pub(crate) fn list(&mut self, alloc: Global, text: &Txt) -> Result<Lent, Interrupt>
         ensures { GivesSo elements_of result (list_in text.now) }
     {
-        if text.len() < LEAST_LEN {
+        if text.len() < LEAST_KEPT {
             Ok(Lent::Read(elements_in(alloc, text)?))
         } else {
             Ok(Lent::Kept(self.list_kept(alloc, text)?))

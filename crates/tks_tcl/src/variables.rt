@@ -1,3 +1,4 @@
+//! The commands on variables.
 ghost use Rattle.std.specs.Prelude.{◌≡◌, ◌+ℤ◌, codes, Ok, IsOk, OnErr};
 ghost use Rattle.tks_vars.specs.Variables.{value_of};
 ghost use Rattle.tks_tcl.specs.Cause.{after};
@@ -6,11 +7,11 @@ ghost use Rattle.tks_tcl.specs.Variables.{value_in, is_missing, value_or, intege
 ghost use Rattle.tks_tcl.specs.View.{variable_command_of};
 
 use crate::growing::{add_elements, add_texts};
-use crate::interrupt::{Interrupt, error, fits, within, wrong_words};
+use crate::interrupt::{Interrupt, error, within, wrong_words};
 use crate::words::{integer_in, truth_text};
 use std::alloc::Global;
 use tks_list::ListText;
-use tks_text::{ErrorNumber, Failure, Limits, Txt, decimal_of};
+use tks_text::{ErrorNumber, Failure, Limits, Txt, decimal_of, fits};
 use tks_vars::Vars;
 
 /// The commands on variables.

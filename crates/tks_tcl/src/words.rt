@@ -1,3 +1,4 @@
+//! What a word says as an integer, a list or a truth value.
 ghost use Rattle.std.specs.Prelude.{◌≡◌, ◌<◌, ◌^◌, IfOk};
 ghost use Rattle.std.specs.Fmt.{decimal};
 ghost use Rattle.tks_tcl.specs.Meets.{GivesSo};

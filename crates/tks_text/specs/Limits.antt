@@ -1,5 +1,5 @@
 -- Limits (this project's own rule).
-use Rattle.std.specs.Prelude.{◌≤◌}
+use Rattle.std.specs.Prelude.{◌≤◌, ℕ, Bool, List, length, nat_le}
 use Rattle.tks_text.specs.declared.limits.Limits.{Limits}
 
 -- those that go with files of format 1
@@ -13,3 +13,7 @@ pub record Wider (limits wider : Limits) : Type 0 where
   pub text : limits.text ≤ wider.text
   pub items : limits.items ≤ wider.items
   pub pending : limits.pending ≤ wider.pending
+
+-- a text of no more bytes than the limits admit
+abbrev pub fits : Limits → List ℕ → Bool
+fits limits text = nat_le (length text) limits.text

@@ -17,6 +17,11 @@ IsText bytes = AllByRecursion IsTextByte bytes
 abbrev pub is_text : List ℕ → Bool
 is_text bytes = list_all is_text_byte bytes
 
+-- does it begin with a dot, as paths of windows do?
+abbrev pub begins_dot : List ℕ → Bool
+begins_dot [] = false
+begins_dot (c ∷ text) = c == 46
+
 -- whether two texts are the same
 abbrev pub same_text : List ℕ → List ℕ → Bool
 same_text = pointwise nat_eq

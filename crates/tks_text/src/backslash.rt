@@ -1,3 +1,4 @@
+//! Escapes: what a backslash and the characters behind it stand for.
 ghost use Rattle.std.specs.Prelude.{◌≡◌, ◌<◌, ◌≤◌, ◌+◌, length, IfSome, IfOk, true, Some, None};
 ghost use Rattle.std.specs.List.{prefix_len};
 ghost use Rattle.tks_text.specs.Backslash.{is_blank, character, digit_count, number_of, hex_escape, octal_escape, in_text, escaped, escape};

@@ -1,3 +1,4 @@
+//! The classes of windows.
 ghost use Rattle.std.specs.Prelude.{◌≡◌};
 
 /// The class of a window.

@@ -1,3 +1,4 @@
+//! Errors of scripts: their numbers and their texts.
 ghost use Rattle.std.specs.Prelude.{◌≡◌, ◌<◌, ◌+◌, ◌++◌, ◌∷◌, [], take, length, IfOk, OnOk};
 
 use crate::text::Txt;
@@ -61,7 +62,8 @@ impl ErrorNumber {
 }
 
 /// An error of a script, and what it is about, as a variable's name.
-#[derive(Debug, Drop)]
+#[derive(Debug, Drop, Error)]
+#[error("an error of a script: {number:?}")]
 pub struct ScriptFault {
     pub number: ErrorNumber,
     pub subject: Option<Txt>,

@@ -1,3 +1,4 @@
+//! Laws of texts.
 ghost use Rattle.std.specs.Prelude.{◌≡◌, ◌↔◌, List, ℕ, ℤ, Some, Ok, true};
 ghost use Rattle.std.specs.Fmt.{signed_decimal};
 ghost use Rattle.tks_text.specs.Backslash.{Escapes, escaped};

@@ -1,4 +1,14 @@
+//! What one input, and the world that it leaves, may come to, and the largest number there is.
 ghost use Rattle.std.specs.Prelude.{◌≡◌};
+ghost use Rattle.tks_text.specs.Limits.{fits};
+
+use crate::text::Txt;
+
+/// The largest number of a world: 2^62. Serials, counts and numbers to be given out reach it at most, times stay below it.
+pub const MAX_NUMBER: u64 = 1 << 62;
+
+/// The last time, in milliseconds: 2^62 - 1.
+pub const MAX_TIME: u64 = MAX_NUMBER - 1;
 
 /// What one input, and the world that it leaves, may come to. An input that would pass a limit is
 /// refused as a whole.
@@ -31,4 +41,11 @@ impl Limits {
             pending: 64,
         }
     }
+}
+
+/// Whether a text passes no limit.
+pub fn fits(text: &Txt, limits: &Limits) -> bool
+    ensures { result ≡ fits limits.now text.now }
+{
+    text.len() <= limits.text as usize
 }

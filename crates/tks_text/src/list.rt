@@ -1,3 +1,4 @@
+//! A list of fewer than 2^32 items, which contracts see as a list.
 ghost use Rattle.std.specs.Prelude.{◌≡◌, ◌<◌, ◌==◌, ◌++◌, [], ◌∷◌, length, slice_set, OnOk, OnErr};
 ghost use Rattle.std.specs.List.{remove};
 ghost use Rattle.tks_text.specs.Short.{IsShort};

@@ -1,3 +1,4 @@
+//! The size of the grid.
 ghost use Rattle.std.specs.Prelude.{◌≡◌, ◌↔◌, IsSome, IfSome};
 ghost use Rattle.tks_text.specs.Size.{IsGridSize};
 

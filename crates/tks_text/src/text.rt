@@ -1,8 +1,9 @@
+//! Texts: lists of the bytes that may stand in one.
 ghost use Rattle.std.specs.Prelude.{◌≡◌, ℕ, ◌↔◌, ◌++◌, [], ◌∷◌, ◌==◌, take, drop, Some, position, length, IfOk, OnOk, OnErr, not, true, false};
 ghost use Rattle.tks_text.specs.Short.{IsShort};
-ghost use Rattle.tks_text.specs.Text.{is_text_byte, is_text, IsText};
+ghost use Rattle.tks_text.specs.Text.{is_text_byte, is_text, begins_dot, IsText};
 
-use crate::list::MAX_LEN;
+use crate::list::{MAX_LEN, Seq};
 use std::alloc::{AllocError, Global};
 use std::hash::{Hash, Hasher};
 use std::marker::Model;
@@ -50,6 +51,13 @@ pub fn is_text_byte(byte: u8) -> bool
     ensures { result ≡ is_text_byte byte }
 {
     byte == b'\t' || byte == b'\n' || (32 <= byte && byte <= 126)
+}
+
+/// Whether a text begins with a dot, as paths of windows do.
+pub fn begins_dot(text: &[u8]) -> bool
+    ensures { result ≡ begins_dot text.now }
+{
+    matches!(text, [b'.', ..])
 }
 
 /// Whether each of the bytes may stand in a text, so that they are one.
@@ -265,4 +273,15 @@ impl Hash for Txt {
     fn hash<H: Hasher>(&self, state: &mut H) {
         self.as_bytes().hash(state);
     }
+}
+
+/// Equal texts.
+pub fn texts_again(alloc: Global, texts: &[Txt]) -> Result<Seq<Txt>, AllocError>
+    ensures { IfOk result (λ copies. copies ≡ texts.now) }
+{
+    let mut copies = Seq::new(alloc);
+    for text in texts {
+        copies.push(text.try_clone()?)?;
+    }
+    Ok(copies)
 }

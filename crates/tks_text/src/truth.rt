@@ -1,3 +1,4 @@
+//! The words that name truth values.
 ghost use Rattle.std.specs.Prelude.{◌≡◌};
 ghost use Rattle.tks_text.specs.Truth.{is_true_word, is_false_word, truth_of_word};
 

@@ -5,6 +5,7 @@ use Rattle.std.proofs.Common.{◌≡◌, ℕ, ◌+◌, ◌<◌, ◌≤◌, ◌^�
 use Rattle.std.proofs.lemmas.Bool.{and_from, and_parts}
 use Rattle.std.proofs.lemmas.Bool.Decides.{nat_tests}
 use Rattle.std.proofs.lemmas.List.Folds.{list_all-append}
+use Rattle.tks_share.specs.Lists.{Rises}
 use Rattle.tks_timer.specs.declared.entry.Timer.{Timer}
 use Rattle.tks_timer.specs.declared.entry.Idle.{Idle}
 use Rattle.tks_timer.specs.After.{Content, no_later, with_timer, with_idle, without}
@@ -45,6 +46,14 @@ module _ {X : Type 0} (number_of : X → ℕ) where
   tail least next x xs low high rest =
       and_from (nat_le least (number_of x) && nat_lt (number_of x) next) (rise_below number_of (number_of x + 1) next xs)
       (and_from (nat_le least (number_of x)) (nat_lt (number_of x) next) low high) rest
+
+  -- so they rise in the words of lists by number
+  rises : (least next : ℕ) (xs : List X) → rise_below number_of least next xs ≡ true → Rises number_of least xs
+  rises least next [] h = tt
+  rises least next (x ∷ xs) h =
+      let all = head least next x xs h in
+      let low : least ≤ number_of x = let at = all.0.0 in grind (arith, nat_tests) in
+      (low, rises (number_of x + 1) next xs all.1)
 
   -- from a lesser one on
   rise_from : (lesser least next : ℕ) (xs : List X) → lesser ≤ least → rise_below number_of least next xs ≡ true → rise_below number_of lesser next xs ≡ true
@@ -128,6 +137,12 @@ whole : (c : Content) → rise_below (λ t. t.id) 0 c.next c.timers ≡ true →
 whole c timers idles apart due =
     and_from (rise_below (λ t. t.id) 0 c.next c.timers) (rise_below (λ i. i.id) 0 c.next c.idles && (are_apart c.idles c.timers && are_due c.timers)) timers
     (and_from (rise_below (λ i. i.id) 0 c.next c.idles) (are_apart c.idles c.timers && are_due c.timers) idles (and_from (are_apart c.idles c.timers) (are_due c.timers) apart due))
+
+pub timers_rise : (c : Content) → AreWaiting c → Rises (λ (t : Timer). t.id) 0 c.timers
+timers_rise c h = rises (λ t. t.id) 0 c.next c.timers (parts_of c h.waiting).0.0
+
+pub idles_rise : (c : Content) → AreWaiting c → Rises (λ (i : Idle). i.id) 0 c.idles
+idles_rise c h = rises (λ i. i.id) 0 c.next c.idles (parts_of c h.waiting).0.1
 
 due_in_time : (due : ℕ) → nat_le (no_later due) max_due ≡ true
 due_in_time due = grind (arith, nat_tests)

@@ -14,11 +14,6 @@ pub record Content : Type 0 where
   pub idles : List Idle
   pub next : ℕ
 
--- what is kept now, and, where a mark stands, what was kept at the mark
-pub record Views : Type 0 where
-  pub present : Content
-  pub at_mark : Option Content
-
 abbrev pub nothing : Content
 nothing = record { timers = []; idles = []; next = 0 }
 

@@ -1,5 +1,5 @@
+-- The definitions that contracts cite.
 pub mod After
 pub mod Ids
-pub mod View
 pub mod Waits
 pub mod WellFormed

@@ -1,9 +1,9 @@
 -- What holds of all scripts that wait (after(n); that their ids rise is this project's own rule).
-use Rattle.std.specs.Prelude.{ℕ, ◌≡◌, ◌+◌, ◌==◌, ◌≤◌, ◌^◌, Bool, true, ◌&&◌, not, nat_le, nat_lt, List, [], ◌∷◌, IfSome}
+use Rattle.std.specs.Prelude.{ℕ, ◌≡◌, ◌+◌, ◌==◌, ◌≤◌, ◌^◌, Bool, true, ◌&&◌, not, nat_le, nat_lt, List, [], ◌∷◌}
 use Rattle.std.specs.List.{list_all}
 use Rattle.tks_timer.specs.declared.entry.Timer.{Timer}
 use Rattle.tks_timer.specs.declared.entry.Idle.{Idle}
-use Rattle.tks_timer.specs.After.{Content, Views}
+use Rattle.tks_timer.specs.After.{Content}
 
 -- whether numbers rise, none less than the first and each below the next one
 abbrev pub rise_below : {T : Type 0} → (T → ℕ) → ℕ → ℕ → List T → Bool
@@ -35,8 +35,3 @@ are_waiting c = rise_below (λ t. t.id) 0 c.next c.timers && (rise_below (λ i. 
 pub record AreWaiting (c : Content) : Type 0 where
   pub next : c.next ≤ 2 ^ 62
   pub waiting : are_waiting c ≡ true
-
--- of what there is, and of what there was at the mark
-pub record WellFormedTimers (v : Views) : Type 0 where
-  pub present : AreWaiting v.present
-  pub at_mark : IfSome v.at_mark AreWaiting

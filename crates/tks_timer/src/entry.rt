@@ -1,6 +1,5 @@
-use std::alloc::{AllocError, Global};
-use tks_mark::Numbered;
-use tks_share::Copied;
+//! What waits: timers and idle scripts.
+use tks_share::Numbered;
 use tks_text::Txt;
 
 /// A script that runs once its time has come.
@@ -32,24 +31,5 @@ impl Numbered for Idle {
 
     fn number(&self) -> u64 {
         self.id
-    }
-}
-
-impl Copied for Timer {
-    fn copied(&self, _alloc: Global) -> Result<Timer, AllocError> {
-        Ok(Timer {
-            id: self.id,
-            due: self.due,
-            script: self.script.try_clone()?,
-        })
-    }
-}
-
-impl Copied for Idle {
-    fn copied(&self, _alloc: Global) -> Result<Idle, AllocError> {
-        Ok(Idle {
-            id: self.id,
-            script: self.script.try_clone()?,
-        })
     }
 }

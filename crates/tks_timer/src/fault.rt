@@ -1,3 +1,4 @@
+//! Why a script is not kept.
 use std::alloc::AllocError;
 use thiserror::Error;
 

@@ -1,3 +1,4 @@
+//! What is stated of timers alone.
 ghost use Rattle.std.specs.Prelude.{◌≡◌, ℕ, List};
 ghost use Rattle.tks_timer.specs.After.{Content};
 ghost use Rattle.tks_timer.specs.Ids.{Act, given_out, RiseFrom};

@@ -2,9 +2,9 @@
 use Rattle.std.proofs.Common.{◌≡◌, ℕ, Bool, true, false, ◌&&◌, true≢false, List, [], ◌∷◌, ◌++◌, length, take, drop, Option, Some, None, is_some, refl, sym, ap, subst, ◌∙◌, if◌then◌else◌}
 use Rattle.std.specs.Prelude.{nat_eq, ◌==◌}
 use Rattle.std.specs.Cmp.Lexicographic.{pointwise}
-use Rattle.tks_tree.specs.Path.{is_dot, before_dot, before_last_dot, begins_dot, or_root, parent_of, root_path, goes_on}
+use Rattle.tks_tree.specs.Path.{is_dot, before_dot, before_last_dot, or_root, parent_of, root_path, goes_on}
 use Rattle.std.specs.Option.{option_map}
-use Rattle.tks_text.specs.Text.{is_text_byte, same_text, IsText}
+use Rattle.tks_text.specs.Text.{is_text_byte, same_text, IsText, begins_dot}
 
 abbrev from_some : {X : Type 0} → X → Option X → X
 from_some d None = d

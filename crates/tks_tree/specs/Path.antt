@@ -3,7 +3,7 @@
 use Rattle.std.specs.Prelude.{ℕ, Bool, false, ◌||◌, ◌&&◌, ◌==◌, not, nat_le, if◌then◌else◌, List, [], ◌∷◌, length, Option, Some, None}
 use Rattle.std.specs.List.{list_all, slice_split}
 use Rattle.std.specs.Option.{option_map}
-use Rattle.tks_text.specs.Text.{same_text}
+use Rattle.tks_text.specs.Text.{same_text, begins_dot}
 
 abbrev pub is_upper : ℕ → Bool
 is_upper c = nat_le 65 c && nat_le c 90
@@ -63,10 +63,6 @@ is_text text (Some other) = same_text text other
 -- whether a window of the second path stands right in that of the first
 abbrev pub is_child : List ℕ → List ℕ → Bool
 is_child parent path = is_text parent (parent_of path)
-
-abbrev pub begins_dot : List ℕ → Bool
-begins_dot [] = false
-begins_dot (c ∷ path) = is_dot c
 
 -- whether the second path is the first, a dot and more
 abbrev pub goes_on : List ℕ → List ℕ → Bool

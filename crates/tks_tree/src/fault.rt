@@ -1,3 +1,4 @@
+//! Why a window wasn't made.
 ghost use Rattle.tks_text.specs.Fault.{fault_about};
 ghost use Rattle.tks_tree.specs.Meets.{TellsSo};
 

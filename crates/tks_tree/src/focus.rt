@@ -1,3 +1,4 @@
+//! The order in which the focus goes round.
 ghost use Rattle.std.specs.Prelude.{◌≡◌, ◌==◌, position, IfOk};
 ghost use Rattle.tks_tree.specs.Windows.{others_behind, Chooses};
 

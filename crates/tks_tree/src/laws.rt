@@ -1,3 +1,4 @@
+//! Laws of the tree of windows.
 ghost use Rattle.std.specs.Prelude.{◌≡◌, ◌<◌, ℕ, Some, is_some, if◌then◌else◌};
 ghost use Rattle.tks_tree.specs.Windows.{Windows, of_number, parent, preorder, times};
 ghost use Rattle.tks_tree.specs.Laws.{GoesDown};

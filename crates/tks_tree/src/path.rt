@@ -1,8 +1,10 @@
 //! The paths of windows: `.`, or names each with a dot before it, as `.form.name`.
 ghost use Rattle.std.specs.Prelude.{◌≡◌, option_copied};
 ghost use Rattle.std.specs.List.{list_all};
-ghost use Rattle.tks_tree.specs.Path.{is_upper, is_name_byte, begins_upper, is_name, is_dot, are_names, are_names_behind_dot, is_path, before_last_dot, parent_of, is_child, begins_dot, goes_on, is_within};
+ghost use Rattle.tks_tree.specs.Path.{is_upper, is_name_byte, begins_upper, is_name, is_dot, are_names, are_names_behind_dot, is_path, before_last_dot, parent_of, is_child, goes_on, is_within};
 ghost use Rattle.tks_tree.specs.View.{bytes_seen};
+
+use tks_text::begins_dot;
 
 /// The path of the first window.
 pub const ROOT: &[u8] = b".";
@@ -102,12 +104,6 @@ pub fn is_child(parent: &[u8], path: &[u8]) -> bool
         None => false,
         Some(other) => parent == other,
     }
-}
-
-fn begins_dot(path: &[u8]) -> bool
-    ensures { result ≡ begins_dot path.now }
-{
-    matches!(path, [b'.', ..])
 }
 
 // Whether the path is the front, a dot and more.

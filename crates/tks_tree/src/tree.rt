@@ -1,3 +1,4 @@
+//! The tree of windows, in the order in which they were made.
 ghost use Rattle.std.specs.Prelude.{◌≡◌, ◌↔◌, ◌≤◌, true, ◌==◌, ◌++◌, ℕ, Bool, Some, ◌<◌, not, position, length, reverse, slice_get, IfOk, IfSome, OnOk, OnErr, option_map};
 ghost use Rattle.tks_tree.specs.Path.{parent_of, is_child, is_within};
 ghost use Rattle.tks_text.specs.Fault.{Gives};
@@ -14,10 +15,7 @@ use crate::window::{Entry, Window, WindowId};
 use std::alloc::{AllocError, Global};
 use std::marker::Model;
 use tks_share::{SharedList, SharedMap};
-use tks_text::{Class, ErrorNumber, Failure, ScriptFault, Seq, Txt};
-
-/// The number that no window's passes.
-const MAX_NUMBER: u64 = 1 << 62;
+use tks_text::{Class, ErrorNumber, Failure, MAX_NUMBER, ScriptFault, Seq, Txt};
 
 /// The windows that there are, in the order in which they were made. There is always `.`, and each other
 /// window stands in one made before it. Copies share what they have in common, so to make one costs next to nothing.

@@ -1,3 +1,4 @@
+//! A window's number, and what the tree has of it.
 ghost use Rattle.std.specs.Prelude.{◌≡◌, ◌==◌};
 ghost use Rattle.tks_tree.specs.WellFormed.{is_widget_class};
 

@@ -1,3 +1,4 @@
+//! What stands under the name of a variable.
 ghost use Rattle.std.specs.Prelude.{◌≡◌, IfOk, OnErr, None, Some, Ok};
 ghost use Rattle.tks_text.specs.Fault.{Gives};
 ghost use Rattle.tks_vars.specs.Growth.{lengthened};

@@ -1,3 +1,4 @@
+//! The name of a variable in the frame of a call.
 ghost use Rattle.std.specs.Prelude.{◌≡◌, IfOk};
 ghost use Rattle.tks_text.specs.Short.{IsShort};
 ghost use Rattle.tks_text.specs.Text.{IsText};

@@ -1,3 +1,4 @@
+//! A few names with what stands under them, looked through one by one.
 ghost use Rattle.std.specs.Prelude.{◌≡◌, ◌<◌, ◌++◌, [], ◌∷◌, true, length, take, get_or, slice_set, position, filter, not, IfOk, IfSome, IfNone, OnOk, OnErr};
 ghost use Rattle.tks_text.specs.Text.{same_text};
 ghost use Rattle.tks_vars.specs.Few.{IsChangedAt, AreApart};

@@ -1,3 +1,4 @@
+//! What the name of a variable says: a variable, or an element of one.
 ghost use Rattle.std.specs.Prelude.{◌≡◌, ◌==◌, position, option_map};
 ghost use Rattle.tks_vars.specs.Names.{halves, whole, element_named, named, is_whole};
 ghost use Rattle.tks_vars.specs.View.{pair_seen, name_seen};

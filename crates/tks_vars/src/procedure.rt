@@ -1,3 +1,4 @@
+//! Procedures and their parameters, and the arguments of a call.
 ghost use Rattle.std.specs.Prelude.{◌≡◌, IfOk};
 
 use std::alloc::{AllocError, Global};

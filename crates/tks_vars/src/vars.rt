@@ -1,3 +1,4 @@
+//! The variables of scripts, and the procedures.
 ghost use Rattle.std.specs.Prelude.{◌≡◌, length, reverse, true, false, Some, IfOk, IfSome, OnOk, OnErr, IsOk, option_copied};
 ghost use Rattle.std.specs.FinMap as map;
 ghost use Rattle.tks_text.specs.Fault.{Gives};

@@ -1,3 +1,4 @@
+//! Changes of variables, given what their names say.
 ghost use Rattle.std.specs.Prelude.{◌≡◌, OnErr, false};
 ghost use Rattle.std.specs.FinMap as map;
 ghost use Rattle.tks_text.specs.Fault.{Gives};

@@ -1,20 +1,19 @@
 -- What a call by a script comes to.
 use Rattle.std.proofs.Common.{◌≡◌, ◌&&◌, ℕ, Bool, true, false, if◌then◌else◌, List, ◌∷◌, Option, Some, None, Result, Ok, Err, sym, subst, ap, ◌∙◌}
 use Rattle.tks_vars.specs.Variables.{Variables}
-use Rattle.tks_tcl.specs.Cause.{fits}
+use Rattle.tks_text.specs.Limits.{fits}
 use Rattle.tks_tcl.specs.declared.stop.Stop.{Stop}
 use Rattle.tks_tcl.specs.declared.stop.Stop.TheVariants as stop
 use Rattle.tks_app.specs.Applications as app
-use Rattle.tks_app.specs.Applications.{has}
 use Rattle.tks_app.specs.Memories.{memory_of, remembering}
 use Rattle.tks_app.specs.declared.answer.AppAnswer.{AppAnswer}
-use Rattle.tks_app.specs.declared.memories.Memory.{Memory}
+use Rattle.tks_vars.specs.Table.{Map}
 use Rattle.tks_state.specs.World.{World}
 use Rattle.tks_eval.specs.Outcome.{Answer, Comes, PassesLimit}
 use Rattle.tks_eval.specs.Meets.{AnswersSo}
 use Rattle.tks_eval.specs.declared.host.Plan.{Plan}
 use Rattle.tks_eval.specs.declared.host.Plan.TheVariants as plan
-use Rattle.tks_world.specs.Hosting.{Setting, code_of, in_setting, world_does, answered, application_does, command_does}
+use Rattle.tks_world.specs.Hosting.{Setting, code_of, in_setting, is_of_world, world_does, answered, application_does, command_does}
 use Rattle.tks_world.specs.Meets.{CallsSo}
 
 -- the same answer, in a setting
@@ -35,7 +34,7 @@ with_plan (Ok p) = Ok (Some p)
 with_plan (Err why) = Err why
 
 module _ (s : Setting) (variables : Variables) (name : List ℕ) (a : AppAnswer) where
-  answered_so : (p : Plan) (new : List Memory) → CallsSo s.limits name a (Ok p) s.memories new → answered s variables name a ≡ Comes p (record s { memories = new }) variables
+  answered_so : (p : Plan) (new : Map (List ℕ)) → CallsSo s.limits name a (Ok p) s.memories new → answered s variables name a ≡ Comes p (record s { memories = new }) variables
   answered_so p new h =
       ap (λ (b : Bool). if b then Comes (plan.Answer (code_of a.code) a.text) (record s { memories = remembering name a.memory s.memories }) variables else PassesLimit) h.0
       ∙ (λ i. Comes (sym h.1 i) (record s { memories = sym h.2 i }) variables)
@@ -43,7 +42,7 @@ module _ (s : Setting) (variables : Variables) (name : List ℕ) (a : AppAnswer)
   over_limit : fits s.limits a.text && fits s.limits a.memory ≡ false → answered s variables name a ≡ PassesLimit
   over_limit h = ap (λ (b : Bool). if b then Comes (plan.Answer (code_of a.code) a.text) (record s { memories = remembering name a.memory s.memories }) variables else PassesLimit) h
 
-  call_so : (result : Result Plan Stop) (new : List Memory) → CallsSo s.limits name a result s.memories new
+  call_so : (result : Result Plan Stop) (new : Map (List ℕ)) → CallsSo s.limits name a result s.memories new
       → AnswersSo (answered s variables name a) (with_plan result) s (record s { memories = new }) variables variables
   call_so (Ok p) new h = answered_so p new h
   call_so (Err stop.TooLarge) new h = over_limit h
@@ -52,16 +51,16 @@ module _ (s : Setting) (variables : Variables) (name : List ℕ) (a : AppAnswer)
   call_so (Err stop.Depth) new h = absurd h
 
 module _ (m : app.Meaning) (s t : Setting) (variables : Variables) (name : List ℕ) (words : List (List ℕ)) where
-  -- a name that the application has
-  pub application_so : (result : Result Plan Stop) → has s.names name ≡ true → CallsSo s.limits name (m name (memory_of s.memories name) words) result s.memories t.memories
+  -- a name that the application has, and no built-in command
+  pub application_so : (result : Result Plan Stop) → is_of_world s.names name ≡ false → CallsSo s.limits name (m name (memory_of s.memories name) words) result s.memories t.memories
       → t ≡ record s { memories = t.memories } → AnswersSo (command_does m s variables (name ∷ words)) (with_plan result) s t variables variables
   application_so result there h others =
-      subst (λ (b : Bool). AnswersSo (if b then application_does m s variables name words else world_does s variables (name ∷ words)) (with_plan result) s t variables variables) (sym there)
+      subst (λ (b : Bool). AnswersSo (if b then world_does s variables (name ∷ words) else application_does m s variables name words) (with_plan result) s t variables variables) (sym there)
       (subst (λ u. AnswersSo (application_does m s variables name words) (with_plan result) s u variables variables) (sym others)
       (call_so s variables name (m name (memory_of s.memories name) words) result t.memories h))
 
   -- another name
-  pub other_so : (result : Result (Option Plan) Stop) (after : Variables) → has s.names name ≡ false → AnswersSo (world_does s variables (name ∷ words)) result s t variables after
+  pub other_so : (result : Result (Option Plan) Stop) (after : Variables) → is_of_world s.names name ≡ true → AnswersSo (world_does s variables (name ∷ words)) result s t variables after
       → AnswersSo (command_does m s variables (name ∷ words)) result s t variables after
   other_so result after there h =
-      subst (λ (b : Bool). AnswersSo (if b then application_does m s variables name words else world_does s variables (name ∷ words)) result s t variables after) (sym there) h
+      subst (λ (b : Bool). AnswersSo (if b then world_does s variables (name ∷ words) else application_does m s variables name words) result s t variables after) (sym there) h

@@ -8,7 +8,7 @@ use Rattle.tks_parse.specs.Reading.{script_of}
 use Rattle.tks_vars.specs.Laws.{FramesStay}
 use Rattle.tks_vars.specs.Variables.{Variables}
 use Rattle.tks_vars.proofs.Framing.{itself}
-use Rattle.tks_tcl.specs.Cause.{fits}
+use Rattle.tks_text.specs.Limits.{fits}
 use Rattle.tks_event.specs.Keysyms.{is_keysym}
 use Rattle.tks_event.specs.declared.event.Event.{Event}
 use Rattle.tks_event.specs.declared.held.Held.{Held}
@@ -28,11 +28,11 @@ use Rattle.tks_eval.proofs.Framing.{Leaves, ends, if_leaves, given_leaves, settl
 use Rattle.tks_cmd.specs.Commands.{does}
 use Rattle.tks_cmd.specs.Dispatch.{begun}
 use Rattle.tks_cmd.proofs.Framing.{leaves_frames}
-use Rattle.tks_app.specs.Applications.{Application, Meaning, has}
+use Rattle.tks_app.specs.Applications.{Application, Meaning}
 use Rattle.tks_app.specs.Memories.{memory_of, remembering}
 use Rattle.tks_app.specs.declared.answer.AppAnswer.{AppAnswer}
-use Rattle.tks_app.specs.declared.memories.Memory.{Memory}
-use Rattle.tks_world.specs.Hosting.{Setting, hosting, in_setting, world_does, code_of, application_does, command_does}
+use Rattle.tks_vars.specs.Table.{Map}
+use Rattle.tks_world.specs.Hosting.{Setting, hosting, in_setting, is_of_world, world_does, code_of, application_does, command_does}
 use Rattle.tks_world.specs.Stepped.{Stepped, Accepts, Refuses, max_count, counted, kept}
 use Rattle.tks_world.specs.Scripts.{concluded, script_ends, lent}
 use Rattle.tks_world.specs.Gestures as gestures
@@ -66,7 +66,7 @@ one_of : (b : Bool) (s t : Stepped) → RestsAfter s → RestsAfter t → RestsA
 one_of true s t h k = h
 one_of false s t h k = k
 
-counted_rests : (w : World) (memories : List Memory) (code : ℕ) (text : List ℕ) (v : Variables) → v.locals ≡ [] → RestsAfter (counted w memories code text v)
+counted_rests : (w : World) (memories : Map (List ℕ)) (code : ℕ) (text : List ℕ) (v : Variables) → v.locals ≡ [] → RestsAfter (counted w memories code text v)
 counted_rests w memories code text v none = one_of (w.accepted == max_count) _ _ tt none
 
 kept_rests : (w : World) → AtRest w → RestsAfter (kept w)
@@ -114,15 +114,15 @@ module _ (m : Meaning) where
   answered_leaves s v name a false p s' v' e = absurd cc
 
   named_leaves : (s : Setting) (v : Variables) (name : List ℕ) (words : List (List ℕ)) (b : Bool) (p : Plan) (s' : Setting) (v' : Variables)
-      → (if b then application_does m s v name words else world_does s v (name ∷ words)) ≡ Comes p s' v' → FramesStay v v'
-  named_leaves s v name words true p s' v' e =
+      → (if b then world_does s v (name ∷ words) else application_does m s v name words) ≡ Comes p s' v' → FramesStay v v'
+  named_leaves s v name words false p s' v' e =
       let a = m name (memory_of s.memories name) words in
       answered_leaves s v name a (fits s.limits a.text && fits s.limits a.memory) p s' v' e
-  named_leaves s v name words false p s' v' e = world_leaves s v (name ∷ words) p s' v' e
+  named_leaves s v name words true p s' v' e = world_leaves s v (name ∷ words) p s' v' e
 
   command_leaves : (s : Setting) (v : Variables) (words : List (List ℕ)) (p : Plan) (s' : Setting) (v' : Variables) → command_does m s v words ≡ Comes p s' v' → FramesStay v v'
   command_leaves s v [] p s' v' e = world_leaves s v [] p s' v' e
-  command_leaves s v (name ∷ words) p s' v' e = named_leaves s v name words (has s.names name) p s' v' e
+  command_leaves s v (name ∷ words) p s' v' e = named_leaves s v name words (is_of_world s.names name) p s' v' e
 
   pub hosting_leaves : HostLeavesFrames (hosting m)
   hosting_leaves = record { commands = command_leaves }

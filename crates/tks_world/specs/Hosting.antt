@@ -1,16 +1,18 @@
 -- What the world is to its scripts (this project's own rule): the host of the commands that the language
--- doesn't have. The commands of an application are found before the windows.
-use Rattle.std.specs.Prelude.{ℕ, ◌&&◌, if◌then◌else◌, List, [], ◌∷◌, is_some}
+-- doesn't have. A command is found in this order: one that is built in, one of the application, a window.
+use Rattle.std.specs.Prelude.{ℕ, Bool, ◌&&◌, ◌||◌, not, if◌then◌else◌, List, [], ◌∷◌, is_some}
 use Rattle.tks_text.specs.declared.limits.Limits.{Limits}
 use Rattle.tks_vars.specs.Variables.{Variables, no_variables}
-use Rattle.tks_tcl.specs.Cause.{fits}
+use Rattle.tks_text.specs.Limits.{fits}
+use Rattle.tks_tcl.specs.Names.{is_built_in}
 use Rattle.tks_app.specs.Applications as app
 use Rattle.tks_app.specs.Applications.{has}
 use Rattle.tks_app.specs.Memories.{memory_of, remembering}
 use Rattle.tks_app.specs.declared.answer.AppAnswer.{AppAnswer}
 use Rattle.tks_app.specs.declared.answer.AppCode.{AppCode}
 use Rattle.tks_app.specs.declared.answer.AppCode.TheVariants as code
-use Rattle.tks_app.specs.declared.memories.Memory.{Memory}
+use Rattle.std.specs.FinMap as map
+use Rattle.tks_vars.specs.Table.{Map}
 use Rattle.tks_state.specs.World.{World, with_fault}
 use Rattle.tks_state.specs.Windows.{kept_of}
 use Rattle.tks_cmd.specs.Commands.{does}
@@ -22,7 +24,7 @@ pub record Setting : Type 0 where
   -- the world, in which there are neither variables nor memories meanwhile
   pub world : World
   -- what the application's commands keep
-  pub memories : List Memory
+  pub memories : Map (List ℕ)
   -- the limits that commands keep
   pub limits : Limits
   -- the names of the application's commands
@@ -30,7 +32,7 @@ pub record Setting : Type 0 where
 
 -- the world while a script runs in it: variables and memories go beside it
 abbrev pub stripped : World → World
-stripped world = record world { variables = no_variables; memories = [] }
+stripped world = record world { variables = no_variables; memories = map.empty }
 
 -- ---- commands on windows, bindings and events
 
@@ -59,6 +61,10 @@ answered s variables name a =
 
 -- ---- both
 
+-- is the command built in, or no application's?
+abbrev pub is_of_world : List (List ℕ) → List ℕ → Bool
+is_of_world names name = is_built_in name || not (has names name)
+
 -- these are what the application's commands mean
 module _ (m : app.Meaning) where
   abbrev pub application_does : Setting → Variables → List ℕ → List (List ℕ) → Answer Setting
@@ -66,7 +72,7 @@ module _ (m : app.Meaning) where
 
   abbrev pub command_does : Setting → Variables → List (List ℕ) → Answer Setting
   command_does s variables [] = world_does s variables []
-  command_does s variables (name ∷ words) = if has s.names name then application_does s variables name words else world_does s variables (name ∷ words)
+  command_does s variables (name ∷ words) = if is_of_world s.names name then world_does s variables (name ∷ words) else application_does s variables name words
 
   abbrev pub hosting : Meaning Setting
   hosting = record {

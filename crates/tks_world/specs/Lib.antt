@@ -1,3 +1,4 @@
+-- The definitions that contracts cite.
 pub mod Hosting
 pub mod Stepped
 pub mod Scripts

@@ -3,12 +3,12 @@ use Rattle.std.specs.Prelude.{◌≡◌, ◌⊎◌, ◌==◌, ◌<◌, ◌&&◌,
 use Rattle.tks_text.specs.Fault.{fault_text}
 use Rattle.tks_text.specs.declared.fault.ScriptFault.{ScriptFault}
 use Rattle.tks_text.specs.declared.limits.Limits.{Limits}
-use Rattle.tks_tcl.specs.Cause.{fits}
+use Rattle.tks_text.specs.Limits.{fits}
 use Rattle.tks_tcl.specs.declared.stop.Stop.{Stop}
 use Rattle.tks_tcl.specs.declared.stop.Stop.TheVariants as stop
 use Rattle.tks_app.specs.Memories.{remembering}
 use Rattle.tks_app.specs.declared.answer.AppAnswer.{AppAnswer}
-use Rattle.tks_app.specs.declared.memories.Memory.{Memory}
+use Rattle.tks_vars.specs.Table.{Map}
 use Rattle.tks_eval.specs.declared.ended.Ended.{Ended}
 use Rattle.tks_eval.specs.declared.host.Plan.{Plan}
 use Rattle.tks_eval.specs.declared.host.Plan.TheVariants as plan
@@ -67,7 +67,7 @@ TakenSo given None new = given ≡ None
 TakenSo given (Some thing) new = given ≡ Some (thing, new)
 
 -- A command of the application answered this, and its memory is kept; or its text or its memory would pass the limit.
-abbrev pub CallsSo : Limits → List ℕ → AppAnswer → Result Plan Stop → List Memory → List Memory → Type 0
+abbrev pub CallsSo : Limits → List ℕ → AppAnswer → Result Plan Stop → Map (List ℕ) → Map (List ℕ) → Type 0
 CallsSo limits name a (Ok p) old new =
     (fits limits a.text && fits limits a.memory ≡ true) × (p ≡ plan.Answer (code_of a.code) a.text) × (new ≡ remembering name a.memory old)
 CallsSo limits name a (Err stop.TooLarge) old new = fits limits a.text && fits limits a.memory ≡ false

@@ -1,7 +1,7 @@
 -- What comes of an input (this project's own rule).
 use Rattle.std.specs.Prelude.{ℕ, ◌+◌, ◌^◌, ◌==◌, if◌then◌else◌, List, []}
 use Rattle.tks_vars.specs.Variables.{Variables}
-use Rattle.tks_app.specs.declared.memories.Memory.{Memory}
+use Rattle.tks_vars.specs.Table.{Map}
 use Rattle.tks_state.specs.World.{World}
 use Rattle.tks_input.specs.declared.reply.Reply.{Reply}
 use Rattle.tks_input.specs.declared.reply.Refused.{Refused}
@@ -17,7 +17,7 @@ abbrev pub max_count : ℕ
 max_count = 2 ^ 62
 
 -- one input more, unless the count is at its greatest; variables and memories go back into the world
-abbrev pub counted : World → List Memory → ℕ → List ℕ → Variables → Stepped
+abbrev pub counted : World → Map (List ℕ) → ℕ → List ℕ → Variables → Stepped
 counted world memories code text variables =
     if world.accepted == max_count then Refuses TooLarge
     else Accepts (record world { accepted = world.accepted + 1; variables = variables; memories = memories }) (record { number = world.accepted + 1; code = code; text = text })

@@ -8,9 +8,8 @@ ghost use Rattle.tks_world.specs.Meets.{CallsSo};
 use std::alloc::{AllocError, Global};
 use tks_app::{AppAnswer, AppBody, AppCode, AppMeaning, Apps, Memories};
 use tks_eval::Plan;
-use tks_share::Shared;
-use tks_tcl::{Stop, fits};
-use tks_text::{Limits, Txt};
+use tks_tcl::Stop;
+use tks_text::{Limits, Txt, fits};
 
 // The code of an end.
 fn code_of(code: AppCode) -> u8
@@ -49,7 +48,7 @@ fn answer_of<T: AppMeaning, B: AppBody>(
 pub fn call_application<T: AppMeaning, B: AppBody>(
     alloc: Global,
     apps: &Apps<T, B>,
-    memories: &mut Shared<Memories>,
+    memories: &mut Memories,
     name: &Txt,
     words: &[Txt],
     limits: &Limits,
@@ -57,11 +56,11 @@ pub fn call_application<T: AppMeaning, B: AppBody>(
     requires { has apps.now name.now ≡ true }
     ensures { CallsSo limits.now name.now (T.meaning name.now (memory_of memories.old name.now) words.now) result memories.old memories.new }
 {
-    let answer = answer_of(alloc, apps, memories.get(), name, words)?;
+    let answer = answer_of(alloc, apps, memories, name, words)?;
     if !fits(&answer.text, limits) || !fits(&answer.memory, limits) {
         return Err(Stop::TooLarge);
     }
     let AppAnswer { code, text, memory } = answer;
-    memories.get_mut(alloc)?.set(name, memory);
+    memories.set(name, memory)?;
     Ok(Plan::Answer(code_of(code), text))
 }

@@ -8,18 +8,15 @@ use tks_app::Memories;
 use tks_input::{Refused, Reply};
 use tks_share::Shared;
 use tks_state::World;
-use tks_text::Txt;
+use tks_text::{MAX_NUMBER, Txt};
 use tks_vars::Vars;
-
-/// The greatest count of inputs.
-const MAX_COUNT: u64 = 1 << 62;
 
 /// Whether no further input can be counted.
 pub fn is_full(world: &World) -> bool
     ensures full { result ≡ (world.now.accepted == max_count) }
     ensures room { result ≡ false → world.now.accepted < max_count }
 {
-    world.accepted() == MAX_COUNT
+    world.accepted() == MAX_NUMBER
 }
 
 // The reply to the input that was counted last.
@@ -36,7 +33,7 @@ fn reply_of(world: &World, code: u8, text: Txt) -> Reply
 /// Counts an input whose scripts ended, in the world that they left, and puts memories and variables back into it.
 pub fn accept(
     world: &mut World,
-    memories: Shared<Memories>,
+    memories: Memories,
     variables: Shared<Vars>,
     code: u8,
     text: Txt,

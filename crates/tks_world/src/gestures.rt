@@ -11,8 +11,7 @@ use tks_event::{Event, Held};
 use tks_input::{Refused, Reply};
 use tks_queue::Place;
 use tks_state::World;
-use tks_tcl::fits;
-use tks_text::Limits;
+use tks_text::{Limits, fits};
 use tks_tree::WindowId;
 
 /// A key or a button that goes down or up.

@@ -1,8 +1,9 @@
-ghost use Rattle.std.specs.Prelude.{◌≡◌, true};
+//! The world as the host of its scripts.
+ghost use Rattle.std.specs.Prelude.{◌≡◌, true, false};
 ghost use Rattle.tks_app.specs.Applications.{has};
 ghost use Rattle.tks_app.specs.Memories.{memory_of};
 ghost use Rattle.tks_eval.specs.Meets.{AnswersSo};
-ghost use Rattle.tks_world.specs.Hosting.{hosting, world_does};
+ghost use Rattle.tks_world.specs.Hosting.{hosting, is_of_world, world_does};
 ghost use Rattle.tks_world.specs.Meets.{CallsSo};
 
 use crate::applications::call_application;
@@ -11,9 +12,8 @@ use std::marker::Model;
 use tks_app::{AppBody, AppMeaning, Apps, Memories};
 use tks_cmd::command;
 use tks_eval::{Host, Plan};
-use tks_share::Shared;
 use tks_state::World;
-use tks_tcl::Stop;
+use tks_tcl::{Stop, is_built_in};
 use tks_text::{Limits, Txt};
 use tks_tree::WindowId;
 use tks_vars::Vars;
@@ -24,24 +24,33 @@ use tks_vars::Vars;
 pub struct WorldHost<'a, T: AppMeaning, B: AppBody> {
     pub alloc: Global,
     pub world: World,
-    pub memories: Shared<Memories>,
+    pub memories: Memories,
     pub limits: Limits,
     pub apps: &'a Apps<T, B>,
 }
 
 impl<'a, T: AppMeaning, B: AppBody> Model for WorldHost<'a, T, B> {
     ghost use Rattle.std.specs.Coded.{codes};
+    ghost use Rattle.tks_app.specs.Memories.{memories_code};
     ghost use Rattle.tks_state.specs.contracts.world.World.{the_row};
     ghost use Rattle.tks_world.specs.Hosting.{Setting};
 
     ghost Value = { Setting };
 
-    ghost coded = { Prim.hlevel (codes, the_row.coded) };
+    ghost coded = { Prim.hlevel (codes, memories_code, the_row.coded) };
 
     ghost view = { λ h. record { world = h.world; memories = h.memories; limits = h.limits; names = h.apps.now } };
 }
 
 impl<'a, T: AppMeaning, B: AppBody> WorldHost<'a, T, B> {
+    // Whether a command is built in, or none of the application.
+    fn is_of_world(&self, name: &Txt) -> bool
+        ensures value { result ≡ is_of_world self.now.names name.now }
+        ensures there { result ≡ false → has self.now.names name.now ≡ true }
+    {
+        is_built_in(name) || !self.apps.has(name)
+    }
+
     // Runs a command on windows, bindings or events.
     #[tactic(auto, using(crate::proofs::Answers::in_setting_so))]
     fn call_world(&mut self, variables: &mut Vars, words: &[Txt]) -> Result<Option<Plan>, Stop>
@@ -82,7 +91,7 @@ impl<'a, T: AppMeaning, B: AppBody> Host for WorldHost<'a, T, B> {
         let Some((name, rest)) = words.split_first() else {
             return self.call_world(variables, words);
         };
-        if !self.apps.has(name) {
+        if self.is_of_world(name) {
             return self.call_world(variables, words);
         }
         let plan = self.call_application(name, rest)?;

@@ -1,3 +1,4 @@
+//! The refusal of an input whose scripts were stopped.
 ghost use Rattle.std.specs.Prelude.{◌≡◌};
 ghost use Rattle.tks_world.specs.Meets.{refused_by};
 

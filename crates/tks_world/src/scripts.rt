@@ -15,11 +15,11 @@ use tks_app::{AppBody, AppMeaning, Apps, Memories};
 use tks_eval::{Ended, eval};
 use tks_input::{Refused, Reply};
 use tks_parse::{Script, parse};
-use tks_parsed::ParseTable;
+use tks_parse_table::ParseTable;
 use tks_share::Shared;
 use tks_state::World;
-use tks_tcl::{Stop, fits};
-use tks_text::{ErrorNumber, Limits, ScriptFault, Txt};
+use tks_tcl::Stop;
+use tks_text::{ErrorNumber, Limits, ScriptFault, Txt, fits};
 use tks_vars::Vars;
 
 /// The world as scripts are lent it: a copy, without its memories and variables, which go beside it. No frame of these stands.
@@ -36,7 +36,7 @@ pub fn lend<'a, T: AppMeaning, B: AppBody>(
     let variables = world.variables().try_clone()?;
     let mut copy = world.try_clone()?;
     copy.replace_variables(Shared::new(alloc, Vars::new(alloc))?);
-    let memories = copy.replace_memories(Shared::new(alloc, Memories::none(alloc))?);
+    let memories = copy.replace_memories(Memories::none(alloc));
     let host = WorldHost {
         alloc,
         world: copy,

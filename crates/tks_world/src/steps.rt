@@ -1,3 +1,4 @@
+//! The step: what an input does to the world.
 ghost use Rattle.std.specs.Prelude.{◌≡◌, IfOk, IfErr, OnErr};
 ghost use Rattle.tks_world.specs.Step.{clock_step, step, Accepts};
 ghost use Rattle.tks_world.specs.Meets.{RefusedSo};
@@ -11,10 +12,7 @@ use std::alloc::Global;
 use tks_app::{AppBody, AppMeaning, Apps};
 use tks_input::{Input, Refused, Reply};
 use tks_state::World;
-use tks_text::Limits;
-
-/// The last time, in milliseconds.
-const MAX_CLOCK: u64 = (1 << 62) - 1;
+use tks_text::{Limits, MAX_TIME};
 
 /// What an input does to the world: it is accepted as a whole, with a reply, or refused, and then the world is as it was.
 /// A script runs at once. A key or a button is put behind the events that wait, with what is held down just before it. A
@@ -49,7 +47,7 @@ fn set_clock(alloc: Global, world: &mut World, time: u64) -> Result<Reply, Refus
     ensures refused { IfErr result (λ why. RefusedSo why (clock_step time world.old)) }
     ensures unchanged { OnErr result (world.new ≡ world.old) }
 {
-    if time > MAX_CLOCK {
+    if time > MAX_TIME {
         return Err(Refused::BadInput);
     }
     if time < world.clock() {

@@ -18,7 +18,7 @@ use tks_cmd::begin;
 use tks_eval::{Ended, Host, eval_plan};
 use tks_event::Event;
 use tks_input::{Refused, Reply};
-use tks_parsed::ParseTable;
+use tks_parse_table::ParseTable;
 use tks_state::World;
 use tks_tcl::Stop;
 use tks_text::{Limits, Txt};

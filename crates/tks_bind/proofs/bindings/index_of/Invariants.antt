@@ -7,5 +7,5 @@ abbrev pub invariant-loop-binding : goal.invariant-loop-binding
 invariant-loop-binding l = record {
   left : l.left ≡ length l.binding-iterator;
   within : l.left ≤ l.len;
-  found : (l.len - l.left) + index_of l.tag l.sequence l.binding-iterator ≡ index_of l.tag l.sequence l.fn.bindings.present;
+  found : (l.len - l.left) + index_of l.tag l.sequence l.binding-iterator ≡ index_of l.tag l.sequence l.fn.bindings;
 }

@@ -4,4 +4,4 @@ use Rattle.tks_bind.proofs.bindings.script_for.Given as goal
 
 -- what is looked for is further on
 abbrev pub invariant-loop-binding : goal.invariant-loop-binding
-invariant-loop-binding l = script_for l.tag l.sequence l.binding-iterator ≡ script_for l.tag l.sequence l.fn.bindings.present
+invariant-loop-binding l = script_for l.tag l.sequence l.binding-iterator ≡ script_for l.tag l.sequence l.fn.bindings

@@ -7,5 +7,5 @@ abbrev pub invariant-loop-event : goal.invariant-loop-event
 invariant-loop-event l = record {
   left : l.left ≡ length l.event-iterator;
   within : l.left ≤ l.len;
-  found : (l.len - l.left) + index_of l.name l.event-iterator ≡ index_of l.name l.fn.events.present;
+  found : (l.len - l.left) + index_of l.name l.event-iterator ≡ index_of l.name l.fn.events;
 }

@@ -4,4 +4,4 @@ use Rattle.tks_cmd.proofs.virtual_events.names.Given as goal
 
 -- those so far, and those further on, are all
 abbrev pub invariant-loop-event : goal.invariant-loop-event
-invariant-loop-event l = l.names ++ names l.event-iterator ≡ names l.fn.virtuals.present
+invariant-loop-event l = l.names ++ names l.event-iterator ≡ names l.fn.virtuals

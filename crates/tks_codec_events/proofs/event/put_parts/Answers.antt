@@ -1,4 +1,4 @@
-use Rattle.tks_codec.proofs.Puts.{where_put}
+use Rattle.tks_spelling.proofs.Puts.{where_put}
 use Rattle.tks_codec_events.proofs.Eventful.{fields_legal}
 use Rattle.tks_codec_events.proofs.event.put_parts.Goals as goal
 

@@ -1,8 +1,8 @@
 use Rattle.std.proofs.Common.{rules, [], ◌∷◌, FitsSigned}
 use Rattle.std.specs.Int.{w64}
 use Rattle.std.proofs.lemmas.Result.{err_from_is_err_and}
-use Rattle.tks_codec.specs.Spelling.{signed}
-use Rattle.tks_codec.proofs.Puts.{put_refused, flattened_then, flattened_last}
+use Rattle.tks_spelling.specs.Spelling.{signed}
+use Rattle.tks_spelling.proofs.Puts.{put_refused, flattened_then, flattened_last}
 use Rattle.tks_codec_events.proofs.Eventful.{as_read, as_put}
 use Rattle.tks_codec_events.proofs.event.put_places.Goals as goal
 

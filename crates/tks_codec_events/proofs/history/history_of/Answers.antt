@@ -3,4 +3,4 @@ use Rattle.tks_codec_events.proofs.Waiting.{read_events}
 use Rattle.tks_codec_events.proofs.history.history_of.Goals as goal
 
 pub restore-requires : goal.restore-requires
-restore-requires c = read_events c.args.bytes.now c.in_ok-events.events.items c.in_ok-events.rest.now (λ i. omega (arith, c.type_inv.bytes i)) c.in_ok-events.ensures
+restore-requires c = rw c.into_items.ensures (read_events c.args.bytes.now c.in_ok-events.events c.in_ok-events.rest.now (λ i. omega (arith, c.type_inv.bytes i)) c.in_ok-events.ensures)

@@ -3,7 +3,6 @@ use Rattle.tks_codec_events.proofs.Eventful.{event_lawful}
 use Rattle.tks_codec_events.proofs.Tables.{bindings_lawful, virtuals_lawful}
 use Rattle.tks_codec_events.proofs.Waiting.{history_lawful, queue_lawful, waiting_lawful}
 use Rattle.tks_codec_events.proofs.Holding.{held_lawful}
-use Rattle.tks_codec_events.proofs.Remembering.{memories_lawful}
 use Rattle.tks_codec_events.proofs.laws.spellings_are_lawful.Goals as goal
 
 pub returns-clause-kinds : goal.returns-clause-kinds
@@ -32,6 +31,3 @@ returns-clause-waiting c = waiting_lawful
 
 pub returns-clause-held : goal.returns-clause-held
 returns-clause-held c = held_lawful
-
-pub returns-clause-memories : goal.returns-clause-memories
-returns-clause-memories c = memories_lawful

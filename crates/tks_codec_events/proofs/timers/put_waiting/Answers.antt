@@ -1,14 +1,13 @@
 use Rattle.std.proofs.Common.{◌≡◌, ◌++◌, refl, subst}
-use Rattle.tks_codec.specs.Spelling.{list}
-use Rattle.tks_codec.specs.Writing.{PutsSo}
-use Rattle.tks_codec.proofs.Loop.{nothing_asked}
-use Rattle.tks_codec.proofs.Puts.{put_behind, where_put}
+use Rattle.tks_spelling.specs.Spelling.{list}
+use Rattle.tks_spelling.specs.Writing.{PutsSo}
+use Rattle.tks_spelling.proofs.Puts.{put_behind, where_put}
 use Rattle.tks_codec_events.specs.Timers.{timer, idle}
 use Rattle.tks_codec_events.proofs.timers.put_waiting.Goals as goal
 
 pub returns-clause-puts : goal.returns-clause-puts
 returns-clause-puts c =
-    let w = c.args.timers.now.present in
+    let w = c.args.timers.now in
     let old = c.args.out.now.items in
     let mid = c.put_items.new.out.items in
     let new = c.put_items-2.new.out.items in
@@ -19,7 +18,7 @@ returns-clause-puts c =
 
 pub returns-clause-legal : goal.returns-clause-legal
 returns-clause-legal c =
-    let timers = subst (λ ts. (list timer).Legal ts) c.timers.ensures (c.in_ok-put_items.ensures.legal (nothing_asked c.timers.result)) in
+    let timers = subst (λ ts. (list timer).Legal ts) c.timers.ensures c.in_ok-put_items.ensures.legal in
     where_put c.put_items-2.result
-    (λ legal. ((timers, (subst (λ is. (list idle).Legal is) c.idles.ensures (legal (nothing_asked c.idles.result)), refl)), c.next.ensures.formed.present.waiting))
+    (λ legal. ((timers, (subst (λ is. (list idle).Legal is) c.idles.ensures legal, refl)), c.next.ensures.formed.waiting))
     c.put_items-2.ensures.legal

@@ -3,4 +3,4 @@ use Rattle.tks_codec_events.proofs.Tables.{read_legal}
 use Rattle.tks_codec_events.proofs.virtuals.virtuals_of.Goals as goal
 
 pub restore-requires-clause-legal : goal.restore-requires-clause-legal
-restore-requires-clause-legal c = read_legal c.args.bytes.now c.in_ok-events.events.items c.in_ok-events.rest.now (λ i. omega (arith, c.type_inv.bytes i)) c.in_ok-events.ensures
+restore-requires-clause-legal c = rw c.into_items.ensures (read_legal c.args.bytes.now c.in_ok-events.events c.in_ok-events.rest.now (λ i. omega (arith, c.type_inv.bytes i)) c.in_ok-events.ensures)

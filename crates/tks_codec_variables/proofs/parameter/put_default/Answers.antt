@@ -1,6 +1,6 @@
 use Rattle.std.proofs.Common.{[], ◌∷◌}
-use Rattle.tks_codec.specs.Spelling.{text}
-use Rattle.tks_codec.proofs.Puts.{put_behind}
+use Rattle.tks_spelling.specs.Spelling.{text}
+use Rattle.tks_spelling.proofs.Puts.{put_behind}
 use Rattle.tks_codec_variables.proofs.parameter.put_default.Goals as goal
 
 pub returns-in_ok-put_presence-in-Some-clause-puts : goal.returns-in_ok-put_presence-in-Some-clause-puts

@@ -1,14 +1,14 @@
 use Rattle.std.proofs.Common.{◌++◌, ℕ, List, None, sym, subst}
 use Rattle.std.specs.List.{AllByRecursion}
 use Rattle.tks_vars.specs.Table.{HasName}
-use Rattle.tks_codec.specs.Spelling.{members}
-use Rattle.tks_codec.proofs.Loop.{one_given, stays_there}
+use Rattle.tks_spelling.specs.Spelling.{members}
+use Rattle.tks_spelling.proofs.Loop.{one_given, stays_there}
 use Rattle.tks_codec_variables.specs.Table.{entry}
 use Rattle.tks_codec_variables.proofs.table.put_each.Goals as goal
 
 pub loop-name-preserved : goal.loop-name-preserved
 loop-name-preserved g c =
-    let s = entry g.X.Named.spelling in
+    let s = entry (g.M.Members.spelling c.args.values.now) in
     let old = c.args.out.now.items in
     let now = c.loop-name.out.items in
     let new = c.put_entry.new.out.items in

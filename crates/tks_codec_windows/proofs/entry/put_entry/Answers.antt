@@ -1,6 +1,6 @@
 use Rattle.std.specs.Int.{w32, to_be_bytes}
-use Rattle.tks_codec.specs.Spelling.{text}
-use Rattle.tks_codec.proofs.Puts.{put_behind}
+use Rattle.tks_spelling.specs.Spelling.{text}
+use Rattle.tks_spelling.proofs.Puts.{put_behind}
 use Rattle.tks_codec_windows.proofs.entry.put_entry.Goals as goal
 
 pub returns-clause-puts : goal.returns-clause-puts

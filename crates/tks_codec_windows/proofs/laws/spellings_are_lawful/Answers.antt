@@ -1,4 +1,5 @@
-use Rattle.tks_codec_windows.proofs.OfTexts.{texts_lawful, tags_lawful, windows_lawful}
+use Rattle.tks_spelling.proofs.EachKind.{texts_lawful}
+use Rattle.tks_codec_windows.proofs.OfContents.{tags_lawful, contents_lawful}
 use Rattle.tks_codec_windows.proofs.OfOptions.{options_lawful}
 use Rattle.tks_codec_windows.proofs.OfPacking.{packing_lawful}
 use Rattle.tks_codec_windows.proofs.OfWidgets.{entry_lawful, listbox_lawful}
@@ -11,8 +12,8 @@ returns-clause-texts c = texts_lawful
 pub returns-clause-tags : goal.returns-clause-tags
 returns-clause-tags c = tags_lawful
 
-pub returns-clause-windows : goal.returns-clause-windows
-returns-clause-windows c = windows_lawful
+pub returns-clause-contents : goal.returns-clause-contents
+returns-clause-contents c = contents_lawful
 
 pub returns-clause-options : goal.returns-clause-options
 returns-clause-options c = options_lawful

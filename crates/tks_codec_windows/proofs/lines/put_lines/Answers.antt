@@ -1,7 +1,7 @@
 use Rattle.std.proofs.Common.{◌++◌, length, subst}
-use Rattle.tks_codec.specs.Spelling.{text, list}
-use Rattle.tks_codec.specs.Writing.{PutsSo}
-use Rattle.tks_codec.proofs.Puts.{put_behind, where_put}
+use Rattle.tks_spelling.specs.Spelling.{text, list}
+use Rattle.tks_spelling.specs.Writing.{PutsSo}
+use Rattle.tks_spelling.proofs.Puts.{put_behind, where_put}
 use Rattle.tks_codec_windows.specs.Lines.{tag, mark}
 use Rattle.tks_codec_windows.proofs.OfLines.{lines_legal}
 use Rattle.tks_codec_windows.proofs.lines.put_lines.Goals as goal
@@ -9,11 +9,11 @@ use Rattle.tks_codec_windows.proofs.lines.put_lines.Goals as goal
 pub returns-clause-puts : goal.returns-clause-puts
 returns-clause-puts c =
     let t = c.args.widget.now in
-    let r = c.put_marks.result in
-    let new = c.put_marks.new.out.items in
+    let r = c.put_list.result in
+    let new = c.put_list.new.out.items in
     let tags = (list (tag (length t.text))).write t.tags in
     let marks = (list mark).write t.marks in
-    let last = subst (λ ms. PutsSo r c.put_tags.new.out.items new ((list mark).write ms)) c.marks-marks.ensures.value c.put_marks.ensures.puts in
+    let last = subst (λ ms. PutsSo r c.put_tags.new.out.items new ((list mark).write ms)) c.marks-marks.ensures.value c.put_list.ensures.puts in
     put_behind r c.args.out.now.items (text.write t.text) c.put_text.new.out.items (tags ++ marks) new
     (rw (← c.text.ensures) c.in_ok-put_text.ensures.puts)
     (put_behind r c.put_text.new.out.items tags c.put_tags.new.out.items marks new c.in_ok-put_tags.ensures.puts last)
@@ -22,4 +22,4 @@ pub returns-clause-legal : goal.returns-clause-legal
 returns-clause-legal c =
     let t = c.args.widget.now in
     let chars : text.Legal t.text = subst text.Legal c.text.ensures c.in_ok-put_text.ensures.legal in
-    where_put c.put_marks.result (λ h. lines_legal t c.marks-marks.ensures.formed chars c.in_ok-put_tags.ensures.legal (subst ((list mark).Legal) c.marks-marks.ensures.value h)) c.put_marks.ensures.legal
+    where_put c.put_list.result (λ h. lines_legal t c.marks-marks.ensures.formed chars c.in_ok-put_tags.ensures.legal (subst ((list mark).Legal) c.marks-marks.ensures.value h)) c.put_list.ensures.legal

@@ -1,9 +1,8 @@
 use Rattle.std.proofs.Common.{arith}
 use Rattle.std.specs.Int.{w32, to_be_bytes}
-use Rattle.tks_codec.specs.Spelling.{list}
-use Rattle.tks_codec.proofs.Puts.{put_behind}
+use Rattle.tks_spelling.specs.Spelling.{list}
+use Rattle.tks_spelling.proofs.Puts.{put_behind, anyway}
 use Rattle.tks_codec_windows.specs.Listbox.{item}
-use Rattle.tks_codec_windows.proofs.OfTexts.{anyway}
 use Rattle.tks_codec_windows.proofs.OfWidgets.{small_active, listbox_legal}
 use Rattle.tks_codec_windows.proofs.listing.put_listbox.Goals as goal
 
@@ -13,9 +12,9 @@ overflow_cast-active c = omega (arith, c.active.ensures.value, small_active c.ar
 pub returns-clause-puts : goal.returns-clause-puts
 returns-clause-puts c =
     let l = c.args.listbox.now in
-    put_behind c.put_u32.result c.args.out.now.items ((list item).write l.items) c.put_items.new.out.items (to_be_bytes w32 l.active) c.put_u32.new.out.items (rw (← c.items.ensures.value) c.in_ok-put_items.ensures.puts) (rw (← c.active.ensures.value) c.put_u32.ensures)
+    put_behind c.put_u32.result c.args.out.now.items ((list item).write l.items) c.put_list.new.out.items (to_be_bytes w32 l.active) c.put_u32.new.out.items (rw (← c.items.ensures.value) c.in_ok-put_list.ensures.puts) (rw (← c.active.ensures.value) c.put_u32.ensures)
 
 pub returns-clause-legal : goal.returns-clause-legal
 returns-clause-legal c =
     let l = c.args.listbox.now in
-    anyway c.put_u32.result (listbox_legal l c.active.ensures.one (rw (← c.items.ensures.value) c.in_ok-put_items.ensures.legal))
+    anyway c.put_u32.result (listbox_legal l c.active.ensures.one (rw (← c.items.ensures.value) c.in_ok-put_list.ensures.legal))

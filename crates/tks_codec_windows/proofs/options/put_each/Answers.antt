@@ -1,9 +1,9 @@
 use Rattle.std.proofs.Common.{None, take, sym}
 use Rattle.std.proofs.lemmas.Result.{err_from_is_err_and}
 use Rattle.tks_opt.specs.Options.{values_in_order}
-use Rattle.tks_codec.specs.Spelling.{members, text}
-use Rattle.tks_codec.proofs.Loop.{one_put, one_holds}
-use Rattle.tks_codec.proofs.Puts.{put_refused}
+use Rattle.tks_spelling.specs.Spelling.{members, text}
+use Rattle.tks_spelling.proofs.Loop.{one_put, one_holds}
+use Rattle.tks_spelling.proofs.Puts.{put_refused}
 use Rattle.tks_codec_windows.proofs.OfOptions.{in_place}
 use Rattle.tks_codec_windows.proofs.options.put_each.Goals as goal
 

@@ -1,7 +1,7 @@
 use Rattle.std.proofs.Common.{◌≡◌, ◌++◌, None, take}
 use Rattle.std.specs.List.{AllByRecursion}
 use Rattle.tks_opt.specs.Options.{values_in_order}
-use Rattle.tks_codec.specs.Spelling.{members, text}
+use Rattle.tks_spelling.specs.Spelling.{members, text}
 use Rattle.tks_codec_windows.proofs.options.put_each.Given as goal
 
 -- those so far were put, and have spellings

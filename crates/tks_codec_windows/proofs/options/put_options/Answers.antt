@@ -1,9 +1,9 @@
 use Rattle.std.proofs.Common.{None, length, arith}
 use Rattle.std.specs.Int.{w32, to_be_bytes}
 use Rattle.tks_opt.specs.Options.{values_in_order}
-use Rattle.tks_codec.specs.Spelling.{members, text}
-use Rattle.tks_codec.proofs.Loop.{each_is_legal}
-use Rattle.tks_codec.proofs.Puts.{put_behind, where_put}
+use Rattle.tks_spelling.specs.Spelling.{members, text}
+use Rattle.tks_spelling.proofs.Loop.{each_is_legal}
+use Rattle.tks_spelling.proofs.Puts.{put_behind, where_put}
 use Rattle.tks_codec_windows.proofs.OfOptions.{options_legal}
 use Rattle.tks_codec_windows.proofs.options.put_options.Goals as goal
 

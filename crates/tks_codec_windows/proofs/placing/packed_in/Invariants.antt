@@ -4,4 +4,4 @@ use Rattle.tks_codec_windows.proofs.placing.packed_in.Given as goal
 
 -- the windows so far
 abbrev pub invariant-loop-number : goal.invariant-loop-number
-invariant-loop-number l = l.contents ≡ map (content_of l.places) (take l.number-index l.place.contents)
+invariant-loop-number l = l.contents.items ≡ map (content_of l.places) (take l.number-index l.place.contents)

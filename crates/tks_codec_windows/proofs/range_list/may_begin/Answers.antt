@@ -1,7 +1,7 @@
 use Rattle.std.proofs.Common.{None, length, get_or, ◌-◌, sym, ap, arith}
 use Rattle.std.proofs.lemmas.List.{get_or_default}
 use Rattle.tks_lines.specs.Ranges.{is_behind}
-use Rattle.tks_codec.proofs.Loop.{last_at}
+use Rattle.tks_spelling.proofs.Loop.{last_at}
 use Rattle.tks_codec_windows.proofs.range_list.may_begin.Goals as goal
 
 pub returns-in-len1-up : goal.returns-in-len1-up

@@ -1,6 +1,6 @@
 use Rattle.std.proofs.Common.{◌≡◌, ◌++◌, None, take, length}
 use Rattle.std.specs.List.{AllByRecursion}
-use Rattle.tks_codec.specs.Spelling.{members}
+use Rattle.tks_spelling.specs.Spelling.{members}
 use Rattle.tks_codec_windows.specs.Lines.{tag}
 use Rattle.tks_codec_windows.proofs.tag.put_each_tag.Given as goal
 

@@ -1,9 +1,8 @@
 use Rattle.tks_lines.specs.Ranges.{ranges_of}
 use Rattle.std.proofs.Common.{length}
-use Rattle.tks_codec.specs.Spelling.{text}
-use Rattle.tks_codec.proofs.Puts.{put_behind}
+use Rattle.tks_spelling.specs.Spelling.{text}
+use Rattle.tks_spelling.proofs.Puts.{put_behind, anyway}
 use Rattle.tks_codec_windows.specs.Lines.{ranges}
-use Rattle.tks_codec_windows.proofs.OfTexts.{anyway}
 use Rattle.tks_codec_windows.proofs.OfLines.{tag_legal}
 use Rattle.tks_codec_windows.proofs.tag.put_tag.Goals as goal
 

@@ -1,8 +1,8 @@
 use Rattle.std.proofs.Common.{None, length}
 use Rattle.std.specs.Int.{w32, to_be_bytes}
-use Rattle.tks_codec.specs.Spelling.{members}
-use Rattle.tks_codec.proofs.Loop.{each_is_legal}
-use Rattle.tks_codec.proofs.Puts.{put_behind, where_put}
+use Rattle.tks_spelling.specs.Spelling.{members}
+use Rattle.tks_spelling.proofs.Loop.{each_is_legal}
+use Rattle.tks_spelling.proofs.Puts.{put_behind, where_put}
 use Rattle.tks_codec_windows.specs.Lines.{tag}
 use Rattle.tks_codec_windows.proofs.tag.put_tags.Goals as goal
 

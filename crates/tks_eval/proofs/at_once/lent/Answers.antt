@@ -1,7 +1,7 @@
 use Rattle.std.proofs.Common.{◌≡◌, true, [], ◌∷◌, rules, sym, ap, ◌∙◌}
 use Rattle.tks_parse.specs.Tree.{no_part, chars}
 use Rattle.tks_parse.specs.View.{parts_of}
-use Rattle.tks_tcl.specs.Cause.{fits}
+use Rattle.tks_text.specs.Limits.{fits}
 use Rattle.tks_eval.specs.Filling.{filled}
 use Rattle.tks_eval.proofs.Lent.{filled_one}
 use Rattle.tks_eval.proofs.Runs.{one_of}

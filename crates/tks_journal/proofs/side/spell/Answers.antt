@@ -1,5 +1,5 @@
 use Rattle.std.proofs.Common.{◌≡◌, rules}
-use Rattle.tks_codec.specs.Header as headers
+use Rattle.tks_spelling.specs.Header as headers
 use Rattle.tks_journal.proofs.Heads.{spelled_as}
 use Rattle.tks_journal.proofs.side.spell.Goals as goal
 

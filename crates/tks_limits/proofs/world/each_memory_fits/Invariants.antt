@@ -1,8 +1,8 @@
-use Rattle.std.proofs.Common.{◌≡◌, ◌&&◌, drop}
+use Rattle.std.proofs.Common.{◌≡◌, ◌&&◌}
 use Rattle.std.specs.List.{list_all}
 use Rattle.tks_limits.specs.Within as kinds
 use Rattle.tks_limits.proofs.world.each_memory_fits.Given as goal
 
 -- the others decide
-abbrev pub invariant-loop-memory : goal.invariant-loop-memory
-invariant-loop-memory l = list_all (λ m. kinds.fits l.limits m.name && kinds.fits l.limits m.text) (drop l.memory-index l.memories) ≡ list_all (λ m. kinds.fits l.fn.limits m.name && kinds.fits l.fn.limits m.text) l.fn.memories
+abbrev pub invariant-loop-name : goal.invariant-loop-name
+invariant-loop-name l = list_all (λ e. kinds.fits l.limits e.0 && kinds.fits l.limits e.1) l.name-iterator ≡ list_all (λ e. kinds.fits l.fn.limits e.0 && kinds.fits l.fn.limits e.1) l.fn.memories

@@ -6,7 +6,7 @@ pub loop-queued-init : goal.loop-queued-init
 loop-queued-init c = record {
   behind = search rules;
   within = omega arith;
-  count = let none = none_counted c.len-len.result c.args.events.now.present in search rules;
+  count = let none = none_counted c.len-len.result c.args.events.now in search rules;
 }
 
 pub loop-queued-preserved-then-queued : goal.loop-queued-preserved-then-queued

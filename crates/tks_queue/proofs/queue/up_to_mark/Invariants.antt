@@ -8,5 +8,5 @@ abbrev pub invariant-loop-queued : goal.invariant-loop-queued
 invariant-loop-queued l = record {
   behind : l.behind ≡ length l.queued-iterator;
   within : l.behind ≤ l.len;
-  count : up_to_mark l.fn.events.present ≡ (if some_with_mark l.queued-iterator then (l.len - l.behind) + up_to_mark l.queued-iterator else l.count);
+  count : up_to_mark l.fn.events ≡ (if some_with_mark l.queued-iterator then (l.len - l.behind) + up_to_mark l.queued-iterator else l.count);
 }

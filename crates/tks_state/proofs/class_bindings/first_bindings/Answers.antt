@@ -1,5 +1,4 @@
-use Rattle.std.proofs.Common.{ap, sym}
-use Rattle.tks_bind.specs.Binding.{Views}
+use Rattle.std.proofs.Common.{sym}
 use Rattle.tks_state.specs.ClassBindings.{first_bindings}
 use Rattle.tks_state.proofs.class_bindings.first_bindings.Goals as goal
 
@@ -7,7 +6,7 @@ pub returns : goal.returns
 unfolding first_bindings
 returns c =
     rw (
-      ap (λ (v : Views). v.present) (sym c.new-bindings.ensures),
+      sym c.new-bindings.ensures,
       sym c.in_ok-bind_presses.ensures.value,
       sym c.in_ok-bind_typing.ensures.value,
       sym c.in_ok-bind_typing-2.ensures.value,

@@ -8,4 +8,4 @@ pub place_contents-requires-clause-inside : goal.place_contents-requires-clause-
 place_contents-requires-clause-inside c =
     let container = extent_of c.in-Some.area in
     subst (AllByRecursion (LiesInside container)) (sym (c.deref.ensures.value ∙ c.in_ok-places.ensures))
-    (c.windows_lie_inside.ensures (size_in c.args.sizes.now) container c.get-packing.result.now.contents)
+    (c.windows_lie_inside.ensures (size_in c.args.sizes.now) container c.args.kept.now.packing.contents)

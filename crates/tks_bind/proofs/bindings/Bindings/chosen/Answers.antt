@@ -9,5 +9,5 @@ returns-clause-value c = rw (← c.self.view_is, ← c.events.ensures.value) c.l
 pub returns-clause-so : goal.returns-clause-so
 returns-clause-so c =
     rw (← c.self.view_is, ← c.events.ensures.value, c.latest.ensures) (
-    chosen_so (record { bindings = c.self.inside.bindings.present; tag = c.args.tag.now; event = c.args.event.now; history = c.events.result.now; virtuals = c.args.virtuals.now.present })
+    chosen_so (record { bindings = c.self.inside.bindings; tag = c.args.tag.now; event = c.args.event.now; history = c.events.result.now; virtuals = c.args.virtuals.now })
     )

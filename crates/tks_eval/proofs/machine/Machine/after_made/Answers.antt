@@ -1,5 +1,6 @@
 use Rattle.std.proofs.Common.{◌≡◌, ◌∷◌, false, cond, Ok, Err, rules, ap, ◌∙◌}
-use Rattle.tks_tcl.specs.Cause.{OverLimit, fits}
+use Rattle.tks_tcl.specs.Cause.{OverLimit}
+use Rattle.tks_text.specs.Limits.{fits}
 use Rattle.tks_eval.specs.Outcome.{End, TooLarge, given}
 use Rattle.tks_eval.specs.Evaluation.{evaluate}
 use Rattle.tks_eval.specs.Machine.{resume}

@@ -17,6 +17,6 @@ returns-clause-goes g c =
     let variables = c.args.variables.now in
     let some : 0 < m.left = search rules in
     let does = opens host limits m.left c.args.script state variables m.fuel some
-    ∙ ap (λ script. commands_do host limits (evaluate host limits (m.left - 1)) script [] state variables m.fuel) (sym c.into_left.ensures) in
+    ∙ ap (λ script. commands_do host limits (evaluate host limits (m.left - 1)) script [] state variables m.fuel) (sym c.into_remaining.ensures) in
     let goes = c.after_command.ensures.goes in
     rw does search rules

@@ -1,7 +1,7 @@
 use Rattle.std.proofs.Common.{◌≡◌, true, false, cond, [], rules, sym, subst, ap, ◌∙◌}
 use Rattle.std.specs.List.{list_all}
 use Rattle.tks_parse.specs.View.{words_of, words_of_command}
-use Rattle.tks_tcl.specs.Cause.{fits}
+use Rattle.tks_text.specs.Limits.{fits}
 use Rattle.tks_eval.specs.Outcome.{Stopped, TooLarge}
 use Rattle.tks_eval.specs.Evaluation.{evaluate, call, words_do}
 use Rattle.tks_eval.specs.Machine.{ReachesSo}

@@ -23,7 +23,7 @@ invariant_of-self-2 c =
     let made : tree.created t path class ≡ Ok (window, u) = ap (λ x. tree.created x path class) (sym c.in_ok-tree.ensures) ∙ c.in_ok-window.ensures.value in
     let own = c.class-class.ensures.value ∙ ap (λ (o : Options). o.class) c.options.ensures in
     let behind = made_so t u path window class c.self.invariant.windows (ap is_widget_class own ∙ c.requires) made in
-    let kept = c.in_ok-new.ensures ∙ ap (new_kept window) c.in_ok-widget.ensures in
+    let kept = c.new-2.ensures ∙ ap (new_kept window) c.in_ok-widget.ensures in
     let grown = sym (c.in_ok-push.ensures.ok ∙ ap (λ k. old ++ k ∷ []) kept) in
     record {
       windows = behind.well;

@@ -12,7 +12,7 @@ invariant_of-result c =
     let root : Kept = new_kept 0 (widget.Frame c.in_ok-root.field-0) in
     let kept : c.push.new.self ≡ root ∷ [] = search rules in
     record {
-      windows = subst trees.WellFormed (sym c.in_ok-new-2.ensures) first_well;
+      windows = subst trees.WellFormed (sym c.in_ok-new.ensures) first_well;
       in_step = search rules;
-      packs = subst (AllPackChildren c.in_ok-new-2.field-0) (sym kept) (alone_packs c.in_ok-new-2.field-0 root refl);
+      packs = subst (AllPackChildren c.in_ok-new.field-0) (sym kept) (alone_packs c.in_ok-new.field-0 root refl);
     }

@@ -1,0 +1,161 @@
+//! The program's commands, terminals over them, and what sessions answer.
+ghost use Rattle.std.specs.Prelude.{◌≡◌, if◌then◌else◌};
+ghost use Rattle.std.proofs.Props.{props};
+ghost use Rattle.tks_desk.specs.Own.{next_of, swap_of};
+
+use std::alloc::{AllocError, Global};
+use tks_app::{AppAnswer, AppBody, AppCommand, Apps};
+use tks_desk::{Own, next_number, own_apps, run, swap_word};
+use tks_disk::{Disk, Left, MemoryDisk, Side};
+use tks_durable::{Durable, SessionFault};
+use tks_session::Terminal;
+use tks_text::{Limits, Size, Txt};
+
+/// What `app.swap` or `app.next` runs.
+#[derive(Drop)]
+pub struct Body {
+    pub alloc: Global,
+    pub swaps: bool,
+}
+
+impl AppBody for Body {
+    ghost callable = { λ b. Unit {0} };
+
+    ghost callable_is_fact = { λ b. Prim.hlevel props };
+
+    ghost may_answer = { λ b memory words answer. answer ≡ (if b.swaps then swap_of memory words else next_of memory words) };
+
+    fn run(&self, memory: &Txt, words: &[Txt]) -> Result<AppAnswer, AllocError> {
+        if self.swaps {
+            swap_word(self.alloc, memory, words)
+        } else {
+            next_number(self.alloc, memory, words)
+        }
+    }
+}
+
+/// A terminal with both commands, on a grid of 20 by so many cells.
+pub fn terminal(alloc: Global, height: u16, limits: Limits) -> Option<Terminal<Own, Body>> {
+    let next = Body {
+        alloc,
+        swaps: false,
+    };
+    let swap = Body { alloc, swaps: true };
+    Some(Terminal {
+        limits,
+        grid: Size::new(20, height)?,
+        apps: own_apps(alloc, next, swap).ok()?,
+    })
+}
+
+/// A terminal with `app.next` alone, on a grid of 20 by 3 cells.
+pub fn counting(alloc: Global) -> Option<Terminal<Own, Body>> {
+    let next = Body {
+        alloc,
+        swaps: false,
+    };
+    let mut apps: Apps<Own, Body> = Apps::new(alloc);
+    let command = AppCommand::new(Txt::from_text(alloc, b"app.next").ok()?, next);
+    if apps.add(command).is_err() {
+        return None;
+    }
+    Some(Terminal {
+        limits: Limits::format1(),
+        grid: Size::new(20, 3)?,
+        apps,
+    })
+}
+
+/// What a session answers to lines.
+pub fn told<D: Disk, B: AppBody>(
+    alloc: Global,
+    session: &mut Durable<D, Terminal<Own, B>>,
+    lines: &[u8],
+) -> Option<Vec<u8>> {
+    let mut lines = lines;
+    let mut written = Vec::new(alloc);
+    run(alloc, &mut lines, &mut written, session).ok()?;
+    Some(written)
+}
+
+/// Whether a session answers lines so.
+pub fn tells<D: Disk, B: AppBody>(
+    alloc: Global,
+    session: &mut Durable<D, Terminal<Own, B>>,
+    lines: &[u8],
+    want: &[u8],
+) -> Option<bool> {
+    Some(told(alloc, session, lines)?.as_slice() == want)
+}
+
+/// Whether a disk opens to a session that answers lines so.
+pub fn opens_and_tells<D: Disk + Drop, B: AppBody>(
+    alloc: Global,
+    disk: D,
+    terminal: Terminal<Own, B>,
+    lines: &[u8],
+    want: &[u8],
+) -> Option<bool> {
+    match Durable::open(alloc, disk, terminal) {
+        Ok(mut session) => tells(alloc, &mut session, lines, want),
+        Err(_) => Some(false),
+    }
+}
+
+// The disk as lines leave it, of a session that is opened on it.
+fn left_on<D: Disk + Drop, B: AppBody>(
+    alloc: Global,
+    disk: D,
+    terminal: Terminal<Own, B>,
+    lines: &[u8],
+) -> Option<D> {
+    match Durable::open(alloc, disk, terminal) {
+        Ok(mut session) => {
+            let is_told = told(alloc, &mut session, lines).is_some();
+            let disk = session.close().0;
+            if is_told { Some(disk) } else { None }
+        }
+        Err(_) => None,
+    }
+}
+
+/// The disk that such lines leave, of a fresh session with both commands on a grid of 20 by 3 cells.
+pub fn left_by(alloc: Global, lines: &[u8]) -> Option<MemoryDisk> {
+    let terminal = terminal(alloc, 3, Limits::format1())?;
+    left_on(alloc, MemoryDisk::new(alloc), terminal, lines)
+}
+
+/// Whether what a crash leaves of a disk opens to a session of this kind that answers lines so.
+pub fn crash_tells(
+    alloc: Global,
+    disk: &MemoryDisk,
+    left: Left,
+    lines: &[u8],
+    want: &[u8],
+) -> Option<bool> {
+    let terminal = terminal(alloc, 3, Limits::format1())?;
+    match disk.crash(alloc, left, Left::Old) {
+        Ok(crashed) => opens_and_tells(alloc, crashed, terminal, lines, want),
+        Err(_) => None,
+    }
+}
+
+/// Why a disk isn't opened, and the disk that is handed back.
+pub fn fault_of<D: Disk + Drop, B: AppBody>(
+    alloc: Global,
+    disk: D,
+    terminal: Terminal<Own, B>,
+) -> Option<(SessionFault, D)> {
+    match Durable::open(alloc, disk, terminal) {
+        Ok(_) => None,
+        Err(refused) => Some((refused.fault, refused.disk)),
+    }
+}
+
+/// The bytes of a side, up to 4,096.
+pub fn bytes_of<D: Disk>(alloc: Global, disk: &mut D, side: Side) -> Option<Vec<u8>> {
+    let length = disk.len(side).ok()?;
+    let mut bytes = vec![in alloc; 0u8; length.min(4_096)].ok()?;
+    let read = disk.read_at(side, 0, bytes.as_mut_slice()).ok()?;
+    if read == length { Some(bytes) } else { None }
+}

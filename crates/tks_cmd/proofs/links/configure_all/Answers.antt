@@ -1,5 +1,0 @@
-use Rattle.std.proofs.Common.{rules}
-use Rattle.tks_cmd.proofs.links.configure_all.Goals as goal
-
-pub returns-in_err-configured-clause-err : goal.returns-in_err-configured-clause-err
-returns-in_err-configured-clause-err = search rules

@@ -1,5 +1,0 @@
-use Rattle.std.proofs.Common.{rules}
-use Rattle.tks_codec.proofs.names.name_of.Goals as goal
-
-pub returns : goal.returns
-returns = search rules

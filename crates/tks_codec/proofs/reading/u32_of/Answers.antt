@@ -1,7 +1,0 @@
-use Rattle.std.proofs.Common.{rules}
-use Rattle.tks_codec.specs.Spelling.{number_at}
-use Rattle.tks_codec.proofs.reading.u32_of.Goals as goal
-
-pub returns : goal.returns
-unfolding number_at
-returns = search rules

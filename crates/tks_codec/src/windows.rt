@@ -1,0 +1,173 @@
+//! The windows.
+ghost use Rattle.std.specs.Prelude.{◌≡◌, ◌++◌, [], ◌∷◌, map, None, option_map, IfOk, OnOk};
+ghost use Rattle.std.specs.List.{AllByRecursion};
+ghost use Rattle.tks_spelling.specs.Spelling.{members};
+ghost use Rattle.tks_spelling.specs.Reading.{Gives};
+ghost use Rattle.tks_spelling.specs.Writing.{PutsSo};
+ghost use Rattle.tks_codec_windows.specs.Places.{packed_as};
+ghost use Rattle.tks_codec.specs.Line.{line};
+ghost use Rattle.tks_codec.specs.Windows as kinds;
+ghost use Rattle.tks_codec.specs.Windows.{packings_of, lines_from, held_of, part_of, parts_from, windows_seen, windows_at};
+ghost use Rattle.tks_state.specs.WellFormed.{InStep};
+ghost use Rattle.tks_state.specs.World.{windows_of};
+
+use crate::line::{Line, Lines, put_line};
+use std::alloc::{AllocError, Global};
+use tks_codec_windows::{Place, placed, settings_in};
+use tks_pack::{Packing, Settings};
+use tks_share::SharedList;
+use tks_spelling::writing::put_u32;
+use tks_spelling::{Unread, list_by};
+use tks_state::{Kept, Widget, WindowParts, World};
+use tks_text::{Seq, Txt};
+use tks_tree::{Tree, WindowId};
+
+// What is read of a window besides its place.
+#[derive(Drop)]
+struct Held {
+    widget: Widget,
+    tags: Option<Seq<Txt>>,
+}
+
+// Adds a line's place, and what there is besides.
+fn part(line: Line, places: &mut Vec<Place>, others: &mut Vec<Held>) -> Result<(), AllocError>
+    ensures places { OnOk result (places.new.items ≡ places.old.items ++ line.place ∷ []) }
+    ensures others { OnOk result (others.new.items ≡ others.old.items ++ held_of line ∷ []) }
+{
+    let Line {
+        place,
+        tags,
+        widget,
+    } = line;
+    others.push(Held { widget, tags })?;
+    places.push(place)?;
+    Ok(())
+}
+
+// Lines as places, and what there is besides.
+fn split(alloc: Global, lines: Vec<Line>) -> Result<(Vec<Place>, Vec<Held>), AllocError>
+    ensures places { IfOk result (λ x. x.0.items ≡ map (λ l. l.place) lines.items) }
+    ensures others { IfOk result (λ x. x.1.items ≡ map held_of lines.items) }
+{
+    let mut places = Vec::with_capacity(alloc, lines.len())?;
+    let mut others = Vec::with_capacity(alloc, lines.len())?;
+    for line in lines {
+        part(line, &mut places, &mut others)?;
+    }
+    Ok((places, others))
+}
+
+// What a window holds, with how others are packed in it.
+fn with_packing(one: Held, packing: Packing) -> WindowParts
+    ensures { result ≡ part_of one packing }
+{
+    let Held { widget, tags } = one;
+    WindowParts {
+        widget,
+        tags,
+        packing,
+    }
+}
+
+// What windows hold, with how others are packed in each.
+fn join(
+    alloc: Global,
+    held: Vec<Held>,
+    packings: Vec<Packing>,
+) -> Result<Vec<WindowParts>, AllocError>
+    ensures { IfOk result (λ parts. parts.items ≡ parts_from held.items packings.items) }
+{
+    let mut parts = Vec::with_capacity(alloc, held.len())?;
+    let mut packings = packings.into_iter();
+    for one in held {
+        let Some(packing) = packings.next() else {
+            return Ok(parts);
+        };
+        parts.push(with_packing(one, packing))?;
+    }
+    Ok(parts)
+}
+
+/// Windows that were read: the tree, and what there is of each window besides.
+#[derive(Drop)]
+pub struct WindowsRead {
+    pub tree: Tree,
+    pub parts: Vec<WindowParts>,
+}
+
+// The windows that lines are, with this number for the next one.
+fn windows_made(
+    alloc: Global,
+    next: u64,
+    lines: Vec<Line>,
+) -> Result<Option<WindowsRead>, AllocError>
+    ensures { IfOk result (λ found. option_map windows_seen found ≡ kinds.windows_made next lines.items) }
+{
+    let (places, held) = split(alloc, lines)?;
+    let Some((tree, packings)) = placed(alloc, places.as_slice(), next)? else {
+        return Ok(None);
+    };
+    let parts = join(alloc, held, packings)?;
+    Ok(Some(WindowsRead { tree, parts }))
+}
+
+/// Windows, with this number for the next one.
+#[tactic(auto, unfolding(crate::specs::Windows::windows_at))]
+pub fn windows_of(alloc: Global, next: u64, bytes: &[u8]) -> Result<(WindowsRead, &[u8]), Unread>
+    ensures { Gives (λ x. (windows_seen x.0, x.1.now)) result (windows_at next bytes.now) }
+{
+    let (lines, rest) = list_by(alloc, &Lines, bytes)?;
+    match windows_made(alloc, next, lines.into_items())? {
+        Some(windows) => Ok((windows, rest)),
+        None => Err(Unread::Left(rest.len() + 1)),
+    }
+}
+
+// How a window is packed, in the first of these that holds it.
+fn packed_as(kept: &SharedList<Kept>, window: WindowId) -> Option<Settings>
+    ensures { result ≡ packed_as (packings_of kept.now) window }
+{
+    for one in kept.iter() {
+        let settings = settings_in(one.packing.contents(), window);
+        if settings.is_some() {
+            return settings;
+        }
+    }
+    None
+}
+
+// Adds a line for each window.
+fn put_each(
+    alloc: Global,
+    out: &mut Vec<u8>,
+    tree: &Tree,
+    kept: &SharedList<Kept>,
+) -> Result<(), AllocError>
+    requires { InStep tree.now.windows kept.now }
+    ensures puts { PutsSo result out.old.items out.new.items (members (λ before. line) None (lines_from (packings_of kept.now) tree.now.windows kept.now)) }
+    ensures legal { OnOk result (AllByRecursion line.Legal (lines_from (packings_of kept.now) tree.now.windows kept.now)) }
+{
+    for index in 0..kept.len() {
+        let Some(window) = tree.nth(index) else {
+            unreachable!()
+        };
+        let Some(one) = kept.get(index) else {
+            unreachable!()
+        };
+        let packing = packed_as(kept, window.id);
+        put_line(alloc, out, &window, one, packing)?;
+    }
+    Ok(())
+}
+
+/// Adds the windows of a world, but not the number of the next one.
+pub fn put_windows(alloc: Global, out: &mut Vec<u8>, world: &World) -> Result<(), AllocError>
+    ensures puts { PutsSo result out.old.items out.new.items ((kinds.windows world.now.tree.next).write (windows_of world.now)) }
+    ensures legal { OnOk result ((kinds.windows world.now.tree.next).Legal (windows_of world.now)) }
+{
+    // What holds of all worlds is asked for here.
+    let _ = world.accepted();
+    let kept = world.all_kept();
+    put_u32(out, kept.len() as u32)?;
+    put_each(alloc, out, world.tree(), kept)
+}

@@ -1,8 +1,0 @@
-use Rattle.std.proofs.Common.{None, refl}
-use Rattle.tks_codec.proofs.Loop.{last_at}
-use Rattle.tks_codec_variables.proofs.table.is_behind.Goals as goal
-
-pub returns-in-len1-up : goal.returns-in-len1-up
-returns-in-len1-up g c =
-    let last = last_at None c.args.entries.now c.last-item.result c.in-len1-up.len_at_least c.last-item.is in
-    rw (last, c.is_lt.ensures, c.cmp.ensures, c.as_bytes.ensures.value, c.as_bytes-in-len1-up.ensures.value) refl

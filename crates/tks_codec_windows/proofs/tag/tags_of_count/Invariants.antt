@@ -1,9 +1,0 @@
-use Rattle.std.proofs.Common.{◌≡◌, ◌-◌, None}
-use Rattle.tks_codec.specs.Spelling.{last_of, members_at}
-use Rattle.tks_codec.proofs.Loop.{with_front}
-use Rattle.tks_codec_windows.specs.Lines.{tag}
-use Rattle.tks_codec_windows.proofs.tag.tags_of_count.Given as goal
-
--- those so far, and those that are still to be read, are all
-abbrev pub invariant-loop : goal.invariant-loop
-invariant-loop l = with_front l.tags (members_at (λ before. tag l.len) (last_of None l.tags) (l.count - l.counter) l.rest) ≡ members_at (λ before. tag l.len) None l.count l.bytes

@@ -1,5 +1,0 @@
-pub mod OfContent
-pub mod OfLines
-pub mod OfWindows
-pub mod OfParts
-pub mod OfWorlds

@@ -1,0 +1,9 @@
+mod Opens
+mod Pending
+mod Reading
+mod Rooms
+pub mod Runs
+mod Starts
+pub mod Crashes
+pub mod Lives
+pub mod Drains

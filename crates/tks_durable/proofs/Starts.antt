@@ -1,0 +1,59 @@
+-- A first side opens to the state that it was begun with.
+use Rattle.std.proofs.Common.{◌≡◌, ◌≤◌, ℕ, ◌^◌, ◌==◌, nat_le, Bool, ◌&&◌, ◌||◌, true, false, List, [], ◌∷◌, length, Some, Ok, Err, refl, sym, ◌∙◌, ap, cond, arith}
+use Rattle.std.proofs.lemmas.Bool.Decides.{nat_tests}
+use Rattle.tks_text.specs.Size.{Extent}
+use Rattle.tks_text.specs.Text.{same_text}
+use Rattle.tks_spelling.specs.Header as codec
+use Rattle.tks_spelling.specs.declared.header.Header.{Header}
+use Rattle.tks_disk.specs.declared.disk.Side.TheVariants.{A}
+use Rattle.tks_journal.specs.Resting.{begun_as}
+use Rattle.tks_durable.specs.Machine.{Meaning}
+use Rattle.tks_durable.specs.Opening.{admitted, begun, opened, restored, same_grid, same_names}
+use Rattle.tks_durable.specs.Starting.{first_header, is_too_large}
+use Rattle.tks_durable.specs.declared.fault.SessionFault.TheVariants.{OtherCommands, OtherGrid, SmallerLimits}
+
+same_number : (n : ℕ) → (n == n) ≡ true
+same_number n = grind (arith, nat_tests)
+
+same_bytes : (l : List ℕ) → same_text l l ≡ true
+same_bytes [] = refl
+same_bytes (n ∷ l) = ap (λ b. b && same_text l l) (same_number n) ∙ same_bytes l
+
+names_are : (names : List (List ℕ)) → same_names names names ≡ true
+names_are [] = refl
+names_are (name ∷ names) = ap (λ b. b && same_names names names) (same_bytes name) ∙ names_are names
+
+grid_is : (grid : Extent) → same_grid grid grid ≡ true
+grid_is grid = ap (λ b. b && (grid.height == grid.height)) (same_number grid.width) ∙ same_number grid.height
+
+module _ {W : Type 0} (m : Meaning W) (header : Header) (world : W) where
+  admits : header.grid ≡ m.grid → header.names ≡ m.names → m.within world ≡ true → admitted m header world ≡ Ok world
+  admits grid names within =
+      ap (λ b. cond b (cond (same_names header.names m.names) (cond (m.within world) (Ok world) (Err SmallerLimits)) (Err OtherCommands)) (Err OtherGrid)) (ap (λ x. same_grid x m.grid) grid ∙ grid_is m.grid)
+      ∙ ap (λ b. cond b (cond (m.within world) (Ok world) (Err SmallerLimits)) (Err OtherCommands)) (ap (λ x. same_names x m.names) names ∙ names_are m.names)
+      ∙ ap (λ b. cond b (Ok world) (Err SmallerLimits)) within
+
+  pub first_opens : (bytes : List ℕ) → header.grid ≡ m.grid → header.names ≡ m.names → m.within world ≡ true → world ≡ m.first → m.stored header bytes ≡ Some m.first → opened m (begun_as A header bytes) ≡ Ok world
+  first_opens bytes grid names within is stored = ap (λ o. restored m header o []) (stored ∙ ap Some (sym is)) ∙ admits grid names within
+
+pub begins : {W : Type 0} (m : Meaning W) (world : W) → world ≡ m.first → m.within world ≡ true → begun m ≡ Ok world
+begins m world is within = ap (λ b. cond b (Ok m.first) (Err SmallerLimits)) (ap m.within (sym is) ∙ within) ∙ ap Ok (sym is)
+
+pub begins_not : {W : Type 0} (m : Meaning W) (world : W) → world ≡ m.first → m.within world ≡ false → begun m ≡ Err SmallerLimits
+begins_not m world is within = ap (λ b. cond b (Ok m.first) (Err SmallerLimits)) (ap m.within (sym is) ∙ within)
+
+at_least : (least n : ℕ) → least ≤ n → nat_le least n ≡ true
+at_least least n le = grind (arith, nat_tests)
+
+or_true : (b : Bool) → (b || true) ≡ true
+or_true true = refl
+or_true false = refl
+
+module _ {W : Type 0} (m : Meaning W) (bytes : List ℕ) (is : bytes ≡ m.first_bytes) where
+  pub bytes_too_large : 2 ^ 60 ≤ length bytes → is_too_large m ≡ true
+  bytes_too_large le = ap (λ b. b || nat_le (2 ^ 60) (length (codec.header.write (first_header m)))) (at_least (2 ^ 60) (length m.first_bytes) (rw is at le))
+
+  pub head_too_large : (header : Header) (head : List ℕ) → header ≡ record { generation = 1; grid = m.grid; names = m.names; world_length = length bytes } → head ≡ codec.header.write header → 2 ^ 60 ≤ length head → is_too_large m ≡ true
+  head_too_large header head header_is head_is le =
+      let same : head ≡ codec.header.write (first_header m) = head_is ∙ ap codec.header.write (header_is ∙ ap (λ (l : List ℕ). record { generation = 1; grid = m.grid; names = m.names; world_length = length l }) is) in
+      ap (λ b. nat_le (2 ^ 60) (length m.first_bytes) || b) (at_least (2 ^ 60) (length (codec.header.write (first_header m))) (rw same at le)) ∙ or_true (nat_le (2 ^ 60) (length m.first_bytes))

@@ -1,0 +1,67 @@
+-- What contracts see of a durable machine.
+use Rattle.std.specs.Prelude.{◌≡◌, ◌⊎◌, ◌<◌, ℕ, ◌+◌, Bool, true, not, ◌||◌, nat_le, List, [], ◌∷◌, length, Option, Some, None}
+use Rattle.std.specs.List.{AllByRecursion}
+use Rattle.tks_input.specs.declared.input.Input.{Input}
+use Rattle.tks_spelling.specs.Input as codec
+use Rattle.tks_journal.specs.Journal.{JournalState, room_at, room_for}
+use Rattle.tks_durable.specs.Inputs.{spelled}
+use Rattle.tks_durable.specs.declared.fault.SessionFault.{SessionFault}
+use Rattle.tks_durable.specs.declared.fault.SessionFault.TheVariants as fault
+
+pub record DurableState (D M W : Type 0) : Type 0 where
+  pub journal : JournalState D
+  pub machine : M
+  -- what the accepted inputs leave
+  pub world : W
+  -- the inputs that wait for a commit
+  pub waiting : List Input
+  -- how many inputs were acknowledged
+  pub acknowledged : ℕ
+
+-- the inputs that bytes are, or none
+abbrev pub or_none : Option (List Input) → List Input
+or_none None = []
+or_none (Some inputs) = inputs
+
+-- As many inputs wait as may, or a frame with this one too finds no room behind the gate.
+abbrev pub is_full_at : ℕ → ℕ → List Input → Input → Bool
+is_full_at pending gate waiting input = nat_le pending (length waiting) || not (room_at gate (length (spelled waiting) + length (codec.input.write input)))
+
+abbrev pub is_full : {D : Type 0} → ℕ → JournalState D → List Input → Input → Bool
+is_full pending journal waiting input = is_full_at pending journal.gate waiting input
+
+-- where the next gate stands behind a commit of these inputs
+abbrev pub gate_behind : ℕ → List Input → ℕ
+gate_behind gate [] = gate
+gate_behind gate (input ∷ inputs) = gate + 5 + length (spelled (input ∷ inputs))
+
+-- the journal behind a commit of these inputs
+abbrev pub committed : {D : Type 0} → JournalState D → D → List Input → JournalState D
+committed journal disk inputs = record journal { disk = disk; gate = gate_behind journal.gate inputs }
+
+-- these bytes are so many inputs
+pub record IsPending (body : List ℕ) (count : ℕ) : Type 0 where
+  pub inputs : List Input
+  pub legal : AllByRecursion codec.input.Legal inputs
+  pub bytes : body ≡ spelled inputs
+  pub size : count ≡ length inputs
+
+-- a frame of these bytes finds room, where inputs wait
+abbrev pub HasRoom : {D : Type 0} → JournalState D → ℕ → ℕ → Type 0
+HasRoom journal waiting size = (waiting ≡ 0) ⊎ (room_for journal size ≡ true)
+
+-- the journal behind a call that failed
+abbrev pub failed_with : {D : Type 0} → JournalState D → D → JournalState D
+failed_with journal disk = record journal { disk = disk; failed = true }
+
+-- An earlier call failed, and nothing has changed; or the device failed in this one, and the inputs wait still.
+abbrev pub CommitFails : {D M W : Type 0} → DurableState D M W → DurableState D M W → ℕ → ℕ → SessionFault → Type 0
+CommitFails old new before after fault.Failed = (old.journal.failed ≡ true) × (new ≡ old)
+CommitFails old new before after fault.Disk = (before < after) × (new ≡ record old { journal = failed_with old.journal new.journal.disk })
+CommitFails old new before after fault.TooLarge = ⊥
+CommitFails old new before after fault.NoMemory = ⊥
+CommitFails old new before after fault.Damaged = ⊥
+CommitFails old new before after fault.OtherCommands = ⊥
+CommitFails old new before after fault.OtherGrid = ⊥
+CommitFails old new before after fault.SmallerLimits = ⊥
+CommitFails old new before after fault.Version = ⊥

@@ -1,0 +1,9 @@
+pub mod Crash
+pub mod Inputs
+pub mod Lives
+pub mod Machine
+pub mod Opening
+pub mod Refusing
+pub mod Durable
+pub mod Starting
+pub mod Draining

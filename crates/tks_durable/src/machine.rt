@@ -1,0 +1,77 @@
+//! What is made durable: a machine.
+ghost use Rattle.std.specs.Prelude.{◌≡◌, List, ℕ, IfOk, IfErr, OnErr, Some};
+ghost use Rattle.tks_spelling.specs.Header.{AreNames, header};
+ghost use Rattle.tks_spelling.specs.declared.header.Header.{Header};
+ghost use Rattle.tks_durable.specs.Machine.{Meaning, accepts};
+ghost use Rattle.tks_durable.specs.Opening.{same_names};
+ghost use Rattle.tks_durable.specs.Refusing.{RefusedAs};
+
+use std::alloc::{AllocError, Global};
+use tks_input::{Input, Refused, Reply};
+use tks_spelling::Header;
+use tks_text::{Size, Txt};
+
+/// What is made durable: states, and what inputs do to them. Contracts see `meaning` alone, and states by their values.
+pub trait Machine {
+    /// A state: what stands between inputs.
+    type World: Drop;
+
+    /// What inputs do, and how states are kept.
+    ghost meaning: { Self → Meaning Self.World };
+
+    /// What an input does. A refused one changes nothing.
+    fn step(&self, alloc: Global, world: &mut Self::World, input: &Input) -> Result<Reply, Refused>
+        ensures accepted { IfOk result (λ reply. (meaning self.now).step world.old input.now ≡ accepts world.new reply) }
+        ensures refused { IfErr result (λ why. RefusedAs why ((meaning self.now).step world.old input.now)) }
+        ensures unchanged { OnErr result (world.new ≡ world.old) };
+
+    /// The state before any input.
+    fn first(&self, alloc: Global) -> Result<Self::World, AllocError>
+        ensures { IfOk result (λ world. world ≡ (meaning self.now).first) };
+
+    /// The state that these bytes spell behind this header; none where they spell none.
+    fn stored(
+        &self,
+        alloc: Global,
+        header: &Header,
+        bytes: &[u8],
+    ) -> Result<Option<Self::World>, AllocError>
+        ensures { IfOk result (λ found. found ≡ (meaning self.now).stored header.now bytes.now) };
+
+    /// The bytes that spell the state before any input, behind any header of this machine.
+    fn first_bytes(&self, alloc: Global) -> Result<Vec<u8>, AllocError>
+        ensures value { IfOk result (λ bytes. bytes.items ≡ (meaning self.now).first_bytes) }
+        ensures stored { IfOk result (λ bytes. (h : Header) → h.grid ≡ (meaning self.now).grid → h.names ≡ (meaning self.now).names
+            → (meaning self.now).stored h bytes.items ≡ Some (meaning self.now).first) };
+
+    /// The header of a side of this generation, behind which a world of so many bytes stands. It has a spelling.
+    fn header(
+        &self,
+        alloc: Global,
+        generation: u64,
+        world_length: u64,
+    ) -> Result<Header, AllocError>
+        ensures value { IfOk result (λ h. h ≡ record { generation = generation; grid = (meaning self.now).grid; names = (meaning self.now).names; world_length = world_length }) }
+        ensures names { IfOk result (λ h. AreNames h.names) }
+        ensures legal { IfOk result (λ h. header.Legal h) };
+
+    /// Whether a state keeps within the limits.
+    fn is_within(&self, world: &Self::World) -> bool
+        ensures { result ≡ (meaning self.now).within world.now };
+
+    /// How many inputs a state accepted.
+    fn count(&self, world: &Self::World) -> u64
+        ensures { result ≡ (meaning self.now).count world.now };
+
+    /// The grid that it is made for.
+    fn grid(&self) -> Size
+        ensures { result ≡ (meaning self.now).grid };
+
+    /// Whether these are the application commands' names.
+    fn has_names(&self, names: &[Txt]) -> bool
+        ensures { result ≡ same_names names.now (meaning self.now).names };
+
+    /// How many inputs may wait for a commit.
+    fn pending(&self) -> usize
+        ensures { result ≡ (meaning self.now).pending };
+}

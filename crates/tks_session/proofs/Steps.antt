@@ -1,0 +1,25 @@
+-- Steps, as a session sees them.
+use Rattle.std.proofs.Common.{◌≡◌, ap}
+use Rattle.tks_input.specs.declared.reply.Reply.{Reply}
+use Rattle.tks_input.specs.declared.reply.Refused.{Refused}
+use Rattle.tks_input.specs.declared.reply.Refused.TheVariants.{BadInput, ClockBack, PendingFull, Budget, Depth, TooLarge, NoMemory, Quiet, Failed}
+use Rattle.tks_durable.specs.Machine.{accepts}
+use Rattle.tks_durable.specs.Refusing.{RefusedAs}
+use Rattle.tks_state.specs.World.{World}
+use Rattle.tks_world.specs.Meets.{RefusedSo}
+use Rattle.tks_world.specs.Step.{Stepped, Accepts}
+use Rattle.tks_session.specs.Terminals.{as_machine}
+
+pub accepted : (stepped : Stepped) (world : World) (reply : Reply) → stepped ≡ Accepts world reply → as_machine stepped ≡ accepts world reply
+accepted stepped world reply is = ap as_machine is
+
+pub refused : (why : Refused) (stepped : Stepped) → RefusedSo why stepped → RefusedAs why (as_machine stepped)
+refused BadInput stepped is = ap as_machine is
+refused ClockBack stepped is = ap as_machine is
+refused Budget stepped is = ap as_machine is
+refused Depth stepped is = ap as_machine is
+refused TooLarge stepped is = ap as_machine is
+refused Quiet stepped is = ap as_machine is
+refused NoMemory stepped is = tt
+refused PendingFull stepped is = is
+refused Failed stepped is = is

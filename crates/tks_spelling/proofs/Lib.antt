@@ -1,0 +1,10 @@
+pub mod Joining
+pub mod EachKind
+pub mod HighFirst
+pub mod Headers
+pub mod Inputs
+pub mod Letters
+pub mod Loop
+pub mod Found
+pub mod Puts
+pub mod Rising

@@ -1,0 +1,5 @@
+pub mod Spelling
+pub mod Reading
+pub mod Writing
+pub mod Header
+pub mod Input

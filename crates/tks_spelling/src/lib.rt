@@ -1,0 +1,22 @@
+//! Inputs and headers as bytes, read back exactly, and nothing else read.
+#![tactic(auto)]
+
+mod fault;
+mod header;
+mod input;
+mod laws;
+mod member;
+mod names;
+pub mod reading;
+mod texts;
+mod unread;
+pub mod writing;
+
+pub use fault::CodecFault;
+pub use header::{Header, read_header, write_header};
+pub use input::{read_input, write_input};
+pub use laws::{one_header, one_input, two_inputs};
+pub use member::{Following, Members, list_by, list_of, put_list};
+pub use names::Entries;
+pub use texts::{Numbers, Texts};
+pub use unread::Unread;

@@ -1,5 +1,0 @@
-pub mod Steps
-pub mod Leads
-pub mod Wider
-mod Names
-mod Stored

@@ -1,5 +1,0 @@
-use Rattle.tks_terminal.proofs.Leads.{behind}
-use Rattle.tks_terminal.proofs.laws.a_crash_keeps_what_was_acknowledged.Goals as goal
-
-pub returns : goal.returns
-returns c = behind

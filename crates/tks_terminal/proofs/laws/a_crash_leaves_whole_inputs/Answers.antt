@@ -1,5 +1,0 @@
-use Rattle.tks_terminal.proofs.Leads.{by_first}
-use Rattle.tks_terminal.proofs.laws.a_crash_leaves_whole_inputs.Goals as goal
-
-pub returns : goal.returns
-returns c = by_first

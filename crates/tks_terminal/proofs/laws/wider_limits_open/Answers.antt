@@ -1,5 +1,0 @@
-use Rattle.tks_terminal.proofs.Wider.{opens_too}
-use Rattle.tks_terminal.proofs.laws.wider_limits_open.Goals as goal
-
-pub returns : goal.returns
-returns c = opens_too

@@ -1,2 +1,0 @@
-pub mod Terminals
-pub mod Crash
