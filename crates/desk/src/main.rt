@@ -15,7 +15,7 @@ use tks_desk::{
 };
 use tks_disk::{Disk, FileDisk, FileDiskFault};
 use tks_durable::{Durable, SessionFault};
-use tks_session::Terminal;
+use tks_session::Stepper;
 use tks_text::{Limits, Size, Txt};
 
 /// The status where reading or writing a standard stream failed.
@@ -95,7 +95,7 @@ fn serve_on<R: BufRead, W: Write, D: Disk + Drop, B: AppBody>(
     let Ok(apps) = own_apps(alloc, next, swap) else {
         return ended_by(writer, &SessionFault::NoMemory);
     };
-    let terminal = Terminal {
+    let terminal = Stepper {
         limits: Limits::format1(),
         grid,
         apps,

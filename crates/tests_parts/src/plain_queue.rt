@@ -1,7 +1,7 @@
 //! A queue as a plain list, and random calls made on both.
 use std::alloc::Global;
 use tests_disk::Dice;
-use tks_event::{Event, Kind, Modifiers, is_event};
+use tks_event::{Event, EventFields, Kind, Modifiers};
 use tks_queue::{Place, Queue};
 use tks_text::Txt;
 
@@ -58,7 +58,7 @@ impl PlainQueue {
 
 /// A virtual event with one letter as its data.
 fn letter_event(alloc: Global, letter: u8, window: u64) -> Option<Event> {
-    Some(Event {
+    Event::restore(EventFields {
         window,
         kind: Kind::Virtual,
         detail: Txt::from_bytes(alloc, b"V").ok()?,
@@ -80,11 +80,7 @@ pub fn put_letter(
     letter: u8,
     window: u64,
 ) -> Option<()> {
-    let event = letter_event(alloc, letter, window)?;
-    if !is_event(&event) {
-        return None;
-    }
-    queue.put(place, event).ok()
+    queue.put(place, letter_event(alloc, letter, window)?).ok()
 }
 
 /// Whether the event has this letter, or both are none.

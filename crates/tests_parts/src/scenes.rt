@@ -1,7 +1,9 @@
 //! A history of keys, and bindings.
 use std::alloc::Global;
-use tks_bind::{Bindings, History, Virtuals, is_of_name};
-use tks_event::{Event, Kind, Modifiers, Sequence, is_event, is_name, parse_sequence};
+use tks_bind::{Bindings, History, PhysicalSequence, Virtuals};
+use tks_event::{
+    Event, EventFields, Kind, Modifiers, Sequence, VirtualName, is_name, parse_sequence,
+};
 use tks_text::Txt;
 
 /// The sequence that a text spells.
@@ -40,16 +42,17 @@ impl Keys {
 
     /// Adds a sequence to a virtual event.
     pub fn add(&mut self, name: &Txt, text: &[u8]) -> Option<()> {
-        let sequence = sequence(self.alloc, text)?;
-        if !is_name(name.as_bytes()) || is_of_name(&sequence) {
+        let sequence = PhysicalSequence::of(sequence(self.alloc, text)?)?;
+        if !is_name(name.as_bytes()) {
             return None;
         }
-        self.virtuals.event_add(name, &sequence).ok()
+        let name = VirtualName::new(name.try_clone().ok()?);
+        self.virtuals.event_add(&name, &sequence).ok()
     }
 
     /// A key that goes down, with these modifiers held.
     pub fn event(&self, keysym: &[u8], state: u16) -> Option<Event> {
-        Some(Event {
+        Event::restore(EventFields {
             window: 0,
             kind: Kind::KeyPress,
             detail: Txt::from_bytes(self.alloc, keysym).ok()?,
@@ -66,11 +69,7 @@ impl Keys {
     /// Presses a key, and tells whether the binding with this script fires; none where it is empty.
     pub fn fires(&mut self, keysym: &[u8], state: u16, script: &[u8]) -> Option<bool> {
         let event = self.event(keysym, state)?;
-        let added = event.try_clone().ok()?;
-        if !is_event(&added) {
-            return None;
-        }
-        self.history.add(added).ok()?;
+        self.history.add(event.try_clone().ok()?).ok()?;
         let chosen = self
             .bindings
             .chosen(&self.tag, &event, &self.history, &self.virtuals);

@@ -6,7 +6,7 @@ use tks_app::AppBody;
 use tks_desk::Own;
 use tks_disk::{Disk, Fuse, Left, MemoryDisk, Side};
 use tks_durable::Durable;
-use tks_session::Terminal;
+use tks_session::Stepper;
 use tks_text::Limits;
 
 // An open gate, the frame's length, the input, and the next gate, closed.
@@ -37,7 +37,7 @@ fn a_commit_writes_a_frame(rt: HostRuntime) {
 fn commit_on<D: Disk + Drop, B: AppBody>(
     alloc: Global,
     disk: D,
-    terminal: Terminal<Own, B>,
+    terminal: Stepper<Own, B>,
 ) -> (bool, D) {
     match Durable::open(alloc, disk, terminal) {
         Ok(mut session) => {

@@ -8,7 +8,7 @@ use tks_app::AppBody;
 use tks_desk::{Own, RunEnd, RunFault, run};
 use tks_disk::{Disk, Left, MemoryDisk};
 use tks_durable::Durable;
-use tks_session::Terminal;
+use tks_session::Stepper;
 use tks_text::Limits;
 
 // Shows its text three bytes at a time, interrupts every other try, and fails in place of the end.
@@ -92,7 +92,7 @@ fn told(end: &Result<RunEnd, RunFault>) -> &'static str {
 fn talk_on<D: Disk + Drop, B: AppBody, R: BufRead>(
     alloc: Global,
     disk: D,
-    terminal: Terminal<Own, B>,
+    terminal: Stepper<Own, B>,
     reader: &mut R,
 ) -> Option<Vec<u8>> {
     let mut session = Durable::open(alloc, disk, terminal).ok()?;
@@ -233,7 +233,7 @@ fn a_reader_that_breaks(rt: HostRuntime) {
 // whether this is what it took by then.
 fn ends_with_its_writer<D: Disk, B: AppBody>(
     alloc: Global,
-    session: &mut Durable<D, Terminal<Own, B>>,
+    session: &mut Durable<D, Stepper<Own, B>>,
     lines: &[u8],
     most: usize,
     flushes: bool,
@@ -254,7 +254,7 @@ fn ends_with_its_writer<D: Disk, B: AppBody>(
 fn breaks_on<D: Disk + Drop, B: AppBody>(
     alloc: Global,
     disk: D,
-    terminal: Terminal<Own, B>,
+    terminal: Stepper<Own, B>,
     most: usize,
     flushes: bool,
     want: &[u8],
@@ -299,7 +299,7 @@ const DRAINED: &[u8] =
 // Whether a session that goes on behind such a run answers a line as behind all three turns.
 fn has_drained<D: Disk, B: AppBody>(
     alloc: Global,
-    session: &mut Durable<D, Terminal<Own, B>>,
+    session: &mut Durable<D, Stepper<Own, B>>,
 ) -> bool {
     let mut reader: &[u8] = b"cmd set r\n";
     let mut written = Vec::new(alloc);
@@ -312,7 +312,7 @@ fn has_drained<D: Disk, B: AppBody>(
 fn drains_on<D: Disk + Drop, B: AppBody>(
     alloc: Global,
     disk: D,
-    terminal: Terminal<Own, B>,
+    terminal: Stepper<Own, B>,
     most: usize,
 ) -> Option<bool> {
     let (front, _) = DRAINED.split_at_checked(most)?;

@@ -8,7 +8,7 @@ use tks_app::{AppAnswer, AppBody, AppCommand, Apps};
 use tks_desk::{Own, next_number, own_apps, run, swap_word};
 use tks_disk::{Disk, Left, MemoryDisk, Side};
 use tks_durable::{Durable, SessionFault};
-use tks_session::Terminal;
+use tks_session::Stepper;
 use tks_text::{Limits, Size, Txt};
 
 /// What `app.swap` or `app.next` runs.
@@ -35,13 +35,13 @@ impl AppBody for Body {
 }
 
 /// A terminal with both commands, on a grid of 20 by so many cells.
-pub fn terminal(alloc: Global, height: u16, limits: Limits) -> Option<Terminal<Own, Body>> {
+pub fn terminal(alloc: Global, height: u16, limits: Limits) -> Option<Stepper<Own, Body>> {
     let next = Body {
         alloc,
         swaps: false,
     };
     let swap = Body { alloc, swaps: true };
-    Some(Terminal {
+    Some(Stepper {
         limits,
         grid: Size::new(20, height)?,
         apps: own_apps(alloc, next, swap).ok()?,
@@ -49,7 +49,7 @@ pub fn terminal(alloc: Global, height: u16, limits: Limits) -> Option<Terminal<O
 }
 
 /// A terminal with `app.next` alone, on a grid of 20 by 3 cells.
-pub fn counting(alloc: Global) -> Option<Terminal<Own, Body>> {
+pub fn counting(alloc: Global) -> Option<Stepper<Own, Body>> {
     let next = Body {
         alloc,
         swaps: false,
@@ -59,7 +59,7 @@ pub fn counting(alloc: Global) -> Option<Terminal<Own, Body>> {
     if apps.add(command).is_err() {
         return None;
     }
-    Some(Terminal {
+    Some(Stepper {
         limits: Limits::format1(),
         grid: Size::new(20, 3)?,
         apps,
@@ -69,7 +69,7 @@ pub fn counting(alloc: Global) -> Option<Terminal<Own, Body>> {
 /// What a session answers to lines.
 pub fn told<D: Disk, B: AppBody>(
     alloc: Global,
-    session: &mut Durable<D, Terminal<Own, B>>,
+    session: &mut Durable<D, Stepper<Own, B>>,
     lines: &[u8],
 ) -> Option<Vec<u8>> {
     let mut lines = lines;
@@ -81,7 +81,7 @@ pub fn told<D: Disk, B: AppBody>(
 /// Whether a session answers lines so.
 pub fn tells<D: Disk, B: AppBody>(
     alloc: Global,
-    session: &mut Durable<D, Terminal<Own, B>>,
+    session: &mut Durable<D, Stepper<Own, B>>,
     lines: &[u8],
     want: &[u8],
 ) -> Option<bool> {
@@ -92,7 +92,7 @@ pub fn tells<D: Disk, B: AppBody>(
 pub fn opens_and_tells<D: Disk + Drop, B: AppBody>(
     alloc: Global,
     disk: D,
-    terminal: Terminal<Own, B>,
+    terminal: Stepper<Own, B>,
     lines: &[u8],
     want: &[u8],
 ) -> Option<bool> {
@@ -106,7 +106,7 @@ pub fn opens_and_tells<D: Disk + Drop, B: AppBody>(
 fn left_on<D: Disk + Drop, B: AppBody>(
     alloc: Global,
     disk: D,
-    terminal: Terminal<Own, B>,
+    terminal: Stepper<Own, B>,
     lines: &[u8],
 ) -> Option<D> {
     match Durable::open(alloc, disk, terminal) {
@@ -144,7 +144,7 @@ pub fn crash_tells(
 pub fn fault_of<D: Disk + Drop, B: AppBody>(
     alloc: Global,
     disk: D,
-    terminal: Terminal<Own, B>,
+    terminal: Stepper<Own, B>,
 ) -> Option<(SessionFault, D)> {
     match Durable::open(alloc, disk, terminal) {
         Ok(_) => None,

@@ -1,19 +1,19 @@
 //! Stores that were made for other commands, grids or limits, or are damaged; and what the faults are called.
 
-use crate::own::{bytes_of, counting, fault_of, left_by, opens_and_tells, terminal};
+use crate::own::{bytes_of, counting, fault_of, left_by, opens_and_tells, tells, terminal};
 use std::alloc::Global;
 use tks_app::AppBody;
 use tks_desk::{Own, name_of, status_of};
 use tks_disk::{Disk, MemoryDisk, Side};
-use tks_durable::SessionFault;
-use tks_session::Terminal;
+use tks_durable::{Durable, SessionFault};
+use tks_session::Stepper;
 use tks_text::Limits;
 
 // The disk, where this fault is why it isn't opened.
 fn refused_for<D: Disk + Drop, B: AppBody>(
     alloc: Global,
     disk: D,
-    terminal: Terminal<Own, B>,
+    terminal: Stepper<Own, B>,
     fault: SessionFault,
 ) -> Option<D> {
     match fault_of(alloc, disk, terminal) {
@@ -26,7 +26,7 @@ fn refused_for<D: Disk + Drop, B: AppBody>(
 fn refused_as_it_was<D: Disk + Drop, B: AppBody>(
     alloc: Global,
     disk: D,
-    terminal: Terminal<Own, B>,
+    terminal: Stepper<Own, B>,
     fault: SessionFault,
     a: &[u8],
 ) -> Option<bool> {
@@ -58,8 +58,8 @@ const LONG: &[u8] = b"cmd for {set i 0} {$i < 4998} {incr i} {}; set i\ncommit\n
 fn opens_for_others<D: Disk + Drop, B: AppBody>(
     alloc: Global,
     disk: D,
-    small: Terminal<Own, B>,
-    others: Terminal<Own, B>,
+    small: Stepper<Own, B>,
+    others: Stepper<Own, B>,
     lines: &[u8],
     want: &[u8],
 ) -> Option<bool> {
@@ -84,19 +84,38 @@ fn inputs_are_held_to_the_limits_again(rt: HostRuntime) {
     assert_eq!(rt; few_steps(rt.alloc()), Some(true));
 }
 
-const STORE: &[u8] = b"cmd set x 5\ncommit\n";
+// A counter that goes on twice, and a third time in an input that is refused.
+const COUNTS: &[u8] = b"cmd app.next\ncmd app.next\ncommit\ncmd app.next; while 1 {}\nquit\n";
 
-// Whether this store is none for other commands, nor for another grid, and then opens for the same ones.
+const COUNTED: &[u8] = b"ok 1 1\nok 2 2\ncommitted 2\nrefused budget\nbye\n";
+
+// The disk of a session that is opened on it and answers so.
+fn counted_on<D: Disk + Drop, B: AppBody>(
+    alloc: Global,
+    disk: D,
+    terminal: Stepper<Own, B>,
+) -> Option<D> {
+    match Durable::open(alloc, disk, terminal) {
+        Ok(mut session) => {
+            let is_told = tells(alloc, &mut session, COUNTS, COUNTED) == Some(true);
+            let disk = session.close().0;
+            if is_told { Some(disk) } else { None }
+        }
+        Err(_) => None,
+    }
+}
+
+// Whether this store is none for other commands, nor for another grid, and then goes on for the same ones.
 fn opens_for_the_same<D: Disk + Drop, B: AppBody>(
     alloc: Global,
     disk: D,
-    commands: Terminal<Own, B>,
-    grid: Terminal<Own, B>,
-    same: Terminal<Own, B>,
+    commands: Stepper<Own, B>,
+    grid: Stepper<Own, B>,
+    same: Stepper<Own, B>,
 ) -> Option<bool> {
     let disk = refused_for(alloc, disk, commands, SessionFault::OtherCommands)?;
     let disk = refused_for(alloc, disk, grid, SessionFault::OtherGrid)?;
-    opens_and_tells(alloc, disk, same, b"cmd set x\n", b"ok 2 5\n")
+    opens_and_tells(alloc, disk, same, b"cmd app.next\n", b"ok 3 3\n")
 }
 
 // Whether a store of both commands is none for one of them, or for another height.
@@ -104,7 +123,8 @@ fn other_stores(alloc: Global) -> Option<bool> {
     let one = counting(alloc)?;
     let higher = terminal(alloc, 4, Limits::format1())?;
     let same = terminal(alloc, 3, Limits::format1())?;
-    let disk = left_by(alloc, STORE)?;
+    let both = terminal(alloc, 3, Limits::format1())?;
+    let disk = counted_on(alloc, MemoryDisk::new(alloc), both)?;
     opens_for_the_same(alloc, disk, one, higher, same)
 }
 
@@ -120,7 +140,7 @@ const CUT: &[u8] = b"\x01\x01\0\0\0";
 fn cut_side<D: Disk + Drop, B: AppBody>(
     alloc: Global,
     disk: D,
-    terminal: Terminal<Own, B>,
+    terminal: Stepper<Own, B>,
 ) -> Option<bool> {
     let mut disk = disk;
     disk.write_at(Side::A, 0, CUT).ok()?;

@@ -1,4 +1,4 @@
--- A machine whose state is a text, to which scripts are added, as long as it stays within a limit.
+-- A machine whose state is a text, to which scripts of one character are added, as long as it stays within a limit.
 use Rattle.std.specs.Prelude.{ℕ, ◌+◌, nat_le, List, [], ◌∷◌, ◌++◌, codes, length, if◌then◌else◌, Option, Some, None}
 use Rattle.tks_text.specs.Text.{is_text}
 use Rattle.tks_spelling.specs.declared.header.Header.{Header}
@@ -17,7 +17,9 @@ turned limit [] = refuses Quiet
 turned limit (c ∷ text) = longer limit (c ∷ text) (codes "t")
 
 abbrev pub logged : ℕ → List ℕ → Input → Stepped (List ℕ)
-logged limit text (Script more) = longer limit text more
+logged limit text (Script []) = refuses BadInput
+logged limit text (Script (c ∷ [])) = longer limit text (c ∷ [])
+logged limit text (Script (c ∷ d ∷ more)) = refuses BadInput
 logged limit text Turn = turned limit text
 logged limit text (KeyPress key) = refuses BadInput
 logged limit text (KeyRelease key) = refuses BadInput

@@ -1,4 +1,4 @@
-//! A machine that is easy to foresee: a text to which scripts are added.
+//! A machine that is easy to foresee: a text to which scripts of one character are added.
 ghost use Rattle.std.specs.Prelude.{◌≡◌, IfOk, IfErr, OnErr};
 ghost use Rattle.tks_durable.specs.Machine.{accepts};
 ghost use Rattle.tks_durable.specs.Refusing.{RefusedAs};
@@ -27,7 +27,8 @@ fn lengthen(alloc: Global, limit: usize, text: &mut Txt, more: &Txt) -> Result<R
     })
 }
 
-/// A machine whose state is a text of at most `limit` bytes, to which scripts are added; a turn adds a `t`, unless it is empty.
+/// A machine whose state is a text of at most `limit` bytes, to which scripts of one character are added; a turn adds a `t`,
+/// unless it is empty.
 #[derive(Clone, Copy, Drop)]
 pub struct Log {
     pub limit: usize,
@@ -41,7 +42,10 @@ impl Machine for Log {
 
     fn step(&self, alloc: Global, world: &mut Txt, input: &Input) -> Result<Reply, Refused> {
         match input {
-            Input::Script(more) => lengthen(alloc, self.limit, world, more),
+            Input::Script(more) => match more.as_bytes() {
+                [_] => lengthen(alloc, self.limit, world, more),
+                _ => Err(Refused::BadInput),
+            },
             Input::Turn if world.is_empty() => Err(Refused::Quiet),
             Input::Turn => {
                 let more = Txt::from_text(alloc, b"t")?;

@@ -259,10 +259,15 @@ fn faults_come_in_their_order(rt: HostRuntime) {
         side_opens(alloc, 27, frame, b"abc"),
         "two inputs in a frame"
     );
-    let over = b"\x01\0\0\0\x0b\x01\0\0\0\x06bcdefg\0";
+    let over = b"\x05abcde\x01\0\0\0\x0c\x01\0\0\0\x01f\x01\0\0\0\x01g\0";
     assert!(rt;
-        side_fails(alloc, 27, over, SessionFault::SmallerLimits),
+        side_fails(alloc, 25, over, SessionFault::SmallerLimits),
         "an input over the limit"
+    );
+    let long = b"\x01\0\0\0\x07\x01\0\0\0\x02bc\0";
+    assert!(rt;
+        side_fails(alloc, 27, long, SessionFault::SmallerLimits),
+        "a script that is bad by now"
     );
     let clock = b"\x01\0\0\0\x09\x06\0\0\0\0\0\0\0\0\0";
     assert!(rt;
@@ -294,14 +299,14 @@ fn posts<D: Disk>(
 fn refuses<D: Disk>(alloc: Global, session: &mut Durable<D, Log>) -> Option<bool> {
     session.stands();
     let quiet = session.post(&Input::Turn).err() == Some(Refused::Quiet);
-    let large = posts(alloc, session, b"abcdefg")? == Err(Refused::TooLarge);
-    let posted = posts(alloc, session, b"ab")? == Ok(2) && posts(alloc, session, b"c")? == Ok(3);
-    let full = posts(alloc, session, b"d")? == Err(Refused::PendingFull);
-    let before = session.acknowledged() == 0 && session.posted() == 3;
-    let committed = session.commit() == Ok(3) && session.commit() == Ok(3);
-    let after = session.acknowledged() == 3 && session.world().as_bytes() == b"abc".as_slice();
-    let again = posts(alloc, session, b"d")? == Ok(4);
-    Some(quiet && large && posted && full && before && committed && after && again)
+    let bad = posts(alloc, session, b"ab")? == Err(Refused::BadInput);
+    let posted = posts(alloc, session, b"a")? == Ok(1) && posts(alloc, session, b"b")? == Ok(2);
+    let full = posts(alloc, session, b"c")? == Err(Refused::PendingFull);
+    let before = session.acknowledged() == 0 && session.posted() == 2;
+    let committed = session.commit() == Ok(2) && session.commit() == Ok(2);
+    let after = session.acknowledged() == 2 && session.world().as_bytes() == b"ab".as_slice();
+    let again = posts(alloc, session, b"c")? == Ok(3);
+    Some(quiet && bad && posted && full && before && committed && after && again)
 }
 
 fn refusals<D: Disk + Drop>(alloc: Global, disk: D) -> Option<bool> {

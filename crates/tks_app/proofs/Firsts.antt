@@ -9,7 +9,7 @@ use Rattle.tks_app.specs.Applications.{Leads, AreNames}
 use Rattle.tks_app.specs.Memories.{first_memories}
 
 -- an empty text under each name
-abbrev firsts : List (List ℕ) → List (List ℕ × List ℕ)
+abbrev pub firsts : List (List ℕ) → List (List ℕ × List ℕ)
 firsts [] = []
 firsts (name ∷ names) = (name, []) ∷ firsts names
 
@@ -23,7 +23,7 @@ put_first name [] leads = refl
 put_first name (other ∷ names) leads =
     ap (λ o. by_order o ((name, []) ∷ (other, []) ∷ firsts names) ((other, []) ∷ firsts names) ((other, []) ∷ put (slice_cmp nat_cmp) name [] (firsts names))) (less (slice_cmp nat_cmp name other) leads)
 
-entries_first : (names : List (List ℕ)) → AreNames names → fin.entries (first_memories names) ≡ firsts names
+pub entries_first : (names : List (List ℕ)) → AreNames names → fin.entries (first_memories names) ≡ firsts names
 entries_first [] are = nil_from_length (fin.entries (first_memories [])) (sym (fin.len-entries (first_memories [])) ∙ fin.len-empty (slice_cmp nat_cmp) (List ℕ))
 entries_first (name ∷ names) are =
     fin.entries-insert nat_list_cmp_total (first_memories names) name []

@@ -3,9 +3,10 @@ use Rattle.std.proofs.Common.{◌≡◌, ℕ, zero, suc, Bool, true, false, ◌|
 use Rattle.std.specs.Ordering.{is_lt, nat_cmp, ordering_reverse}
 use Rattle.std.specs.Cmp.Lexicographic.{slice_cmp, bytes_decides}
 use Rattle.std.proofs.lemmas.Cmp.{nat_list_cmp_total}
+use Rattle.std.proofs.lemmas.List.{length-map}
 use Rattle.std.proofs.lemmas.Map.Lookups.{exact_bytes}
 use Rattle.tks_text.specs.Text.{same_text}
-use Rattle.tks_app.specs.Applications.{has, comes_before, place_for, with_name, Leads, AreNames, Joins}
+use Rattle.tks_app.specs.Applications.{Command, command_names, has, comes_before, place_for, in_place, Leads, AreNames, Joins}
 
 either_false : (b c : Bool) → (b || c) ≡ false → (b ≡ false) × (c ≡ false)
 either_false false c h = (refl, h)
@@ -21,40 +22,51 @@ other_way a b late differ = by (slice_cmp nat_cmp a b) refl
     by Greater e = ap is_lt (nat_list_cmp_total.antisymm b a ∙ ap ordering_reverse e)
 
 -- what comes before the first of names comes before the first of them with one more
-still_leads : (other name : List ℕ) (names : List (List ℕ)) → comes_before other name ≡ true → Leads other names → Leads other (with_name name names)
+still_leads : (other name : List ℕ) (names : List (List ℕ)) → comes_before other name ≡ true → Leads other names → Leads other (in_place name names)
 still_leads other name [] h leads = h
 still_leads other name (next ∷ names) h leads = by (comes_before name next)
   where
-    by : (b : Bool) → Leads other (if b then name ∷ next ∷ names else next ∷ with_name name names)
+    by : (b : Bool) → Leads other (if b then name ∷ next ∷ names else next ∷ in_place name names)
     by true = h
     by false = leads
 
-pub joined : (names : List (List ℕ)) (name : List ℕ) → AreNames names → Joins names name → AreNames (with_name name names)
+pub joined : (names : List (List ℕ)) (name : List ℕ) → AreNames names → Joins names name → AreNames (in_place name names)
 joined [] name are joins = (joins.0, tt, tt)
 joined (other ∷ names) name are joins =
     let both = either_false (same_text other name) (has names name) joins.1 in
     by (comes_before name other) refl both.0 (joined names name are.2 (joins.0, both.1))
   where
-    by : (b : Bool) → comes_before name other ≡ b → same_text other name ≡ false → AreNames (with_name name names)
-        → AreNames (if b then name ∷ other ∷ names else other ∷ with_name name names)
+    by : (b : Bool) → comes_before name other ≡ b → same_text other name ≡ false → AreNames (in_place name names)
+        → AreNames (if b then name ∷ other ∷ names else other ∷ in_place name names)
     by true h differ rest = (joins.0, h, are)
     by false h differ rest = (are.0, still_leads other name names (other_way name other h differ) are.1, rest)
 
 -- what is put in that place is in its place
-pub put_in_place : (names : List (List ℕ)) (name : List ℕ) → insert names (place_for name names) name ≡ with_name name names
+pub put_in_place : (names : List (List ℕ)) (name : List ℕ) → insert names (place_for name names) name ≡ in_place name names
 put_in_place [] name = refl
 put_in_place (other ∷ names) name = by (comes_before name other) (put_in_place names name)
   where
-    by : (b : Bool) → insert names (place_for name names) name ≡ with_name name names
-        → insert (other ∷ names) (if b then zero else suc (place_for name names)) name ≡ (if b then name ∷ other ∷ names else other ∷ with_name name names)
+    by : (b : Bool) → insert names (place_for name names) name ≡ in_place name names
+        → insert (other ∷ names) (if b then zero else suc (place_for name names)) name ≡ (if b then name ∷ other ∷ names else other ∷ in_place name names)
     by true rest = refl
     by false rest = ap (λ ns. other ∷ ns) rest
 
 -- there is one more then
-pub longer : (name : List ℕ) (names : List (List ℕ)) → length (with_name name names) ≡ suc (length names)
+pub longer : (name : List ℕ) (names : List (List ℕ)) → length (in_place name names) ≡ suc (length names)
 longer name [] = refl
 longer name (other ∷ names) = by (comes_before name other) (longer name names)
   where
-    by : (b : Bool) → length (with_name name names) ≡ suc (length names) → length (if b then name ∷ other ∷ names else other ∷ with_name name names) ≡ suc (suc (length names))
+    by : (b : Bool) → length (in_place name names) ≡ suc (length names) → length (if b then name ∷ other ∷ names else other ∷ in_place name names) ≡ suc (suc (length names))
     by true rest = refl
     by false rest = ap suc rest
+
+-- a command has one name
+pub names_length : {B : Type 0} (commands : List (Command B)) → length (command_names commands) ≡ length commands
+names_length commands = length-map commands (λ c. c.name)
+
+-- with a command at a place, its name is there
+pub names_put : {B : Type 0} (commands : List (Command B)) (place : ℕ) (command : Command B) → command_names (insert commands place command) ≡ insert (command_names commands) place command.name
+names_put [] zero command = refl
+names_put [] (suc place) command = refl
+names_put (other ∷ commands) zero command = refl
+names_put (other ∷ commands) (suc place) command = ap (λ ns. other.name ∷ ns) (names_put commands place command)

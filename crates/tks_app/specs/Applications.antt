@@ -1,6 +1,7 @@
 -- Commands of the application: what one answers, which names there are, and when one may join others (this project's own
 -- rules).
-use Rattle.std.specs.Prelude.{◌≡◌, ℕ, suc, Bool, true, false, not, ◌&&◌, ◌||◌, ◌==◌, nat_le, if◌then◌else◌, List, [], ◌∷◌, length}
+use Rattle.std.specs.Prelude.{◌≡◌, ℕ, suc, Bool, true, false, not, ◌&&◌, ◌||◌, ◌==◌, nat_le, if◌then◌else◌, List, [], ◌∷◌, length, map, refl}
+use Rattle.std.specs.Coded.{Coded, code_by, coded×, coded_list, coded_ℕ}
 use Rattle.std.specs.List.{list_all}
 use Rattle.std.specs.Ordering.{is_lt, nat_cmp}
 use Rattle.std.specs.Cmp.Lexicographic.{slice_cmp}
@@ -13,6 +14,20 @@ use Rattle.tks_app.specs.declared.apps.AddRefusal.TheVariants.{BadName, Twice, N
 -- what a command answers, from its name, its memory and the words behind the name
 abbrev pub Meaning : Type 0
 Meaning = List ℕ → List ℕ → List (List ℕ) → AppAnswer
+
+-- a command: its name, and what it runs
+pub record Command (B : Type 0) : Type 0 where
+  pub name : List ℕ
+  pub body : B
+
+-- commands can be told apart where what they run can
+abbrev pub command_code : {B : Type 0} → Coded B → Coded (Command B)
+command_code {B} body =
+    code_by (List ℕ × B) (coded× (coded_list coded_ℕ) body) (λ c. (c.name, c.body)) (λ p. record { name = p.0; body = p.1 }) (λ _. refl)
+
+-- the names of commands
+abbrev pub command_names : {B : Type 0} → List (Command B) → List (List ℕ)
+command_names commands = map (λ c. c.name) commands
 
 -- a letter, a digit, an underscore or a dot
 abbrev pub is_name_byte : ℕ → Bool
@@ -32,9 +47,13 @@ abbrev pub comes_before : List ℕ → List ℕ → Bool
 comes_before name other = is_lt (slice_cmp nat_cmp name other)
 
 -- names with one more, in its place
-abbrev pub with_name : List ℕ → List (List ℕ) → List (List ℕ)
-with_name name [] = name ∷ []
-with_name name (other ∷ names) = if comes_before name other then name ∷ other ∷ names else other ∷ with_name name names
+abbrev pub in_place : List ℕ → List (List ℕ) → List (List ℕ)
+in_place name [] = name ∷ []
+in_place name (other ∷ names) = if comes_before name other then name ∷ other ∷ names else other ∷ in_place name names
+
+-- names with a command's among them
+abbrev pub with_name : {B : Type 0} → Command B → List (List ℕ) → List (List ℕ)
+with_name command names = in_place command.name names
 
 -- that place: how many come before it
 abbrev pub place_for : List ℕ → List (List ℕ) → ℕ

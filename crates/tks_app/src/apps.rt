@@ -1,7 +1,7 @@
 //! Commands by name.
 ghost use Rattle.std.specs.Prelude.{◌≡◌, ◌≤◌, ◌<◌, ◌-◌, ◌^◌, [], length, true, is_some, IfOk, IfErr, IfSome, OnOk, OnErr};
 ghost use Rattle.std.specs.List.{list_all};
-ghost use Rattle.tks_app.specs.Applications.{is_name_byte, is_name, has, comes_before, place_for, with_name, AreNames, Joins, RefusedFor};
+ghost use Rattle.tks_app.specs.Applications.{command_names, is_name_byte, is_name, has, comes_before, place_for, with_name, AreNames, Joins, RefusedFor};
 ghost use Rattle.tks_app.specs.declared.apps.AddRefusal.TheVariants.{NoMemory};
 
 use crate::{AppAnswer, AppBody, AppClosure, AppCommand, AppMeaning};
@@ -100,11 +100,11 @@ impl<T: AppMeaning, B: AppBody> Model for Apps<T, B> {
     ghost coded = { coded_list (coded_list coded_ℕ) };
 
     ghost use Rattle.std.specs.Prelude.{◌<◌, ◌^◌, length};
-    ghost use Rattle.tks_app.specs.Applications.{AreNames};
+    ghost use Rattle.tks_app.specs.Applications.{command_names, AreNames};
 
-    ghost view = { λ a. a.commands.items };
+    ghost view = { λ a. command_names a.commands.items };
 
-    ghost invariant = { λ a. AreNames a.commands.items × (length a.commands.items < 2 ^ 32) };
+    ghost invariant = { λ a. AreNames (command_names a.commands.items) × (length (command_names a.commands.items) < 2 ^ 32) };
 }
 
 impl<T: AppMeaning, B: AppBody> Apps<T, B> {
@@ -119,7 +119,7 @@ impl<T: AppMeaning, B: AppBody> Apps<T, B> {
 
     /// The commands, in the order of their names.
     pub fn commands(&self) -> &[AppCommand<T, B>]
-        ensures commands { result.now ≡ self.now }
+        ensures commands { command_names result.now ≡ self.now }
         ensures names { AreNames self.now }
         ensures count { length self.now < 2 ^ 32 }
     {
@@ -139,7 +139,7 @@ impl<T: AppMeaning, B: AppBody> Apps<T, B> {
 
     // The command of a name.
     fn find(&self, name: &Txt) -> Option<&AppCommand<T, B>>
-        ensures found { IfSome result (λ command. command.now ≡ name.now) }
+        ensures found { IfSome result (λ command. command.now.name ≡ name.now) }
         ensures there { is_some result ≡ has self.now name.now }
     {
         let mut rest = self.commands.as_slice();
@@ -176,14 +176,15 @@ impl<T: AppMeaning, B: AppBody> Apps<T, B> {
         place
     }
 
-    /// Adds a command, in the place of its name. One that doesn't join is handed back, with the reason; so is one beyond
-    /// 2^32 - 1, as for want of memory.
+    /// Adds a command, in the place of its name. One that doesn't join is itself handed back, with the reason; so is one
+    /// beyond 2^32 - 1, as for want of memory.
+    #[tactic(auto, using(crate::proofs::Joining::names_length))]
     pub fn add(&mut self, command: AppCommand<T, B>) -> Result<(), AddFault<T, B>>
         ensures ok { OnOk result (self.new ≡ with_name command self.old) }
-        ensures joins { OnOk result (Joins self.old command) }
+        ensures joins { OnOk result (Joins self.old command.name) }
         ensures err { OnErr result (self.new ≡ self.old) }
         ensures handed_back { IfErr result (λ fault. fault.command ≡ command) }
-        ensures why { IfErr result (λ fault. RefusedFor self.old command fault.why) }
+        ensures why { IfErr result (λ fault. RefusedFor self.old command.name fault.why) }
     {
         if !is_name(command.name()) {
             return Err(AddFault {
@@ -207,8 +208,9 @@ impl<T: AppMeaning, B: AppBody> Apps<T, B> {
     }
 
     // Puts a command in the place of its name.
+    #[tactic(auto, using(crate::proofs::Joining::names_length))]
     fn put(&mut self, command: AppCommand<T, B>) -> Result<(), AddFault<T, B>>
-        requires joins { Joins self.old command }
+        requires joins { Joins self.old command.name }
         requires room { length self.old < 2 ^ 32 - 1 }
         ensures ok { OnOk result (self.new ≡ with_name command self.old) }
         ensures err { OnErr result (self.new ≡ self.old) }

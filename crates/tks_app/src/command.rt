@@ -15,7 +15,7 @@ pub trait AppMeaning {
     ghost meaning: { Meaning };
 }
 
-/// A command's name, and what it runs. Contracts see its name.
+/// A command: its name, and what it runs. Contracts see both.
 #[derive(Drop)]
 pub struct AppCommand<T: AppMeaning, B: AppBody = AppClosure> {
     name: Txt,
@@ -26,14 +26,13 @@ pub struct AppCommand<T: AppMeaning, B: AppBody = AppClosure> {
 }
 
 impl<T: AppMeaning, B: AppBody> Model for AppCommand<T, B> {
-    ghost use Rattle.std.specs.Prelude.{List, ℕ};
-    ghost use Rattle.std.specs.Coded.{coded_list, coded_ℕ};
+    ghost use Rattle.tks_app.specs.Applications.{Command, command_code};
 
-    ghost Value = { List ℕ };
+    ghost Value = { Command B };
 
-    ghost coded = { coded_list coded_ℕ };
+    ghost coded = { command_code B.code };
 
-    ghost view = { λ c. c.name };
+    ghost view = { λ c. record { name = c.name; body = c.body } };
 }
 
 impl<T: AppMeaning, B: AppBody> AppCommand<T, B> {
@@ -41,7 +40,7 @@ impl<T: AppMeaning, B: AppBody> AppCommand<T, B> {
     pub fn new(name: Txt, body: B) -> AppCommand<T, B>
         requires callable { B.callable body }
         requires answers { (memory : List ℕ) (words : List (List ℕ)) (a : AppAnswer) → B.may_answer body memory words a → a ≡ T.meaning name memory words }
-        ensures name { result ≡ name }
+        ensures { result ≡ record { name = name; body = body } }
     {
         AppCommand {
             name,
@@ -52,14 +51,14 @@ impl<T: AppMeaning, B: AppBody> AppCommand<T, B> {
 
     /// Its name.
     pub fn name(&self) -> &Txt
-        ensures { result.now ≡ self.now }
+        ensures { result.now ≡ self.now.name }
     {
         &self.name
     }
 
     /// What it answers. Memory is refused where its body is refused it.
     pub fn call(&self, memory: &Txt, words: &[Txt]) -> Result<AppAnswer, AllocError>
-        ensures answer { IfOk result (λ a. a ≡ T.meaning self.now memory.now words.now) }
+        ensures answer { IfOk result (λ a. a ≡ T.meaning self.now.name memory.now words.now) }
     {
         self.body.run(memory, words)
     }

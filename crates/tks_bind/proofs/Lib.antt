@@ -14,3 +14,6 @@ mod Winner
 mod Differing
 mod Forming
 mod VirtualForming
+mod Bounded
+mod Pieces
+mod Others

@@ -2,7 +2,7 @@
 use Rattle.std.proofs.Common.{◌≡◌, ℕ, true, List, [], ◌∷◌}
 use Rattle.tks_list.specs.ListText.{Splits}
 use Rattle.tks_list.proofs.Joined.{backslashed_splits}
-use Rattle.tks_event.specs.declared.event.Event.{Event}
+use Rattle.tks_event.specs.Event.{Event}
 use Rattle.tks_bind.specs.Percents.{has_field, field_text, value}
 use Rattle.tks_bind.specs.declared.field.Field.{Field}
 

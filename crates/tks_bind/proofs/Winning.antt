@@ -3,9 +3,9 @@ use Rattle.std.proofs.Common.{Decides, ◌≡◌, ◌⊎◌, inl, inr, ◌≤◌
 use Rattle.std.specs.Cmp.Lexicographic.{bytes_decides}
 use Rattle.std.proofs.lemmas.Bool.Decides.{Decides-and, Decides-or, Decides-like, Decides-not, nat_tests}
 use Rattle.tks_text.specs.Text.{same_text}
+use Rattle.tks_event.specs.Kinds.{is_virtual}
 use Rattle.tks_event.specs.declared.pattern.Pattern.{Pattern}
 use Rattle.tks_bind.specs.declared.binding.Binding.{Binding}
-use Rattle.tks_bind.specs.Percents.{is_virtual}
 use Rattle.tks_bind.specs.Occurs.{turned, Occurs}
 use Rattle.tks_bind.specs.Search.{ends_at}
 use Rattle.tks_bind.specs.Choice.{Way, Beats, IsAmong}

@@ -1,11 +1,11 @@
 -- How the code chooses.
 use Rattle.std.specs.Prelude.{ℕ, ◌-◌, ◌&&◌, ◌||◌, not, nat_lt, Bool, false, if◌then◌else◌, List, [], ◌∷◌, length, Option, Some, None, is_some}
 use Rattle.tks_text.specs.Text.{same_text}
+use Rattle.tks_event.specs.Kinds.{is_virtual}
 use Rattle.tks_event.specs.declared.pattern.Pattern.{Pattern}
 use Rattle.tks_bind.specs.declared.binding.Binding.{Binding}
 use Rattle.tks_bind.specs.declared.scene.Scene.{Scene as Held}
 use Rattle.tks_bind.specs.declared.virtual_event.VirtualEvent.{VirtualEvent}
-use Rattle.tks_bind.specs.Percents.{is_virtual}
 use Rattle.tks_bind.specs.VirtualEvents.{sequences_of}
 use Rattle.tks_bind.specs.Occurs.{turned}
 use Rattle.tks_bind.specs.Search.{ends_at}

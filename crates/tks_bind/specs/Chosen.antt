@@ -1,13 +1,13 @@
 -- Which binding of a tag an event fires (bind(n), "Multiple matches").
 use Rattle.std.specs.Prelude.{◌≡◌, ◌⊎◌, ℕ, ◌≤◌, true, false, List, [], ◌∷◌, Option, Some, None}
 use Rattle.tks_text.specs.Text.{same_text}
-use Rattle.tks_event.specs.declared.event.Event.{Event}
+use Rattle.tks_event.specs.Kinds.{is_virtual}
+use Rattle.tks_event.specs.Event.{Event}
 use Rattle.tks_event.specs.declared.kind.Kind.{Kind}
 use Rattle.tks_event.specs.declared.kind.Kind.TheVariants as kind
 use Rattle.tks_event.specs.declared.pattern.Pattern.{Pattern}
 use Rattle.tks_bind.specs.declared.binding.Binding.{Binding}
 use Rattle.tks_bind.specs.declared.virtual_event.VirtualEvent.{VirtualEvent}
-use Rattle.tks_bind.specs.Percents.{is_virtual}
 use Rattle.tks_bind.specs.VirtualEvents.{sequences_of}
 use Rattle.tks_bind.specs.Occurs.{Occurs}
 use Rattle.tks_bind.specs.Choice.{Way, Beats}

@@ -14,3 +14,5 @@ pub mod VirtualIndexes
 pub mod Chosen
 pub mod Ways
 pub mod Choosing
+pub mod Pieces
+pub mod Others

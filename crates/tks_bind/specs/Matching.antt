@@ -4,9 +4,9 @@ use Rattle.std.specs.Prelude.{◌+◌, Bool, true, false, ◌&&◌, ◌||◌, no
 use Rattle.std.specs.Ordering.{int_eq}
 use Rattle.tks_text.specs.Text.{same_text}
 use Rattle.tks_event.specs.Keysyms.{is_modifier_key}
-use Rattle.tks_event.specs.Kinds.{same_kind}
+use Rattle.tks_event.specs.Kinds.{is_of_button, same_kind}
 use Rattle.tks_event.specs.Sequences.{is_some_text}
-use Rattle.tks_event.specs.declared.event.Event.{Event}
+use Rattle.tks_event.specs.Event.{Event}
 use Rattle.tks_event.specs.declared.kind.Kind.{Kind}
 use Rattle.tks_event.specs.declared.kind.Kind.TheVariants as kind
 use Rattle.tks_event.specs.declared.pattern.Pattern.{Pattern}
@@ -14,11 +14,6 @@ use Rattle.tks_event.specs.declared.pattern.Pattern.{Pattern}
 -- an event fits a pattern: it has its kind, its detail, if it has one, and at least its modifiers
 abbrev pub fits : Pattern → Event → Bool
 fits p e = same_kind p.kind e.kind && ((not (is_some_text p.detail) || same_text p.detail e.detail) && (bit_and e.state p.modifiers == p.modifiers))
-
-abbrev pub is_of_button : Kind → Bool
-is_of_button kind.ButtonPress = true
-is_of_button kind.ButtonRelease = true
-is_of_button k = false
 
 -- the later event comes close behind the one before: no more than 500 milliseconds later and, at buttons, in the same
 -- cell of the screen

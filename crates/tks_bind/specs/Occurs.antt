@@ -1,6 +1,6 @@
 -- When a sequence occurs in a history (bind(n), "Multiple matches"; this project's own rules of what may lie between).
 use Rattle.std.specs.Prelude.{◌≡◌, ℕ, ◌-◌, ◌<◌, true, List, [], ◌∷◌, length, slice_get, Some}
-use Rattle.tks_event.specs.declared.event.Event.{Event}
+use Rattle.tks_event.specs.Event.{Event}
 use Rattle.tks_event.specs.declared.pattern.Pattern.{Pattern}
 use Rattle.tks_bind.specs.Matching.{fits, may_follow, may_lie_before}
 

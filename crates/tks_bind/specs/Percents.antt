@@ -1,13 +1,12 @@
 -- Percent substitution (bind(n), "Binding scripts and substitutions"; in what form values are put in, and what stands for
 -- a field that an event lacks, are this project's own rules).
-use Rattle.std.specs.Prelude.{ℕ, ◌==◌, Bool, true, false, ◌||◌, if◌then◌else◌, List, [], ◌∷◌, ◌++◌, Option, Some, None, codes, decimal}
+use Rattle.std.specs.Prelude.{ℕ, ◌==◌, Bool, true, false, ◌||◌, if◌then◌else◌, List, [], ◌∷◌, ◌++◌, length, nat_le, nat_lt, Option, Some, None, codes, decimal}
 use Rattle.std.specs.Fmt.{signed_decimal}
 use Rattle.tks_list.specs.Quoting.{backslashed}
+use Rattle.tks_event.specs.Kinds.{is_of_button, is_of_key, is_virtual}
 use Rattle.tks_event.specs.Keysyms.{keysym_char}
-use Rattle.tks_event.specs.declared.event.Event.{Event}
+use Rattle.tks_event.specs.Event.{Event}
 use Rattle.tks_event.specs.declared.kind.Kind.{Kind}
-use Rattle.tks_event.specs.declared.kind.Kind.TheVariants as kind
-use Rattle.tks_bind.specs.Matching.{is_of_button}
 use Rattle.tks_bind.specs.declared.field.Field.{Field}
 use Rattle.tks_bind.specs.declared.field.Field.TheVariants as field
 
@@ -26,15 +25,6 @@ field_named c =
     else (if c == 88 then Some field.RootColumn
     else (if c == 89 then Some field.RootRow
     else None))))))))))
-
-abbrev pub is_of_key : Kind → Bool
-is_of_key kind.KeyPress = true
-is_of_key kind.KeyRelease = true
-is_of_key k = false
-
-abbrev pub is_virtual : Kind → Bool
-is_virtual kind.Virtual = true
-is_virtual k = false
 
 -- which fields events of a kind have
 abbrev pub has_field : Kind → Field → Bool
@@ -90,3 +80,13 @@ replaced e path true (c ∷ script) = formed e path c ++ replaced e path false s
 
 abbrev pub percents : Event → List ℕ → List ℕ → List ℕ
 percents e path script = replaced e path false script
+
+-- a text that is no longer than this, where there is a bound
+abbrev pub held_to : Option ℕ → List ℕ → Option (List ℕ)
+held_to None text = Some text
+held_to (Some most) text = if nat_le (length text) most then Some text else None
+
+-- is it longer than that?
+abbrev pub is_over : Option ℕ → List ℕ → Bool
+is_over None text = false
+is_over (Some most) text = nat_lt most (length text)

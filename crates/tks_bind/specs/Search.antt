@@ -1,6 +1,6 @@
 -- How the code finds whether a sequence occurs: pattern by pattern, for each place whether the patterns so far end there.
 use Rattle.std.specs.Prelude.{◌≡◌, ℕ, zero, suc, ◌<◌, Bool, false, ◌&&◌, ◌||◌, List, [], ◌∷◌, get_or, slice_get, Option, Some, None}
-use Rattle.tks_event.specs.declared.event.Event.{Event}
+use Rattle.tks_event.specs.Event.{Event}
 use Rattle.tks_event.specs.declared.pattern.Pattern.{Pattern}
 use Rattle.tks_bind.specs.Matching.{fits, may_follow, may_lie_before}
 

@@ -1,9 +1,9 @@
 -- Virtual events (event(n), `event add`, `event delete`, `event info`).
 use Rattle.std.specs.Prelude.{ℕ, ◌||◌, Bool, false, if◌then◌else◌, List, [], ◌∷◌, ◌++◌}
 use Rattle.tks_text.specs.Text.{same_text}
+use Rattle.tks_event.specs.Kinds.{is_virtual}
 use Rattle.tks_event.specs.Equality.{equal_patterns}
 use Rattle.tks_event.specs.declared.pattern.Pattern.{Pattern}
-use Rattle.tks_bind.specs.Percents.{is_virtual}
 use Rattle.tks_bind.specs.declared.virtual_event.VirtualEvent.{VirtualEvent}
 
 -- whether it is the sequence of a virtual event

@@ -1,9 +1,8 @@
 //! The fields of events that scripts name.
 ghost use Rattle.std.specs.Prelude.{◌≡◌};
-ghost use Rattle.tks_bind.specs.Percents.{field_named, is_of_key, is_virtual, has_field};
+ghost use Rattle.tks_bind.specs.Percents.{field_named, has_field};
 
-use crate::matching::is_of_button;
-use tks_event::Kind;
+use tks_event::{Kind, is_of_button, is_of_key, is_virtual};
 
 /// A field of an event, by which its value is put into a script.
 #[derive(Clone, Copy, Debug)]
@@ -70,18 +69,4 @@ impl Field {
             }
         }
     }
-}
-
-/// Whether it is that of a key that goes down or up.
-pub fn is_of_key(kind: Kind) -> bool
-    ensures { result ≡ is_of_key kind }
-{
-    matches!(kind, Kind::KeyPress | Kind::KeyRelease)
-}
-
-/// Whether it is that of an event with a name of its own, `<<name>>`.
-pub fn is_virtual(kind: Kind) -> bool
-    ensures { result ≡ is_virtual kind }
-{
-    matches!(kind, Kind::Virtual)
 }

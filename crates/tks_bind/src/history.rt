@@ -1,17 +1,17 @@
 //! The history of events.
 ghost use Rattle.std.specs.Prelude.{◌≡◌, true, [], ◌++◌, ◌∷◌, length, ◌-◌, ◌≤◌, IfOk, IfErr, OnOk, OnErr};
-ghost use Rattle.tks_event.specs.Legality.{is_event, AreEvents};
-ghost use Rattle.tks_bind.specs.History.{latest, with_event};
+ghost use Rattle.tks_event.specs.Legality.{AreEvents};
+ghost use Rattle.tks_bind.specs.History.{are_physical, latest, with_event};
 
 use std::alloc::{AllocError, AllocFailed, Global};
 use std::marker::Model;
-use tks_event::Event;
+use tks_event::{Event, is_virtual};
 use tks_share::Copied;
 
 /// How many events a history holds at most.
 pub const MAX_HISTORY: usize = 32;
 
-/// The last physical events that were delivered, at most 32, each one that there is.
+/// The last physical events that were delivered, at most 32.
 pub struct History {
     events: Vec<Event>,
 }
@@ -25,16 +25,17 @@ impl Drop for History {
 
 impl Model for History {
     ghost use Rattle.std.specs.Prelude.{List};
-    ghost use Rattle.tks_event.specs.declared.event.Event.{Event};
+    ghost use Rattle.tks_event.specs.Event.{Event};
 
     ghost Value = { List Event };
 
     ghost view = { λ h. h.events.items };
 
-    ghost use Rattle.std.specs.Prelude.{◌≤◌, length};
+    ghost use Rattle.std.specs.Prelude.{◌≡◌, ◌≤◌, length, true};
     ghost use Rattle.tks_event.specs.Legality.{AreEvents};
+    ghost use Rattle.tks_bind.specs.History.{are_physical};
 
-    ghost invariant = { λ h. (length h.events.items ≤ 32) × AreEvents h.events.items };
+    ghost invariant = { λ h. (length h.events.items ≤ 32) × AreEvents h.events.items × (are_physical h.events.items ≡ true) };
 }
 
 impl History {
@@ -49,9 +50,9 @@ impl History {
 
     /// The history of these events, the latest last, so that one is made again from what it had. Of more than 32 events it
     /// holds the last.
-    #[tactic(auto, using(crate::proofs::Latest::latest_within))]
     pub fn restore(events: Vec<Event>) -> History
-        requires { AreEvents events.items }
+        requires legal { AreEvents events.items }
+        requires physical { are_physical events.items ≡ true }
         ensures { result ≡ latest events.items }
     {
         let mut events = events;
@@ -64,19 +65,22 @@ impl History {
         ensures value { result.now ≡ self.now }
         ensures within { length result.now ≤ 32 }
         ensures legal { AreEvents self.now }
+        ensures physical { are_physical self.now ≡ true }
     {
         &self.events
     }
 
-    /// Adds an event that is delivered; where there were 32, the oldest goes. Where memory is refused, it hands the
-    /// event back.
-    #[tactic(auto, using(crate::proofs::Latest::latest_within))]
+    /// Adds a physical event that is delivered; where there were 32, the oldest goes. A virtual one is passed over. Where
+    /// memory is refused, it hands the event back.
     pub fn add(&mut self, event: Event) -> Result<(), AllocFailed<Event>>
-        requires { is_event event ≡ true }
         ensures ok { OnOk result (self.new ≡ with_event event self.old) }
         ensures err { OnErr result (self.new ≡ self.old) }
         ensures handed_back { IfErr result (λ refused. refused.value ≡ event) }
     {
+        if is_virtual(event.kind) {
+            return Ok(());
+        }
+        event.stands();
         match self.events.push(event) {
             Ok(()) => {
                 trim(&mut self.events);
@@ -93,6 +97,13 @@ impl Copied for History {
             events: copied(alloc, &self.events)?,
         })
     }
+}
+
+/// Whether none of these events is virtual.
+pub fn are_physical(events: &[Event]) -> bool
+    ensures { result ≡ are_physical events.now }
+{
+    events.iter().all(|event| !is_virtual(event.kind))
 }
 
 // How many events are too old for a history.

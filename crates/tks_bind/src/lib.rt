@@ -8,6 +8,7 @@ mod field;
 mod history;
 mod laws;
 mod matching;
+mod physical;
 mod scene;
 mod search;
 mod substitution;
@@ -18,13 +19,15 @@ mod way;
 pub use binding::Binding;
 pub use bindings::Bindings;
 pub use fault::BindFault;
-pub use field::{Field, is_of_key, is_virtual};
-pub use history::{History, MAX_HISTORY};
+pub use field::Field;
+pub use history::{History, MAX_HISTORY, are_physical};
 pub use laws::{
-    beating_is_an_order, chosen_is_the_choice, some_way_is_unbeaten, values_stand_for_themselves,
+    beating_is_an_order, chosen_is_the_choice, forms_are_found_from_left_to_right,
+    other_bindings_stay, other_virtual_events_stay, some_way_is_unbeaten,
+    values_stand_for_themselves,
 };
-pub use matching::is_of_button;
+pub use physical::PhysicalSequence;
 pub use search::occurs;
-pub use substitution::percents;
+pub use substitution::{percents, percents_within};
 pub use virtual_event::{VirtualEvent, is_of_name};
 pub use virtuals::Virtuals;

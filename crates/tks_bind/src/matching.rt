@@ -1,9 +1,9 @@
 //! Which events a pattern fits, and what may lie between.
 ghost use Rattle.std.specs.Prelude.{◌≡◌};
 ghost use Rattle.tks_event.specs.Sequences.{is_some_text};
-ghost use Rattle.tks_bind.specs.Matching.{fits, is_of_button, is_close, may_follow, may_lie_before};
+ghost use Rattle.tks_bind.specs.Matching.{fits, is_close, may_follow, may_lie_before};
 
-use tks_event::{Event, Kind, Pattern, is_modifier_key};
+use tks_event::{Event, Kind, Pattern, is_modifier_key, is_of_button};
 
 /// How many milliseconds may lie between a near event and the one before it.
 const NEAR_MILLISECONDS: u64 = 500;
@@ -22,13 +22,6 @@ pub fn fits(pattern: &Pattern, event: &Event) -> bool
     pattern.kind.is(event.kind)
         && (!has_detail(pattern) || pattern.detail == event.detail)
         && event.state.holds(pattern.modifiers)
-}
-
-/// Whether it is a button's going down or up.
-pub fn is_of_button(kind: Kind) -> bool
-    ensures { result ≡ is_of_button kind }
-{
-    matches!(kind, Kind::ButtonPress | Kind::ButtonRelease)
 }
 
 // Whether an event comes close behind another.

@@ -6,12 +6,11 @@ ghost use Rattle.tks_bind.specs.Chosen.{name_of};
 ghost use Rattle.tks_bind.specs.Choosing.{scene_of, is_this, meets, tried, is_through, way, one_beats, is_beaten_by, is_beaten, stands, one_wins, wins, later, latest_of};
 
 use crate::binding::Binding;
-use crate::field::is_virtual;
 use crate::search::ends_there;
 use crate::virtuals::Virtuals;
 use crate::way::{Way, beats};
 use std::slice::from_ref;
-use tks_event::{Event, Kind, Sequence};
+use tks_event::{Event, Kind, Sequence, is_virtual};
 use tks_share::SharedList;
 use tks_text::Txt;
 

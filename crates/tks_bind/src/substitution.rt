@@ -1,9 +1,9 @@
 //! Percent substitution.
-ghost use Rattle.std.specs.Prelude.{◌≡◌, ◌++◌, ◌∷◌, [], true, IfSome, IfOk, OnOk, decimal};
+ghost use Rattle.std.specs.Prelude.{◌≡◌, ◌++◌, ◌∷◌, [], true, Some, IfSome, IfOk, OnOk, decimal};
 ghost use Rattle.std.specs.Fmt.{signed_decimal};
 ghost use Rattle.tks_text.specs.Text.{is_text_byte, IsText};
 ghost use Rattle.tks_event.specs.Keysyms.{keysym_char};
-ghost use Rattle.tks_bind.specs.Percents.{char_text, field_text, value, formed, replaced, percents};
+ghost use Rattle.tks_bind.specs.Percents.{char_text, field_text, value, formed, replaced, percents, held_to, is_over};
 
 use crate::field::Field;
 use itoa::Buffer;
@@ -18,9 +18,62 @@ use tks_text::{Txt, decimal_of};
 pub fn percents(alloc: Global, script: &Txt, event: &Event, path: &Txt) -> Result<Txt, AllocError>
     ensures { IfOk result (λ t. t ≡ percents event.now path.now script.now) }
 {
+    match replaced(alloc, script, event, path, None)? {
+        Some(text) => Ok(text),
+        None => unreachable!(),
+    }
+}
+
+/// The same, where it has at most so many bytes; else `None`. No more is made than so many bytes and one value.
+pub fn percents_within(
+    alloc: Global,
+    script: &Txt,
+    event: &Event,
+    path: &Txt,
+    most: usize,
+) -> Result<Option<Txt>, AllocError>
+    ensures { IfOk result (λ t. t ≡ held_to (Some most) (percents event.now path.now script.now)) }
+{
+    replaced(alloc, script, event, path, Some(most))
+}
+
+// Whether a text is longer than a bound, if there is one.
+fn is_over(text: &Txt, most: Option<usize>) -> bool
+    ensures { result ≡ is_over most text.now }
+{
+    match most {
+        None => false,
+        Some(most) => most < text.len(),
+    }
+}
+
+// A text, where it is no longer than a bound, if there is one.
+fn held(text: Txt, most: Option<usize>) -> Option<Txt>
+    ensures { result ≡ held_to most text }
+{
+    match most {
+        Some(most) if most < text.len() => None,
+        _ => Some(text),
+    }
+}
+
+// A script with each percent form replaced, where it is no longer than a bound, if there is one.
+#[tactic(auto, using(crate::proofs::Bounded::front_is_over))]
+fn replaced(
+    alloc: Global,
+    script: &Txt,
+    event: &Event,
+    path: &Txt,
+    most: Option<usize>,
+) -> Result<Option<Txt>, AllocError>
+    ensures { IfOk result (λ t. t ≡ held_to most (percents event.now path.now script.now)) }
+{
     let mut text = Txt::new(alloc);
     let mut is_behind_percent = false;
     for letter in script.as_bytes() {
+        if is_over(&text, most) {
+            return Ok(None);
+        }
         if is_behind_percent {
             push_formed(alloc, &mut text, event, path, *letter)?;
             is_behind_percent = false;
@@ -33,7 +86,7 @@ pub fn percents(alloc: Global, script: &Txt, event: &Event, path: &Txt) -> Resul
     if is_behind_percent {
         text.push_byte(b'%')?;
     }
-    Ok(text)
+    Ok(held(text, most))
 }
 
 // Adds what a percent sign and a character stand for.

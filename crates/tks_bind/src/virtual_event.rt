@@ -2,9 +2,8 @@
 ghost use Rattle.std.specs.Prelude.{◌≡◌, [], ◌∷◌, ◌++◌, IfOk};
 ghost use Rattle.tks_bind.specs.VirtualEvents.{has_sequence, is_of_name, other_sequences};
 
-use crate::field::is_virtual;
 use std::alloc::{AllocError, Global};
-use tks_event::{Sequence, are_equal};
+use tks_event::{Sequence, are_equal, is_virtual};
 use tks_text::{Seq, Txt};
 
 /// An event that scripts make up, and the sequences by which it is met as well.

@@ -6,10 +6,11 @@ ghost use Rattle.std.specs.List.{AllByRecursion};
 ghost use Rattle.tks_event.specs.Sequences.{is_name};
 ghost use Rattle.tks_bind.specs.WellFormed.{is_virtual_event, are_virtuals, AreVirtuals};
 
+use crate::physical::PhysicalSequence;
 use crate::virtual_event::{VirtualEvent, has_sequence, others, with_one_more};
 use std::alloc::{AllocError, Global};
 use std::marker::Model;
-use tks_event::Sequence;
+use tks_event::{Sequence, VirtualName};
 use tks_share::{Items, SharedList};
 use tks_text::{Seq, Txt};
 
@@ -103,7 +104,19 @@ impl Virtuals {
     }
 
     /// Adds a sequence of physical events to a virtual event. One that is there stays where it is.
-    pub fn event_add(&mut self, name: &Txt, sequence: &Sequence) -> Result<(), AllocError>
+    pub fn event_add(
+        &mut self,
+        name: &VirtualName,
+        sequence: &PhysicalSequence,
+    ) -> Result<(), AllocError>
+        ensures ok { OnOk result (self.new ≡ added name.now sequence.now self.old) }
+        ensures err { OnErr result (self.new ≡ self.old) }
+    {
+        self.add(name.text(), sequence.sequence())
+    }
+
+    // The same, of a text that may be a name and a sequence that isn't one of a name.
+    fn add(&mut self, name: &Txt, sequence: &Sequence) -> Result<(), AllocError>
         requires name { is_name name.now ≡ true }
         requires physical { is_of_name sequence.now ≡ false }
         ensures ok { OnOk result (self.new ≡ added name.now sequence.now self.old) }

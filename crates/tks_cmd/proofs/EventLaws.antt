@@ -10,7 +10,7 @@ use Rattle.tks_tcl.specs.Words.{list_in}
 use Rattle.tks_tcl.proofs.Limits.{Keeps, itself, after_keeps, if_keeps, room_keeps, at_most_holds, both_hold, fits_wider, within_keeps}
 use Rattle.tks_list.specs.Quoting.{joined}
 use Rattle.tks_event.specs.Sequences.{is_some_text}
-use Rattle.tks_event.specs.declared.event.Event.{Event}
+use Rattle.tks_event.specs.Event.{Event}
 use Rattle.tks_event.specs.declared.kind.Kind.TheVariants as kind
 use Rattle.tks_event.specs.declared.pattern.Pattern.{Pattern}
 use Rattle.tks_bind.specs.Binding.{script_for, made, spelled}
@@ -21,15 +21,15 @@ use Rattle.tks_bind.specs.declared.binding.Binding.{Binding}
 use Rattle.tks_queue.specs.declared.place.Place.{Place}
 use Rattle.tks_queue.specs.declared.place.Place.TheVariants as place
 use Rattle.tks_tree.specs.Windows.{Window, of_number, on_window}
-use Rattle.tks_state.specs.World.{World, bound_to, tagged, scene, queued, focused, with_timer, with_idle}
+use Rattle.tks_state.specs.World.{World, bound_to, tagged, scene, with_event, queued, focused, with_timer, with_idle}
 use Rattle.tks_eval.specs.declared.host.Plan.{Plan}
 use Rattle.tks_eval.specs.declared.host.Plan.TheVariants as plan
 use Rattle.tks_cmd.specs.Changes.{Changed, silent}
 use Rattle.tks_cmd.specs.Windows.{are_paired}
 use Rattle.tks_cmd.specs.Packing.{window_of}
-use Rattle.tks_cmd.specs.Dispatch.{delivered, remembered, tags_of, is_passed, script_of, tag_script, tag_scripts, event_scripts, prepared, begun}
+use Rattle.tks_cmd.specs.Dispatch.{delivered, tags_of, is_passed, script_of, tag_script, tag_scripts, event_scripts, prepared, begun}
 use Rattle.tks_cmd.specs.Bindings.{tag_read, sequence_read, or_empty, bindings_within, bound_within, bind_does, tags_at, given_tags, tags_within, tags_read, bindtags_does}
-use Rattle.tks_cmd.specs.Queue.{waiting, queue_within, put_within}
+use Rattle.tks_cmd.specs.Queue.{queue_within, put_within}
 use Rattle.tks_cmd.specs.Events.{event_read, sent, generated, generate_does}
 use Rattle.tks_cmd.specs.VirtualEvents as virtuals
 use Rattle.tks_cmd.specs.VirtualEvents.{name_read, all_read, with_all, virtuals_within, added, add_does, delete_does}
@@ -62,7 +62,7 @@ told_well r = after_well r _ (λ x. refl)
 module _ (limits : Limits) where
   begun_well : (w : World) (e : Event) → PlansWell (begun limits w e)
   unfolding begun
-  begun_well w e = after_well (event_scripts limits (remembered (delivered w e) w) (delivered w e)) _ (λ scripts. tt)
+  begun_well w e = after_well (event_scripts limits (with_event (delivered w e) w) (delivered w e)) _ (λ scripts. tt)
 
   sent_well : (w : World) (t : When) (e : Event) → PlansWell (sent limits w t e)
   sent_well w when.Now e = begun_well w e
@@ -127,7 +127,7 @@ module _ (limits wider : Limits) (wide : Wider limits wider) where
 
   pub begun_keeps : (w : World) (e : Event) → Keeps (begun limits w e) (begun wider w e)
   unfolding begun
-  begun_keeps w e = prepared_keeps (remembered (delivered w e) w) (delivered w e)
+  begun_keeps w e = prepared_keeps (with_event (delivered w e) w) (delivered w e)
 
   -- ---- bind, bindtags
 
@@ -169,7 +169,7 @@ module _ (limits wider : Limits) (wide : Wider limits wider) where
   queue_keeps w = room_keeps _ _ (at_most_holds (length w.queue) limits.items wider.items wide.items) (itself (Ok w))
 
   put_keeps : (p : Place) (e : Event) (w : World) → Keeps (put_within limits p e w) (put_within wider p e w)
-  put_keeps p e w = queue_keeps (queued p (waiting e) w)
+  put_keeps p e w = queue_keeps (queued p e w)
 
   sent_keeps : (w : World) (t : When) (e : Event) → Keeps (sent limits w t e) (sent wider w t e)
   sent_keeps w when.Now e = begun_keeps w e

@@ -1,44 +1,32 @@
 -- The events that `event generate` makes are events that there are.
 use Rattle.std.proofs.Common.{◌≡◌, ◌≤◌, ◌<◌, ◌^◌, ◌+◌, ℕ, ℤ, pos, negsuc, zero, suc, Bool, true, false, not, ◌||◌, ◌&&◌, ◌==◌, List, [], ◌∷◌, Option, Some, None, Result, Ok, Err, refl, sym, ap, ◌∙◌, subst, true≢false, arith}
 use Rattle.std.specs.Prelude.{nat_le, nat_lt, decimal, option_map, if◌then◌else◌}
-use Rattle.std.specs.List.{AllByRecursion}
 use Rattle.std.proofs.lemmas.Fmt.{decimal_digit}
 use Rattle.std.proofs.lemmas.Bool.{cond_both, and_from, and_parts, or_right, le-leb, leb-true, ltb-true}
 use Rattle.tks_text.specs.Integer.{integer_of}
 use Rattle.tks_text.specs.declared.integer.Range.{Range}
-use Rattle.tks_text.specs.declared.fault.ScriptFault.{ScriptFault}
-use Rattle.tks_tcl.specs.Cause.{Cause, after, value_or_fault}
+use Rattle.tks_tcl.specs.Cause.{Cause, after}
 use Rattle.tks_opt.specs.Values.{number_among, number_within}
 use Rattle.tks_event.specs.Keysyms.{is_keysym}
-use Rattle.tks_event.specs.Kinds.{same_kind, is_button, is_detail}
-use Rattle.tks_event.specs.Legality.{max_number, is_empty, is_place, is_somewhere, is_nowhere, is_of_focus, is_of_name, goes_with, is_event}
+use Rattle.tks_event.specs.Kinds.{same_kind, is_button, is_detail, is_of_button, is_of_key, is_virtual}
+use Rattle.tks_event.specs.Legality.{max_number, max_time, is_empty, is_place, is_somewhere, is_nowhere, suits_focus, suits_name, goes_with, is_event}
 use Rattle.tks_event.specs.Modifiers.{all_bits}
-use Rattle.tks_event.specs.Reading.{one_pattern_of, sequence_of}
 use Rattle.tks_event.specs.Sequences.{is_some_text, is_name, is_physical}
 use Rattle.tks_event.specs.Spelling.{virtual_one, SpellsPattern, physical, virtual}
-use Rattle.tks_event.specs.declared.event.Event.{Event}
+use Rattle.tks_event.specs.Event.{Event}
 use Rattle.tks_event.specs.declared.kind.Kind.{Kind}
 use Rattle.tks_event.specs.declared.kind.Kind.TheVariants as kind
 use Rattle.tks_event.specs.declared.pattern.Pattern.{Pattern}
 use Rattle.tks_event.specs.declared.pattern.Repeated.{Repeated}
 use Rattle.tks_event.proofs.Legal.{pattern_legal}
-use Rattle.tks_event.proofs.Answering.{pattern_so}
-use Rattle.tks_bind.specs.Matching.{is_of_button}
-use Rattle.tks_bind.specs.Percents.{has_field, is_of_key, is_virtual}
+use Rattle.tks_bind.specs.Percents.{has_field}
 use Rattle.tks_bind.specs.declared.field.Field.{Field}
 use Rattle.tks_bind.specs.declared.field.Field.TheVariants as field
-use Rattle.tks_bind.specs.VirtualEvents as virtuals
 use Rattle.tks_tree.specs.WellFormed.{is_widget_class}
 use Rattle.tks_state.specs.Widget.{class_of}
-use Rattle.tks_state.specs.World.{World}
-use Rattle.tks_state.specs.EventLoop.{is_event_in_some_window}
-use Rattle.tks_state.proofs.Legal.{in_some_window, in_window}
-use Rattle.tks_cmd.specs.Dispatch.{delivered}
-use Rattle.tks_cmd.specs.Queue.{waiting}
-use Rattle.tks_cmd.specs.Events.{Wanted, time_among, time_of, place_among, place_of, with_field, state_of, or_bad_value, with_field_option_for, with_field_option, option_named, is_when, when_given, with_option, with_options, has_detail, first_state, first_time, first_event, is_incomplete, complete, not_so, event_of, event_read}
-use Rattle.tks_cmd.specs.Changes.{each}
+use Rattle.tks_cmd.specs.Events.{Wanted, time_among, time_of, place_among, place_of, with_field, state_of, or_bad_value, with_field_option_for, with_field_option, option_named, is_when, when_given, with_option, with_options, has_detail, first_state, first_time, first_event, is_incomplete, complete, not_so, event_of}
 use Rattle.tks_cmd.specs.Focus.{focus_event}
-use Rattle.tks_cmd.specs.VirtualEvents.{bad_sequence, name_in, name_read, physical_in, physical_read, all_read}
+use Rattle.tks_cmd.specs.VirtualEvents.{bad_sequence, name_in}
 use Rattle.tks_cmd.specs.Windows.{first_widget}
 use Rattle.tks_cmd.specs.declared.windows.WindowKind.{WindowKind}
 use Rattle.tks_cmd.specs.declared.windows.WindowKind.TheVariants as window
@@ -57,13 +45,13 @@ begins_with kind.KeyPress e = some_or_none is_keysym e.detail && (is_nowhere e &
 begins_with kind.KeyRelease e = some_or_none is_keysym e.detail && (is_nowhere e && is_empty e.payload)
 begins_with kind.ButtonPress e = some_or_none is_button e.detail && (is_somewhere e && is_empty e.payload)
 begins_with kind.ButtonRelease e = some_or_none is_button e.detail && (is_somewhere e && is_empty e.payload)
-begins_with kind.FocusIn e = is_of_focus e
-begins_with kind.FocusOut e = is_of_focus e
-begins_with kind.Virtual e = is_of_name e
+begins_with kind.FocusIn e = suits_focus e
+begins_with kind.FocusOut e = suits_focus e
+begins_with kind.Virtual e = suits_name e
 
 record Begun (e : Event) : Type 0 where
   pub window : e.window ≤ max_number
-  pub time : e.time ≤ max_number
+  pub time : e.time ≤ max_time
   pub fields : begins_with e.kind e ≡ true
 
 -- ---- the event that a pattern says
@@ -82,17 +70,17 @@ module _ (clock n : ℕ) where
   physical_begins kind.FocusOut p e h = and_from (is_empty p.detail) true (no_text p.detail (and_parts (nat_lt p.modifiers all_bits) _ h).1) refl
   physical_begins kind.Virtual p e h = absurd cc
 
-  at_most : (b : Bool) → clock ≤ max_number → (if b then clock else 0) ≤ max_number
-  at_most true h = h
+  at_most : (b : Bool) → clock < 2 ^ 62 → (if b then clock else 0) ≤ max_time
+  at_most true h = omega (arith, h)
   at_most false h = omega arith
 
-  spelled_begins : (t : List ℕ) (r : Repeated) → SpellsPattern t r → clock ≤ max_number → n ≤ max_number → Begun (first_event clock n r.pattern)
+  spelled_begins : (t : List ℕ) (r : Repeated) → SpellsPattern t r → clock < 2 ^ 62 → n ≤ max_number → Begun (first_event clock n r.pattern)
   spelled_begins _ _ (physical t r p) early low = record {
     window = low;
     time = at_most (has_field r.pattern.kind field.Time) early;
     fields = physical_begins r.pattern.kind r.pattern refl (pattern_legal [] t r p).goes;
   }
-  spelled_begins _ _ (virtual name h) early low = record { window = low; time = early; fields = and_from (is_name name) true h refl }
+  spelled_begins _ _ (virtual name h) early low = record { window = low; time = omega (arith, early); fields = and_from (is_name name) true h refl }
 
 -- ---- options
 
@@ -175,9 +163,9 @@ place_legal (Ok (Some (negsuc n))) z h =
 place_legal (Ok None) z h = absurd cc
 place_legal (Err out) z h = absurd cc
 
-time_legal : (r : Result (Option ℤ) Range) (t : ℕ) → time_among r ≡ Some t → t ≤ max_number
+time_legal : (r : Result (Option ℤ) Range) (t : ℕ) → time_among r ≡ Some t → t ≤ max_time
 time_legal (Ok (Some (pos n))) t h =
-    cond_both (nat_lt n (2 ^ 62)) (Some n) None (λ o. o ≡ Some t → t ≤ max_number)
+    cond_both (nat_lt n (2 ^ 62)) (Some n) None (λ o. o ≡ Some t → t ≤ max_time)
     (λ b f. let same : n ≡ t = cc in let below = ltb-true n (2 ^ 62) b in omega (arith, same, below)) (λ b f. absurd cc) h
 time_legal (Ok (Some (negsuc n))) t h = absurd cc
 time_legal (Ok None) t h = absurd cc
@@ -308,54 +296,32 @@ whole : (e : Event) → Begun e → is_incomplete e ≡ false → is_event e ≡
 unfolding is_event
 whole e b none =
     and_from (nat_le e.window max_number) _ (le-leb e.window max_number b.window)
-    (and_from (nat_le e.time max_number) _ (le-leb e.time max_number b.time) (complete_goes e.kind e none b.fields))
+    (and_from (nat_le e.time max_time) _ (le-leb e.time max_time b.time) (complete_goes e.kind e none b.fields))
 
 complete_legal : (text : List ℕ) (x new : Wanted) → Begun x.0 → complete text x ≡ Ok new → is_event new.0 ≡ true
 complete_legal text x new b h =
     cond_both (is_incomplete x.0) (not_so text) (Ok x) (λ r. r ≡ Ok new → is_event new.0 ≡ true) (λ none g. absurd cc)
     (λ none g. let same : x ≡ new = cc in subst (λ (y : Wanted). is_event y.0 ≡ true) same (whole x.0 b none)) h
 
--- what is read is an event that there is
-pub read_legal : (clock n : ℕ) (text : List ℕ) (options : List (List ℕ)) (new : Wanted) → clock ≤ 2 ^ 62 → n ≤ 2 ^ 62 → event_read clock n text options ≡ Ok new → is_event new.0 ≡ true
-read_legal clock n text options new early low h = by (one_pattern_of text) refl h
+-- what a pattern and options say is an event that there is
+pub event_legal : (clock n : ℕ) (text : List ℕ) (options : List (List ℕ)) (r : Repeated) (new : Wanted) → clock < 2 ^ 62 → n ≤ 2 ^ 62 → SpellsPattern text r → event_of clock n text options r ≡ Ok new → is_event new.0 ≡ true
+event_legal clock n text options r new early low spells h =
+    cond_both (r.times == 1) (after (with_options text options (first_event clock n r.pattern, when.Now)) (complete text)) (not_so text) (λ o. o ≡ Ok new → is_event new.0 ≡ true)
+    (λ one k. at_options (with_options text options (first_event clock n r.pattern, when.Now)) refl k) (λ one k. absurd cc) h
   where
-    at_options : (r : Repeated) (o : Result Wanted Cause) → Begun (first_event clock n r.pattern) → with_options text options (first_event clock n r.pattern, when.Now) ≡ o → after o (complete text) ≡ Ok new
-        → is_event new.0 ≡ true
-    at_options r (Ok x) b is g = complete_legal text x new (options_begun text options (first_event clock n r.pattern, when.Now) x b is) g
-    at_options r (Err why) b is g = absurd cc
+    at_options : (o : Result Wanted Cause) → with_options text options (first_event clock n r.pattern, when.Now) ≡ o → after o (complete text) ≡ Ok new → is_event new.0 ≡ true
+    at_options (Ok x) is g = complete_legal text x new (options_begun text options (first_event clock n r.pattern, when.Now) x (spelled_begins clock n text r spells early low) is) g
+    at_options (Err why) is g = absurd cc
 
-    by : (r : Result Repeated ScriptFault) → one_pattern_of text ≡ r → after (value_or_fault r) (event_of clock n text options) ≡ Ok new → is_event new.0 ≡ true
-    by (Ok r) is g =
-        cond_both (r.times == 1) (after (with_options text options (first_event clock n r.pattern, when.Now)) (complete text)) (not_so text) (λ o. o ≡ Ok new → is_event new.0 ≡ true)
-        (λ one k. at_options r (with_options text options (first_event clock n r.pattern, when.Now)) (spelled_begins clock n text r (pattern_so text (Ok r) is) early low) refl k) (λ one k. absurd cc) g
-    by (Err fault) is g = absurd cc
+-- ---- the events that tell of the focus
 
--- ---- events on their way
-
--- an event that waits
-pub waits_legal : (e : Event) → is_event_in_some_window e ≡ true → is_event_in_some_window (waiting e) ≡ true
-waits_legal e h = by (is_of_key e.kind)
-  where
-    by : (b : Bool) → is_event_in_some_window (if b then record e { window = 0 } else e) ≡ true
-    by true = h
-    by false = h
-
--- an event that is delivered
-pub delivered_legal : (w : World) (e : Event) → w.focus ≤ 2 ^ 62 → is_event e ≡ true → is_event (delivered w e) ≡ true
-delivered_legal w e low h = by (is_of_key e.kind)
-  where
-    by : (b : Bool) → is_event (if b then record e { window = w.focus } else e) ≡ true
-    by true = in_window e w.focus low (in_some_window e h)
-    by false = h
-
--- the events that tell of the focus
-pub leaves_legal : (n : ℕ) → is_event_in_some_window (focus_event kind.FocusOut n) ≡ true
+pub leaves_legal : (n : ℕ) → n ≤ 2 ^ 62 → is_event (focus_event kind.FocusOut n) ≡ true
 unfolding is_event
-leaves_legal n = refl
+leaves_legal n low = and_from (nat_le n max_number) true (le-leb n max_number low) refl
 
-pub comes_legal : (n : ℕ) → is_event_in_some_window (focus_event kind.FocusIn n) ≡ true
+pub comes_legal : (n : ℕ) → n ≤ 2 ^ 62 → is_event (focus_event kind.FocusIn n) ≡ true
 unfolding is_event
-comes_legal n = refl
+comes_legal n low = and_from (nat_le n max_number) true (le-leb n max_number low) refl
 
 -- ---- virtual events
 
@@ -372,39 +338,11 @@ spelled_name : (t : List ℕ) (r : Repeated) → SpellsPattern t r → is_virtua
 spelled_name _ _ (physical t r p) h = absurd (same_virtual r.pattern.kind h (and_parts (not (same_kind r.pattern.kind kind.Virtual)) _ (pattern_legal [] t r p).goes).0)
 spelled_name _ _ (virtual name is) h = is
 
--- what is read as a name may be one
-pub name_legal : (text name : List ℕ) → name_read text ≡ Ok name → is_name name ≡ true
-name_legal text name h = by (one_pattern_of text) refl h
-  where
-    by : (r : Result Repeated ScriptFault) → one_pattern_of text ≡ r → after (value_or_fault r) (name_in text) ≡ Ok name → is_name name ≡ true
-    by (Ok r) is g =
-        cond_both (is_virtual r.pattern.kind) (Ok r.pattern.detail) (bad_sequence text) (λ o. o ≡ Ok name → is_name name ≡ true)
-        (λ v k. let same : r.pattern.detail ≡ name = cc in subst (λ n. is_name n ≡ true) same (spelled_name text r (pattern_so text (Ok r) is) v)) (λ v k. absurd cc) g
-    by (Err fault) is g = absurd cc
-
-read_physical : (text : List ℕ) (s : List Pattern) → physical_read text ≡ Ok s → virtuals.is_of_name s ≡ false
-read_physical text s h = by (sequence_of text) h
-  where
-    by : (r : Result (List Pattern) ScriptFault) → after (value_or_fault r) (physical_in text) ≡ Ok s → virtuals.is_of_name s ≡ false
-    by (Ok t) g =
-        cond_both (virtuals.is_of_name t) (bad_sequence text) (Ok t) (λ o. o ≡ Ok s → virtuals.is_of_name s ≡ false) (λ v k. absurd cc)
-        (λ v k. let same : t ≡ s = cc in subst (λ u. virtuals.is_of_name u ≡ false) same v) g
-    by (Err fault) g = absurd cc
-
--- what is read as sequences of physical events is of no name
-pub all_physical : (texts : List (List ℕ)) (ss : List (List Pattern)) → all_read texts ≡ Ok ss → AllByRecursion (λ s. virtuals.is_of_name s ≡ false) ss
-all_physical [] ss h = let same : [] ≡ ss = cc in subst (λ l. AllByRecursion (λ s. virtuals.is_of_name s ≡ false) l) same tt
-all_physical (text ∷ texts) ss h = by (physical_read text) refl h (all_physical texts)
-  where
-    behind : (s : List Pattern) (o : Result (List (List Pattern)) Cause) → virtuals.is_of_name s ≡ false → each physical_read texts ≡ o → after o (λ more. Ok (s ∷ more)) ≡ Ok ss
-        → ((more : List (List Pattern)) → all_read texts ≡ Ok more → AllByRecursion (λ s. virtuals.is_of_name s ≡ false) more) → AllByRecursion (λ s. virtuals.is_of_name s ≡ false) ss
-    behind s (Ok more) first is g others = let same : s ∷ more ≡ ss = cc in subst (λ l. AllByRecursion (λ s. virtuals.is_of_name s ≡ false) l) same (first, others more is)
-    behind s (Err why) first is g others = absurd cc
-
-    by : (r : Result (List Pattern) Cause) → physical_read text ≡ r → after r (λ s. after (each physical_read texts) (λ more. Ok (s ∷ more))) ≡ Ok ss
-        → ((more : List (List Pattern)) → all_read texts ≡ Ok more → AllByRecursion (λ s. virtuals.is_of_name s ≡ false) more) → AllByRecursion (λ s. virtuals.is_of_name s ≡ false) ss
-    by (Ok s) is g others = behind s (each physical_read texts) (read_physical text s is) refl g others
-    by (Err why) is g others = absurd cc
+-- what is read as a name is one
+pub name_legal : (text name : List ℕ) (r : Repeated) → SpellsPattern text r → name_in text r ≡ Ok name → is_name name ≡ true
+name_legal text name r spells h =
+    cond_both (is_virtual r.pattern.kind) (Ok r.pattern.detail) (bad_sequence text) (λ o. o ≡ Ok name → is_name name ≡ true)
+    (λ v k. let same : r.pattern.detail ≡ name = cc in subst (λ n. is_name n ≡ true) same (spelled_name text r spells v)) (λ v k. absurd cc) h
 
 -- ---- windows
 

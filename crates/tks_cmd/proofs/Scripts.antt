@@ -4,7 +4,7 @@ use Rattle.tks_text.specs.declared.limits.Limits.{Limits}
 use Rattle.tks_tcl.specs.Cause.{Cause, after}
 use Rattle.tks_tcl.specs.declared.stop.Stop.{Stop}
 use Rattle.tks_tcl.specs.declared.stop.Stop.TheVariants as stop
-use Rattle.tks_event.specs.declared.event.Event.{Event}
+use Rattle.tks_event.specs.Event.{Event}
 use Rattle.tks_state.specs.World.{World}
 use Rattle.tks_cmd.specs.Dispatch.{with_more, tag_script, tag_scripts}
 use Rattle.tks_cmd.specs.Meets.{StopsSo}

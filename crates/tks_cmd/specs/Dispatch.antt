@@ -4,9 +4,10 @@ use Rattle.std.specs.Prelude.{ℕ, Bool, not, ◌&&◌, ◌==◌, if◌then◌el
 use Rattle.tks_text.specs.Class.{class_name}
 use Rattle.tks_text.specs.declared.limits.Limits.{Limits}
 use Rattle.tks_tcl.specs.Cause.{Cause, after, within}
-use Rattle.tks_event.specs.declared.event.Event.{Event}
+use Rattle.tks_event.specs.Kinds.{is_of_key}
+use Rattle.tks_event.specs.Event.{Event}
 use Rattle.tks_bind.specs.Choosing.{chosen}
-use Rattle.tks_bind.specs.Percents.{is_of_key, is_virtual, percents}
+use Rattle.tks_bind.specs.Percents.{percents}
 use Rattle.tks_bind.specs.declared.binding.Binding.{Binding}
 use Rattle.tks_tree.specs.Path.{root_path}
 use Rattle.tks_text.specs.Text.{begins_dot}
@@ -21,10 +22,6 @@ use Rattle.tks_eval.specs.declared.host.Plan.TheVariants as plan
 -- one of a key goes to the window that has the focus now
 abbrev pub delivered : World → Event → Event
 delivered w e = if is_of_key e.kind then record e { window = w.focus } else e
-
--- a physical one joins the history
-abbrev pub remembered : Event → World → World
-remembered e w = if is_virtual e.kind then w else with_event e w
 
 -- ---- tags
 
@@ -75,6 +72,6 @@ module _ (limits : Limits) where
   abbrev pub prepared : World → Event → Result (Plan × World) Cause
   prepared w e = after (event_scripts w e) (λ scripts. Ok (plan.Dispatch e.window scripts, w))
 
-  -- what is to be done for an event, and the world in which it was delivered
+  -- what is to be done for an event, and the world in which it was delivered: it joins the history, where it is a physical one
   unfoldable pub begun : World → Event → Result (Plan × World) Cause
-  begun w e = prepared (remembered (delivered w e) w) (delivered w e)
+  begun w e = prepared (with_event (delivered w e) w) (delivered w e)

@@ -8,16 +8,16 @@ use Rattle.tks_text.specs.declared.fault.ErrorNumber.TheVariants.{UnknownOption,
 use Rattle.tks_text.specs.declared.limits.Limits.{Limits}
 use Rattle.tks_tcl.specs.Cause.{Cause, Fault, after, value_or_fault, about, wrong_words}
 use Rattle.tks_opt.specs.Values.{number_within}
+use Rattle.tks_event.specs.Kinds.{is_of_button, is_of_key}
 use Rattle.tks_event.specs.Keysyms.{named_in, is_keysym}
 use Rattle.tks_event.specs.Modifiers.{all_bits}
 use Rattle.tks_event.specs.Reading.{one_pattern_of}
 use Rattle.tks_event.specs.Sequences.{is_some_text}
-use Rattle.tks_event.specs.declared.event.Event.{Event}
+use Rattle.tks_event.specs.Event.{Event}
 use Rattle.tks_event.specs.declared.kind.Kind.{Kind}
 use Rattle.tks_event.specs.declared.pattern.Pattern.{Pattern}
 use Rattle.tks_event.specs.declared.pattern.Repeated.{Repeated}
-use Rattle.tks_bind.specs.Matching.{is_of_button}
-use Rattle.tks_bind.specs.Percents.{has_field, is_of_key}
+use Rattle.tks_bind.specs.Percents.{has_field}
 use Rattle.tks_bind.specs.declared.field.Field.{Field}
 use Rattle.tks_bind.specs.declared.field.Field.TheVariants as field
 use Rattle.tks_queue.specs.declared.place.Place.TheVariants as place

@@ -6,7 +6,7 @@ use Rattle.tks_text.specs.Text.{same_text}
 use Rattle.tks_text.specs.declared.limits.Limits.{Limits}
 use Rattle.tks_tcl.specs.Cause.{Cause, after, wrong_words}
 use Rattle.tks_event.specs.Sequences.{is_some_text}
-use Rattle.tks_event.specs.declared.event.Event.{Event}
+use Rattle.tks_event.specs.Event.{Event}
 use Rattle.tks_event.specs.declared.kind.Kind.{Kind}
 use Rattle.tks_event.specs.declared.kind.Kind.TheVariants as kind
 use Rattle.tks_opt.specs.Options.{Options, value_in}

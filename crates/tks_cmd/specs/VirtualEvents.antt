@@ -5,11 +5,11 @@ use Rattle.tks_text.specs.declared.fault.ErrorNumber.TheVariants.{BadSequence}
 use Rattle.tks_text.specs.declared.limits.Limits.{Limits}
 use Rattle.tks_tcl.specs.Cause.{Cause, Fault, OverLimit, after, about, value_or_fault, wrong_words}
 use Rattle.tks_list.specs.Quoting.{joined}
+use Rattle.tks_event.specs.Kinds.{is_virtual}
 use Rattle.tks_event.specs.Canonical.{canonical, virtual_text}
 use Rattle.tks_event.specs.Reading.{one_pattern_of, sequence_of}
 use Rattle.tks_event.specs.declared.pattern.Pattern.{Pattern}
 use Rattle.tks_event.specs.declared.pattern.Repeated.{Repeated}
-use Rattle.tks_bind.specs.Percents.{is_virtual}
 use Rattle.tks_bind.specs.VirtualEvents.{is_of_name, sequences_of}
 use Rattle.tks_bind.specs.declared.virtual_event.VirtualEvent.{VirtualEvent}
 use Rattle.tks_state.specs.World.{World, with_virtual, without_virtual, without_virtual_sequence}

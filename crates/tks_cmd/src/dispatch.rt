@@ -1,40 +1,36 @@
 //! The scripts of an event, up to their list.
-ghost use Rattle.std.specs.Prelude.{◌≡◌, true, None, option_copied, IfOk, OnOk};
-ghost use Rattle.tks_event.specs.Legality.{is_event};
+ghost use Rattle.std.specs.Prelude.{◌≡◌, None, option_copied, IfOk, OnOk};
 ghost use Rattle.tks_tree.specs.View.{window_seen};
 ghost use Rattle.tks_state.specs.Windows.{kept_of, on_kept};
-ghost use Rattle.tks_cmd.specs.Dispatch.{delivered, remembered, default_tags, tags_of, is_passed, with_more, script_of, tag_script, tag_scripts, event_scripts, begun};
+ghost use Rattle.tks_state.specs.World.{with_event};
+ghost use Rattle.tks_cmd.specs.Dispatch.{delivered, default_tags, tags_of, is_passed, with_more, script_of, tag_script, tag_scripts, event_scripts, begun};
 ghost use Rattle.tks_cmd.specs.Meets.{LimitsSo};
 
 use std::alloc::{AllocError, Global};
-use tks_bind::{Binding, is_of_key, is_virtual, percents};
+use tks_bind::{Binding, percents_within};
 use tks_eval::Plan;
-use tks_event::Event;
+use tks_event::{Event, is_of_key};
 use tks_state::World;
 use tks_tcl::Stop;
-use tks_text::{Limits, Seq, Txt, begins_dot, fits, texts_again};
+use tks_text::{Limits, Seq, Txt, begins_dot, texts_again};
 use tks_tree::{Window, WindowId};
 
-// Makes of an event the one that is delivered: one of a key goes to the window that has the focus.
-fn deliver(world: &World, event: &mut Event)
-    requires { is_event event.old ≡ true }
-    ensures value { event.new ≡ delivered world.now event.old }
-    ensures legal { is_event event.new ≡ true }
+// The event that is delivered: one of a key goes to the window that has the focus.
+fn delivered(world: &World, event: Event) -> Event
+    ensures { result ≡ delivered world.now event }
 {
-    let focus = world.focus();
     if is_of_key(event.kind) {
-        event.window = focus.number();
+        event.in_window(world.focus().number())
+    } else {
+        event
     }
 }
 
-// Adds an event that is delivered to the history, where it is a physical one.
+// Adds an event that is delivered to the history, which passes over a virtual one.
 fn remember(world: &mut World, event: &Event) -> Result<(), AllocError>
-    requires { is_event event.now ≡ true }
-    ensures { OnOk result (world.new ≡ remembered event.now world.old) }
+    ensures { OnOk result (world.new ≡ with_event event.now world.old) }
 {
-    if !is_virtual(event.kind) {
-        world.add_event(event.try_clone()?)?;
-    }
+    world.add_event(event.try_clone()?)?;
     Ok(())
 }
 
@@ -80,7 +76,7 @@ fn is_passed(world: &World, tag: &Txt) -> bool
     begins_dot(tag.as_bytes()) && world.tree().find(tag).is_none()
 }
 
-// Adds the script of a binding, with each percent form replaced, where it passes no limit.
+// Adds the script of a binding, with each percent form replaced, where it passes no limit. Where it would, it isn't made.
 #[tactic(auto, using(crate::proofs::Scripts::none_more))]
 fn add_script(
     alloc: Global,
@@ -95,10 +91,10 @@ fn add_script(
     let Some(binding) = binding else {
         return Ok(());
     };
-    let script = percents(alloc, &binding.script, event, path)?;
-    if !fits(&script, limits) {
+    let most = limits.text as usize;
+    let Some(script) = percents_within(alloc, &binding.script, event, path, most)? else {
         return Err(Stop::TooLarge);
-    }
+    };
     scripts.push(script)?;
     Ok(())
 }
@@ -167,11 +163,9 @@ fn event_scripts(
 /// scripts would pass the limit of a text, and `NoMemory`; after them nothing is said of the world.
 #[tactic(auto, unfolding(crate::specs::Dispatch::begun))]
 pub fn begin(alloc: Global, world: &mut World, event: Event, limits: &Limits) -> Result<Plan, Stop>
-    requires { is_event event ≡ true }
     ensures { LimitsSo (λ p. (p, world.new)) result (begun limits.now world.old event) }
 {
-    let mut event = event;
-    deliver(world, &mut event);
+    let event = delivered(world, event);
     remember(world, &event)?;
     let window = event.window;
     let scripts = event_scripts(alloc, world, &event, limits)?;

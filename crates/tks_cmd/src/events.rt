@@ -1,8 +1,7 @@
 //! `event generate`.
-ghost use Rattle.std.specs.Prelude.{◌≡◌, true, Some, None, if◌then◌else◌, IfOk};
+ghost use Rattle.std.specs.Prelude.{◌≡◌, ◌≤◌, ◌<◌, ◌^◌, Some, None, if◌then◌else◌, IfOk};
 ghost use Rattle.tks_tcl.specs.Cause.{about};
 ghost use Rattle.tks_tcl.specs.Meets.{GivesSo, TellsSo};
-ghost use Rattle.tks_event.specs.Legality.{is_event};
 ghost use Rattle.tks_cmd.specs.Dispatch.{begun};
 ghost use Rattle.tks_cmd.specs.Events.{time_of, state_of, place_of, when_of, option_named, with_field, with_field_option, is_when, when_given, with_option, with_options, has_detail, first_state, first_time, first_event, is_incomplete, complete, event_of, event_read, sent, generated, generate_does};
 ghost use Rattle.tks_cmd.specs.Meets.{KeepsSo};
@@ -12,9 +11,12 @@ use crate::packing::window_of;
 use crate::queue::put as put_event;
 use crate::windows::are_paired;
 use std::alloc::{AllocError, Global};
-use tks_bind::{Field, is_of_button, is_of_key};
+use tks_bind::Field;
 use tks_eval::Plan;
-use tks_event::{Event, Kind, Modifiers, Pattern, Repeated, is_keysym, parse_pattern};
+use tks_event::{
+    Event, EventFields, Kind, Modifiers, Pattern, Repeated, is_keysym, is_of_button, is_of_key,
+    parse_pattern,
+};
 use tks_opt::number_within;
 use tks_queue::Place;
 use tks_state::World;
@@ -126,7 +128,7 @@ fn put<T: Copy>(place: &mut T, value: Option<T>) -> bool
 // Sets a field of an event, and says whether the field may have the value.
 fn set_field(
     alloc: Global,
-    event: &mut Event,
+    event: &mut EventFields,
     field: Field,
     value: &Txt,
 ) -> Result<bool, AllocError>
@@ -172,7 +174,7 @@ fn not_so(pattern: &Txt) -> Interrupt
 #[tactic(auto, using(tks_tcl::proofs::Causes::tells))]
 fn set_field_option(
     alloc: Global,
-    event: &mut Event,
+    event: &mut EventFields,
     pattern: &Txt,
     name: &Txt,
     value: &Txt,
@@ -205,7 +207,7 @@ fn when_given(name: &Txt, value: &Txt) -> Result<When, Interrupt>
 // Sets what an option says: a field of an event, or when the event is delivered.
 fn set_option(
     alloc: Global,
-    event: &mut Event,
+    event: &mut EventFields,
     when: &mut When,
     pattern: &Txt,
     name: &Txt,
@@ -224,7 +226,7 @@ fn set_option(
 // Sets what options with their values say, in turn.
 fn set_options(
     alloc: Global,
-    event: &mut Event,
+    event: &mut EventFields,
     when: &mut When,
     pattern: &Txt,
     options: &[Txt],
@@ -268,10 +270,10 @@ fn first_time(kind: Kind, clock: u64) -> u64
 }
 
 // The event that a pattern alone says.
-fn first_event(alloc: Global, clock: u64, window: WindowId, pattern: Pattern) -> Event
+fn first_event(alloc: Global, clock: u64, window: WindowId, pattern: Pattern) -> EventFields
     ensures { result ≡ first_event clock window pattern }
 {
-    Event {
+    EventFields {
         window: window.number(),
         kind: pattern.kind,
         detail: pattern.detail,
@@ -286,7 +288,7 @@ fn first_event(alloc: Global, clock: u64, window: WindowId, pattern: Pattern) ->
 }
 
 // Whether an event doesn't say which key or button it is of.
-fn is_incomplete(event: &Event) -> bool
+fn is_incomplete(event: &EventFields) -> bool
     ensures { result ≡ is_incomplete event.now }
 {
     has_detail(event.kind) && event.detail.as_bytes().is_empty()
@@ -301,7 +303,7 @@ fn event_of(
     text: &Txt,
     options: &[Txt],
     repeated: Repeated,
-) -> Result<(Event, When), Interrupt>
+) -> Result<(EventFields, When), Interrupt>
     ensures { GivesSo (λ x. x) result (event_of clock window text.now options.now repeated) }
 {
     if repeated.times != 1 {
@@ -324,11 +326,13 @@ fn event_read(
     text: &Txt,
     options: &[Txt],
 ) -> Result<(Event, When), Interrupt>
+    requires early { clock < 2 ^ 62 }
+    requires low { window ≤ 2 ^ 62 }
     ensures { GivesSo (λ x. x) result (event_read clock window text.now options.now) }
 {
     let repeated = parse_pattern(alloc, text)?;
-    let wanted = event_of(alloc, clock, window, text, options, repeated)?;
-    Ok(wanted)
+    let (fields, when) = event_of(alloc, clock, window, text, options, repeated)?;
+    Ok((Event::new(fields), when))
 }
 
 // Delivers an event. No error comes of it.
@@ -338,7 +342,6 @@ fn deliver(
     event: Event,
     limits: &Limits,
 ) -> Result<Plan, Interrupt>
-    requires { is_event event ≡ true }
     ensures value { GivesSo (λ p. (p, world.new)) result (begun limits.now world.old event) }
     ensures kept { KeepsSo result world.old world.new }
 {
@@ -351,7 +354,6 @@ fn deliver(
 }
 
 // Delivers an event at once, or puts it into the queue.
-#[tactic(auto, using(tks_state::proofs::Legal::in_some_window))]
 fn send(
     alloc: Global,
     world: &mut World,
@@ -359,7 +361,6 @@ fn send(
     event: Event,
     limits: &Limits,
 ) -> Result<Plan, Interrupt>
-    requires { is_event event ≡ true }
     ensures value { GivesSo (λ p. (p, world.new)) result (sent limits.now world.old when event) }
     ensures kept { KeepsSo result world.old world.new }
 {

@@ -1,5 +1,6 @@
 //! `focus`, `tk_focusNext` and `tk_focusPrev`.
-ghost use Rattle.std.specs.Prelude.{◌≡◌, IfOk};
+ghost use Rattle.std.specs.Prelude.{◌≡◌, ◌≤◌, ◌^◌, true, IfOk};
+ghost use Rattle.tks_event.specs.Legality.{is_event};
 ghost use Rattle.tks_tcl.specs.Meets.{GivesSo};
 ghost use Rattle.tks_opt.specs.Options.{value_in};
 ghost use Rattle.tks_cmd.specs.Focus.{path_at, focus_event, focus_moved, focus_given, focus_on, focus_does, is_taking, is_disabled, takes_focus, takes_at, next_taking, previous_taking, focus_next_does, focus_previous_does};
@@ -8,7 +9,7 @@ ghost use Rattle.tks_cmd.specs.Meets.{KeepsSo};
 use crate::packing::window_of;
 use crate::queue::put;
 use std::alloc::{AllocError, Global};
-use tks_event::{Event, Kind, Modifiers};
+use tks_event::{Event, EventFields, Kind, Modifiers};
 use tks_opt::{OptionName, Options, State};
 use tks_queue::Place;
 use tks_state::World;
@@ -28,9 +29,10 @@ fn path_at(alloc: Global, world: &World, window: WindowId) -> Result<Txt, AllocE
 
 // A window gets the focus or loses it.
 fn focus_event(alloc: Global, kind: Kind, window: WindowId) -> Event
+    requires { is_event (focus_event kind window) ≡ true }
     ensures { result ≡ focus_event kind window }
 {
-    Event {
+    Event::new(EventFields {
         window: window.number(),
         kind,
         detail: Txt::new(alloc),
@@ -41,16 +43,18 @@ fn focus_event(alloc: Global, kind: Kind, window: WindowId) -> Event
         root_x: 0,
         root_y: 0,
         payload: Txt::new(alloc),
-    }
+    })
 }
 
 // Gives the focus to another window, and puts the events that tell of it behind all others.
+#[tactic(auto, using(crate::proofs::Legal::leaves_legal, crate::proofs::Legal::comes_legal))]
 fn move_focus(
     alloc: Global,
     window: WindowId,
     world: &mut World,
     limits: &Limits,
 ) -> Result<(), Interrupt>
+    requires { window ≤ 2 ^ 62 }
     ensures value { GivesSo (λ _. world.new) result (focus_moved limits.now window world.old) }
     ensures kept { KeepsSo result world.old world.new }
 {
@@ -78,6 +82,7 @@ fn give_focus(
     world: &mut World,
     limits: &Limits,
 ) -> Result<(), Interrupt>
+    requires { window ≤ 2 ^ 62 }
     ensures value { GivesSo (λ _. world.new) result (focus_given limits.now window world.old) }
     ensures kept { KeepsSo result world.old world.new }
 {

@@ -1,17 +1,14 @@
 //! `event add`, `event delete` and `event info`.
-ghost use Rattle.std.specs.Prelude.{◌≡◌, true, false, IfOk, OnOk};
-ghost use Rattle.std.specs.List.{AllByRecursion};
+ghost use Rattle.std.specs.Prelude.{◌≡◌, IfOk, OnOk};
 ghost use Rattle.tks_tcl.specs.Cause.{about};
 ghost use Rattle.tks_tcl.specs.Meets.{GivesSo, TellsSo};
-ghost use Rattle.tks_bind.specs.VirtualEvents.{is_of_name};
 ghost use Rattle.tks_event.specs.Canonical.{virtual_text};
-ghost use Rattle.tks_event.specs.Sequences.{is_name};
 ghost use Rattle.tks_cmd.specs.VirtualEvents.{name_in, name_read, physical_in, physical_read, all_read, with_all, virtuals_within, added, add_does, without_all, deleted, delete_does, names, spelled, names_text, sequences_text, info_does};
 ghost use Rattle.tks_cmd.specs.Meets.{KeepsSo};
 
 use std::alloc::{AllocError, Global};
-use tks_bind::{Virtuals, is_of_name, is_virtual};
-use tks_event::{Repeated, Sequence, parse_pattern, parse_sequence};
+use tks_bind::{PhysicalSequence, Virtuals};
+use tks_event::{Repeated, Sequence, VirtualName, is_virtual, parse_pattern, parse_sequence};
 use tks_list::join;
 use tks_state::World;
 use tks_tcl::{Interrupt, error_about, wrong_words};
@@ -37,28 +34,29 @@ fn name_in(text: &Txt, repeated: Repeated) -> Result<Txt, Interrupt>
 }
 
 // The name that a text has between double brackets.
-fn name_read(alloc: Global, text: &Txt) -> Result<Txt, Interrupt>
-    ensures { GivesSo (λ t. t) result (name_read text.now) }
+fn name_read(alloc: Global, text: &Txt) -> Result<VirtualName, Interrupt>
+    ensures { GivesSo (λ name. name) result (name_read text.now) }
 {
     let repeated = parse_pattern(alloc, text)?;
-    name_in(text, repeated)
+    let name = name_in(text, repeated)?;
+    Ok(VirtualName::new(name))
 }
 
 // The sequence of physical events that a text spells.
 #[tactic(auto, using(tks_tcl::proofs::Causes::tells))]
-fn physical_read(alloc: Global, text: &Txt) -> Result<Sequence, Interrupt>
+fn physical_read(alloc: Global, text: &Txt) -> Result<PhysicalSequence, Interrupt>
     ensures { GivesSo (λ s. s) result (physical_read text.now) }
 {
     let sequence = parse_sequence(alloc, text)?;
-    if is_of_name(&sequence) {
-        return Err(bad_sequence(text));
+    match PhysicalSequence::of(sequence) {
+        Some(sequence) => Ok(sequence),
+        None => Err(bad_sequence(text)),
     }
-    Ok(sequence)
 }
 
 // Those of texts, in order.
 #[tactic(auto, using(crate::proofs::Each::begins, crate::proofs::Each::ends, crate::proofs::Each::goes, crate::proofs::Each::fails))]
-fn all_read(alloc: Global, texts: &[Txt]) -> Result<Seq<Sequence>, Interrupt>
+fn all_read(alloc: Global, texts: &[Txt]) -> Result<Seq<PhysicalSequence>, Interrupt>
     ensures { GivesSo (λ sequences. sequences) result (all_read texts.now) }
 {
     let mut sequences = Seq::new(alloc);
@@ -69,9 +67,11 @@ fn all_read(alloc: Global, texts: &[Txt]) -> Result<Seq<Sequence>, Interrupt>
 }
 
 // Adds sequences to a virtual event, one after the other.
-fn add_all(world: &mut World, name: &Txt, sequences: &[Sequence]) -> Result<(), AllocError>
-    requires name { is_name name.now ≡ true }
-    requires physical { AllByRecursion (λ s. is_of_name s ≡ false) sequences.now }
+fn add_all(
+    world: &mut World,
+    name: &VirtualName,
+    sequences: &[PhysicalSequence],
+) -> Result<(), AllocError>
     ensures { OnOk result (world.new ≡ with_all name.now sequences.now world.old) }
 {
     for sequence in sequences {
@@ -94,7 +94,6 @@ fn check_virtuals(world: &World, name: &Txt, limits: &Limits) -> Result<(), Inte
 }
 
 // Adds sequences to the virtual event of a name.
-#[tactic(auto, using(crate::proofs::Legal::name_legal, crate::proofs::Legal::all_physical))]
 fn add(
     alloc: Global,
     name: &Txt,
@@ -108,7 +107,7 @@ fn add(
     let name = name_read(alloc, name)?;
     let sequences = all_read(alloc, texts)?;
     add_all(world, &name, sequences.as_slice())?;
-    check_virtuals(world, &name, limits)
+    check_virtuals(world, name.text(), limits)
 }
 
 /// event add name sequence ..
@@ -134,11 +133,15 @@ pub fn run_add(
 }
 
 // Takes sequences of a virtual event away.
-fn remove_all(world: &mut World, name: &Txt, sequences: &[Sequence]) -> Result<(), AllocError>
+fn remove_all(
+    world: &mut World,
+    name: &Txt,
+    sequences: &[PhysicalSequence],
+) -> Result<(), AllocError>
     ensures { OnOk result (world.new ≡ without_all name.now sequences.now world.old) }
 {
     for sequence in sequences {
-        world.remove_virtual_sequence(name, sequence)?;
+        world.remove_virtual_sequence(name, sequence.sequence())?;
     }
     Ok(())
 }
@@ -150,11 +153,11 @@ fn delete(alloc: Global, name: &Txt, texts: &[Txt], world: &mut World) -> Result
 {
     let name = name_read(alloc, name)?;
     if texts.is_empty() {
-        world.remove_virtual(&name)?;
+        world.remove_virtual(name.text())?;
         return Ok(());
     }
     let sequences = all_read(alloc, texts)?;
-    remove_all(world, &name, sequences.as_slice())?;
+    remove_all(world, name.text(), sequences.as_slice())?;
     Ok(())
 }
 
@@ -243,7 +246,7 @@ pub fn run_info(
         }
         [name] => {
             let name = name_read(alloc, name)?;
-            let text = sequences_text(alloc, world, &name)?;
+            let text = sequences_text(alloc, world, name.text())?;
             Ok(text)
         }
         _ => Err(wrong_words(command)),

@@ -1,7 +1,7 @@
 -- What holds of the spellings of a world's parts besides windows.
-use Rattle.std.proofs.Common.{◌≡◌, ℕ, ◌≤◌, ◌^◌, List, Ok, refl, sym, ap, arith}
+use Rattle.std.proofs.Common.{◌≡◌, ℕ, ◌≤◌, ◌<◌, ◌^◌, List, Ok, refl, sym, ap, arith}
 use Rattle.std.specs.Int.{w64}
-use Rattle.std.proofs.lemmas.Bool.{eqb-true, leb-true, le-leb}
+use Rattle.std.proofs.lemmas.Bool.{eqb-true, leb-true, le-leb, lt-ltb}
 use Rattle.tks_timer.specs.After as after
 use Rattle.tks_spelling.specs.Spelling.{Lawful, IsBytes, byte, number, text}
 use Rattle.tks_spelling.proofs.EachKind.{wide64, byte_lawful, number_lawful, test_lawful, field_lawful, through_lawful, option_lawful, text_lawful, texts_lawful}
@@ -10,7 +10,7 @@ use Rattle.tks_codec_variables.proofs.OfTables.{table_lawful}
 use Rattle.tks_codec_events.proofs.Tables.{bindings_lawful, virtuals_lawful}
 use Rattle.tks_codec_events.proofs.Waiting.{history_lawful}
 use Rattle.tks_codec_events.specs.Timers.{waiting}
-use Rattle.tks_codec.specs.Counts.{is_count, count, counts}
+use Rattle.tks_codec.specs.Counts.{is_count, is_time, count, time, counts}
 use Rattle.tks_codec.specs.Ends.{Ends, are_rules, these_rules, rules, ends}
 use Rattle.tks_codec.specs.Happenings.{Happenings, happenings}
 use Rattle.tks_codec.specs.declared.counts.Counts.{Counts}
@@ -20,10 +20,13 @@ use Rattle.tks_codec.specs.declared.counts.Counts.{Counts}
 count_lawful : Lawful count
 count_lawful = test_lawful is_count (number w64) (λ v h. omega arith) (number_lawful w64 wide64)
 
+time_lawful : Lawful time
+time_lawful = test_lawful is_time (number w64) (λ v h. omega arith) (number_lawful w64 wide64)
+
 pub counts_lawful : Lawful counts
 counts_lawful =
     field_lawful (λ x. x.accepted) _ _ (λ accepted x k h. ap (λ (x : Counts). x.accepted) h.1.1.1.1) count_lawful (λ accepted.
-    field_lawful (λ x. x.clock) _ _ (λ clock x k h. ap (λ (x : Counts). x.clock) h.1.1.1) count_lawful (λ clock.
+    field_lawful (λ x. x.clock) _ _ (λ clock x k h. ap (λ (x : Counts). x.clock) h.1.1.1) time_lawful (λ clock.
     field_lawful (λ x. x.window) _ _ (λ window x k h. ap (λ (x : Counts). x.window) h.1.1) count_lawful (λ window.
     field_lawful (λ x. x.binding) _ _ (λ binding x k h. ap (λ (x : Counts). x.binding) h.1) count_lawful (λ binding.
     through_lawful (λ x. x.timer) _ _ (λ timer k. refl) count_lawful))))
@@ -31,9 +34,12 @@ counts_lawful =
 count_legal : (n : ℕ) → n ≤ 2 ^ 62 → count.Legal n
 count_legal n h = (omega (arith, h), le-leb n (2 ^ 62) h)
 
-pub counts_legal : (x : Counts) → x.accepted ≤ 2 ^ 62 → x.clock ≤ 2 ^ 62 → x.window ≤ 2 ^ 62 → x.binding ≤ 2 ^ 62 → x.timer ≤ 2 ^ 62 → counts.Legal x
+time_legal : (n : ℕ) → n < 2 ^ 62 → time.Legal n
+time_legal n h = (omega (arith, h), lt-ltb n (2 ^ 62) h)
+
+pub counts_legal : (x : Counts) → x.accepted ≤ 2 ^ 62 → x.clock < 2 ^ 62 → x.window ≤ 2 ^ 62 → x.binding ≤ 2 ^ 62 → x.timer ≤ 2 ^ 62 → counts.Legal x
 counts_legal x accepted clock window binding timer =
-    (count_legal x.accepted accepted, (count_legal x.clock clock, (count_legal x.window window, (count_legal x.binding binding, (count_legal x.timer timer, refl)))))
+    (count_legal x.accepted accepted, (time_legal x.clock clock, (count_legal x.window window, (count_legal x.binding binding, (count_legal x.timer timer, refl)))))
 
 -- the number of the next binding that was read
 pub binding_within : (bytes rest : List ℕ) (x : Counts) → IsBytes bytes → counts.read bytes ≡ Ok (x, rest) → x.binding ≤ 2 ^ 62

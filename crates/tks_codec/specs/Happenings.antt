@@ -1,6 +1,6 @@
 -- What scripts bound to events rest on, as bytes (this project's own format): bindings, virtual events, the history.
 use Rattle.std.specs.Prelude.{ℕ, List, [], ◌∷◌}
-use Rattle.tks_event.specs.declared.event.Event.{Event}
+use Rattle.tks_event.specs.Event.{Event}
 use Rattle.tks_bind.specs.Binding.{Content}
 use Rattle.tks_bind.specs.declared.virtual_event.VirtualEvent.{VirtualEvent}
 use Rattle.tks_spelling.specs.Spelling.{Read, Spelling, field, through}

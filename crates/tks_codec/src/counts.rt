@@ -2,13 +2,13 @@
 ghost use Rattle.tks_spelling.specs.Reading.{Gives};
 ghost use Rattle.tks_spelling.specs.Writing.{PutsSo, flattened};
 ghost use Rattle.tks_codec.specs.Counts as kinds;
-ghost use Rattle.tks_codec.specs.Counts.{count, counts_at, counts_parts};
+ghost use Rattle.tks_codec.specs.Counts.{count, time, counts_at, counts_parts};
 
 use std::alloc::AllocError;
 use tks_spelling::Unread;
 use tks_spelling::reading::u64_of;
 use tks_spelling::writing::put_u64;
-use tks_text::MAX_NUMBER;
+use tks_text::{MAX_NUMBER, MAX_TIME};
 
 /// How many inputs were accepted, the clock in milliseconds, and the numbers of the next window, binding and timer.
 #[derive(Clone, Copy)]
@@ -31,13 +31,24 @@ fn count_of(bytes: &[u8]) -> Result<(u64, &[u8]), Unread>
     Ok((number, rest))
 }
 
+// A time that the clock may stand at.
+fn time_of(bytes: &[u8]) -> Result<(u64, &[u8]), Unread>
+    ensures { Gives (λ x. (x.0, x.1.now)) result (time.read bytes.now) }
+{
+    let (number, rest) = u64_of(bytes)?;
+    if MAX_TIME < number {
+        return Err(Unread::Left(rest.len() + 1));
+    }
+    Ok((number, rest))
+}
+
 /// The numbers.
 #[tactic(auto, unfolding(crate::specs::Counts::counts_at))]
 pub fn counts_of(bytes: &[u8]) -> Result<(Counts, &[u8]), Unread>
     ensures { Gives (λ x. (x.0, x.1.now)) result (counts_at bytes.now) }
 {
     let (accepted, rest) = count_of(bytes)?;
-    let (clock, rest) = count_of(rest)?;
+    let (clock, rest) = time_of(rest)?;
     let (window, rest) = count_of(rest)?;
     let (binding, rest) = count_of(rest)?;
     let (timer, rest) = count_of(rest)?;
@@ -78,7 +89,7 @@ fn put_parts(out: &mut Vec<u8>, counts: &Counts) -> Result<(), AllocError>
     put_next(out, counts)
 }
 
-/// Adds the numbers. They are read back where none is above 2^62.
+/// Adds the numbers. They are read back where none is above 2^62, and the clock is below it.
 #[tactic(auto, unfolding(tks_spelling::specs::Writing::flattened))]
 pub fn put_counts(out: &mut Vec<u8>, counts: &Counts) -> Result<(), AllocError>
     ensures { PutsSo result out.old.items out.new.items (kinds.counts.write counts.now) }

@@ -105,8 +105,7 @@ fn put_parts(out: &mut Vec<u8>, world: &World) -> Result<(), AllocError>
     ensures puts { PutsSo result out.old.items out.new.items (flattened (ends_parts (ends_of world.now))) }
     ensures legal { OnOk result (kinds.ends.Legal (ends_of world.now)) }
 {
-    // What holds of all worlds is asked for here.
-    let _ = world.accepted();
+    world.stands();
     put_u64(out, world.focus().number())?;
     put_held(out, &world.held())?;
     put_press(out, world.pressed())?;

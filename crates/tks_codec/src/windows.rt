@@ -165,8 +165,7 @@ pub fn put_windows(alloc: Global, out: &mut Vec<u8>, world: &World) -> Result<()
     ensures puts { PutsSo result out.old.items out.new.items ((kinds.windows world.now.tree.next).write (windows_of world.now)) }
     ensures legal { OnOk result ((kinds.windows world.now.tree.next).Legal (windows_of world.now)) }
 {
-    // What holds of all worlds is asked for here.
-    let _ = world.accepted();
+    world.stands();
     let kept = world.all_kept();
     put_u32(out, kept.len() as u32)?;
     put_each(alloc, out, world.tree(), kept)

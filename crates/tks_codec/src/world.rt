@@ -120,8 +120,7 @@ fn put_parts(alloc: Global, out: &mut Vec<u8>, world: &World) -> Result<(), Allo
     ensures puts { PutsSo result out.old.items out.new.items (flattened (fields_parts world.now)) }
     ensures legal { OnOk result ((kinds.fields world.now.grid).Legal world.now) }
 {
-    // What holds of all worlds is asked for here.
-    let _ = world.accepted();
+    world.stands();
     put_counts(out, &numbers_of(world))?;
     put_windows(alloc, out, world)?;
     put_variables(out, world.variables())?;
@@ -135,8 +134,7 @@ fn put_world(alloc: Global, out: &mut Vec<u8>, world: &World) -> Result<(), Allo
     ensures puts { PutsSo result out.old.items out.new.items ((kinds.world world.now.grid).write world.now) }
     ensures legal { OnOk result ((kinds.world world.now.grid).Legal world.now) }
 {
-    // What holds of all worlds is asked for here.
-    let _ = world.accepted();
+    world.stands();
     put_parts(alloc, out, world)
 }
 

@@ -2,7 +2,7 @@
 use Rattle.std.proofs.Common.{◌≡◌, ℕ, ℤ, ◌<◌, ◌^◌, List, ◌++◌, Result, refl, sym, ap, subst, FitsSigned, arith}
 use Rattle.std.specs.Int.{w64, cast_unsigned, cast_signed}
 use Rattle.std.proofs.Math.Facts.{to_z-of_z, Fits-of_z}
-use Rattle.tks_event.specs.declared.event.Event.{Event}
+use Rattle.tks_event.specs.Event.{Event}
 use Rattle.std.specs.declared.alloc.AllocError.{AllocError}
 use Rattle.tks_spelling.specs.Writing.{PutsSo}
 use Rattle.tks_spelling.specs.Spelling.{Lawful, signed, text}

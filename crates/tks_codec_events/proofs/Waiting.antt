@@ -2,8 +2,9 @@
 use Rattle.std.proofs.Common.{◌≡◌, ℕ, List, [], ◌∷◌, Option, Some, None, Ok, refl, ap, arith}
 use Rattle.std.specs.Int.{w64}
 use Rattle.tks_event.specs.Legality.{AreEvents}
-use Rattle.tks_event.specs.declared.event.Event.{Event}
+use Rattle.tks_event.specs.Event.{Event}
 use Rattle.tks_queue.specs.Legal as queues
+use Rattle.tks_queue.specs.Legal.{may_wait}
 use Rattle.tks_queue.specs.declared.queued.Queued.{Queued}
 use Rattle.tks_timer.specs.declared.entry.Timer.{Timer}
 use Rattle.tks_timer.specs.declared.entry.Idle.{Idle}
@@ -12,7 +13,7 @@ use Rattle.tks_spelling.specs.Spelling.{Lawful, IsBytes, AreLegal, list}
 use Rattle.tks_spelling.proofs.EachKind.{wide64, number_lawful, test_lawful, field_lawful, through_lawful, flag_lawful, list_lawful, text_lawful}
 use Rattle.tks_codec_events.specs.Event.{event}
 use Rattle.tks_codec_events.specs.History.{is_history, history}
-use Rattle.tks_codec_events.specs.Queue.{queued, queue}
+use Rattle.tks_codec_events.specs.Queue.{event_and_mark, queued, queue}
 use Rattle.tks_timer.specs.WellFormed.{are_waiting}
 use Rattle.tks_codec_events.specs.Timers.{timer, idle, lists, waiting}
 use Rattle.tks_codec_events.proofs.Eventful.{event_lawful}
@@ -28,8 +29,11 @@ read_events bytes es rest fits e = legal None es ((list_lawful (λ before. event
     legal before [] h = tt
     legal before (e ∷ es) h = (h.0.1, legal (Some e) es h.1)
 
+event_and_mark_lawful : Lawful event_and_mark
+event_and_mark_lawful = field_lawful (λ q. q.event) _ _ (λ e q k h. ap (λ (q : Queued). q.event) h.1) event_lawful (λ e. through_lawful (λ q. q.with_mark) _ _ (λ with_mark k. refl) flag_lawful)
+
 queued_lawful : Lawful queued
-queued_lawful = field_lawful (λ q. q.event) _ _ (λ e q k h. ap (λ (q : Queued). q.event) h.1) event_lawful (λ e. through_lawful (λ q. q.with_mark) _ _ (λ with_mark k. refl) flag_lawful)
+queued_lawful = test_lawful (λ q. may_wait q.event) event_and_mark (λ v h. omega arith) event_and_mark_lawful
 
 pub queue_lawful : Lawful queue
 queue_lawful = list_lawful (λ before. queued) (λ before. queued_lawful)
@@ -40,7 +44,7 @@ read_queue bytes qs rest fits e = legal None qs (queue_lawful.nothing_else bytes
   where
     legal : (before : Option Queued) (qs : List Queued) → AreLegal (λ before. queued) before qs → queues.AreLegal qs
     legal before [] h = tt
-    legal before (q ∷ qs) h = (h.0.0.1, legal (Some q) qs h.1)
+    legal before (q ∷ qs) h = ((h.0.0.0.1, h.0.1), legal (Some q) qs h.1)
 
 timer_lawful : Lawful timer
 timer_lawful =

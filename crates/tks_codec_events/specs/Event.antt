@@ -2,7 +2,7 @@
 use Rattle.std.specs.Prelude.{ℕ, List, [], ◌∷◌, FitsSigned}
 use Rattle.std.specs.Int.{w64}
 use Rattle.tks_event.specs.Legality.{is_event}
-use Rattle.tks_event.specs.declared.event.Event.{Event}
+use Rattle.tks_event.specs.Event.{Event}
 use Rattle.tks_spelling.specs.Spelling.{Read, Spelling, number, signed, such_that, field, through, text}
 use Rattle.tks_spelling.specs.Writing.{flattened}
 use Rattle.tks_codec_events.specs.Kind.{kind}

@@ -1,22 +1,21 @@
 //! Events.
-ghost use Rattle.std.specs.Prelude.{◌≡◌, ◌<◌, ◌^◌, true, OnOk};
+ghost use Rattle.std.specs.Prelude.{◌≡◌, ◌<◌, ◌^◌, OnOk};
 ghost use Rattle.tks_spelling.specs.Spelling as spellings;
 ghost use Rattle.tks_spelling.specs.Reading.{Gives};
 ghost use Rattle.tks_spelling.specs.Writing.{PutsSo, flattened};
 ghost use Rattle.tks_codec_events.specs.Event as events;
-ghost use Rattle.tks_event.specs.Legality.{is_event};
 ghost use Rattle.tks_codec_events.specs.Event.{fields_at, subject_parts, moment_parts, place_parts, event_parts, event_at, HasPlaces};
 
 use crate::kind::{kind_of, put_kind};
 use std::alloc::{AllocError, Global};
-use tks_event::{Event, Modifiers, is_event};
+use tks_event::{Event, EventFields, Modifiers};
 use tks_spelling::reading::{i64_of, text_of, u16_of, u64_of};
 use tks_spelling::writing::{put_i64, put_text, put_u16, put_u64};
 use tks_spelling::{Members, Unread};
 
 // The fields of an event.
 #[tactic(auto, unfolding(crate::specs::Event::fields_at))]
-fn fields_of(alloc: Global, bytes: &[u8]) -> Result<(Event, &[u8]), Unread>
+fn fields_of(alloc: Global, bytes: &[u8]) -> Result<(EventFields, &[u8]), Unread>
     ensures { Gives (λ x. (x.0, x.1.now)) result (fields_at bytes.now) }
 {
     let (window, rest) = u64_of(bytes)?;
@@ -32,7 +31,7 @@ fn fields_of(alloc: Global, bytes: &[u8]) -> Result<(Event, &[u8]), Unread>
     let (root_x, rest) = i64_of(rest)?;
     let (root_y, rest) = i64_of(rest)?;
     let (payload, rest) = text_of(alloc, rest)?;
-    let event = Event {
+    let fields = EventFields {
         window,
         kind,
         detail,
@@ -44,7 +43,7 @@ fn fields_of(alloc: Global, bytes: &[u8]) -> Result<(Event, &[u8]), Unread>
         root_y,
         payload,
     };
-    Ok((event, rest))
+    Ok((fields, rest))
 }
 
 /// An event.
@@ -52,16 +51,16 @@ fn fields_of(alloc: Global, bytes: &[u8]) -> Result<(Event, &[u8]), Unread>
 pub fn event_of(alloc: Global, bytes: &[u8]) -> Result<(Event, &[u8]), Unread>
     ensures { Gives (λ x. (x.0, x.1.now)) result (event_at bytes.now) }
 {
-    let (event, rest) = fields_of(alloc, bytes)?;
-    if !is_event(&event) {
-        return Err(Unread::Left(rest.len() + 1));
+    let (fields, rest) = fields_of(alloc, bytes)?;
+    match Event::restore(fields) {
+        Some(event) => Ok((event, rest)),
+        None => Err(Unread::Left(rest.len() + 1)),
     }
-    Ok((event, rest))
 }
 
 // Adds the window, the kind and the detail of an event.
 #[tactic(auto, using(tks_spelling::proofs::Puts::flattened_puts))]
-fn put_subject(out: &mut Vec<u8>, event: &Event) -> Result<(), AllocError>
+fn put_subject(out: &mut Vec<u8>, event: &EventFields) -> Result<(), AllocError>
     ensures puts { PutsSo result out.old.items out.new.items (flattened (subject_parts event.now)) }
     ensures fits { OnOk result ((event.now.window < 2 ^ 64) × spellings.text.Legal event.now.detail) }
 {
@@ -72,7 +71,7 @@ fn put_subject(out: &mut Vec<u8>, event: &Event) -> Result<(), AllocError>
 
 // Adds the state and the time of an event.
 #[tactic(auto, using(tks_spelling::proofs::Puts::flattened_puts))]
-fn put_moment(out: &mut Vec<u8>, event: &Event) -> Result<(), AllocError>
+fn put_moment(out: &mut Vec<u8>, event: &EventFields) -> Result<(), AllocError>
     ensures puts { PutsSo result out.old.items out.new.items (flattened (moment_parts event.now)) }
     ensures fits { OnOk result ((event.now.state < 8_192) × (event.now.time < 2 ^ 64)) }
 {
@@ -82,7 +81,7 @@ fn put_moment(out: &mut Vec<u8>, event: &Event) -> Result<(), AllocError>
 
 // Adds the places of an event.
 #[tactic(auto, using(tks_spelling::proofs::Puts::flattened_puts))]
-fn put_places(out: &mut Vec<u8>, event: &Event) -> Result<(), AllocError>
+fn put_places(out: &mut Vec<u8>, event: &EventFields) -> Result<(), AllocError>
     ensures puts { PutsSo result out.old.items out.new.items (flattened (place_parts event.now)) }
     ensures fits { OnOk result (HasPlaces event.now) }
 {
@@ -94,7 +93,7 @@ fn put_places(out: &mut Vec<u8>, event: &Event) -> Result<(), AllocError>
 
 // Adds the parts of an event.
 #[tactic(auto, using(tks_spelling::proofs::Puts::flattened_puts))]
-fn put_parts(out: &mut Vec<u8>, event: &Event) -> Result<(), AllocError>
+fn put_parts(out: &mut Vec<u8>, event: &EventFields) -> Result<(), AllocError>
     ensures puts { PutsSo result out.old.items out.new.items (flattened (event_parts event.now)) }
     ensures legal { OnOk result (events.fields.Legal event.now) }
 {
@@ -104,12 +103,13 @@ fn put_parts(out: &mut Vec<u8>, event: &Event) -> Result<(), AllocError>
     put_text(out, &event.payload)
 }
 
-/// Adds an event. It is read back where it is one that there is (`is_event`).
+/// Adds an event.
 #[tactic(auto, unfolding(tks_spelling::specs::Writing::flattened))]
 pub fn put_event(out: &mut Vec<u8>, event: &Event) -> Result<(), AllocError>
     ensures puts { PutsSo result out.old.items out.new.items (events.event.write event.now) }
-    ensures legal { OnOk result (is_event event.now ≡ true → events.event.Legal event.now) }
+    ensures legal { OnOk result (events.event.Legal event.now) }
 {
+    event.stands();
     put_parts(out, event)
 }
 
@@ -118,13 +118,11 @@ pub fn put_event(out: &mut Vec<u8>, event: &Event) -> Result<(), AllocError>
 pub struct Events;
 
 impl Members<Event> for Events {
-    ghost use Rattle.std.specs.Prelude.{◌≡◌, true};
-    ghost use Rattle.tks_event.specs.Legality.{is_event};
     ghost use Rattle.tks_codec_events.specs.Event.{event};
 
     ghost spelling = { λ events. event };
 
-    ghost IsSound = { λ events e. is_event e ≡ true };
+    ghost IsSound = { λ events e. Unit {0} };
 
     #[tactic(auto, unfolding(crate::specs::Event::event_at))]
     fn read<'a>(&self, alloc: Global, bytes: &'a [u8]) -> Result<(Event, &'a [u8]), Unread> {

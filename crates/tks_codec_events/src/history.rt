@@ -7,7 +7,7 @@ ghost use Rattle.tks_codec_events.specs.History.{history_at};
 
 use crate::event::Events;
 use std::alloc::{AllocError, Global};
-use tks_bind::{History, MAX_HISTORY};
+use tks_bind::{History, MAX_HISTORY, are_physical};
 use tks_spelling::{Unread, list_of, put_list};
 
 /// A history.
@@ -16,7 +16,7 @@ pub fn history_of(alloc: Global, bytes: &[u8]) -> Result<(History, &[u8]), Unrea
     ensures { Gives (λ x. (x.0, x.1.now)) result (history_at bytes.now) }
 {
     let (events, rest) = list_of(alloc, Events, bytes)?;
-    if events.len() > MAX_HISTORY {
+    if events.len() > MAX_HISTORY || !are_physical(events.as_slice()) {
         return Err(Unread::Left(rest.len() + 1));
     }
     Ok((History::restore(events.into_items()), rest))

@@ -2,14 +2,14 @@
 ghost use Rattle.std.specs.Prelude.{◌≡◌, true, OnOk};
 ghost use Rattle.tks_spelling.specs.Reading.{Gives};
 ghost use Rattle.tks_spelling.specs.Writing.{PutsSo};
-ghost use Rattle.tks_event.specs.Legality.{is_event};
+ghost use Rattle.tks_queue.specs.Legal.{may_wait};
 ghost use Rattle.tks_codec_events.specs.Queue as queues;
 ghost use Rattle.tks_codec_events.specs.Queue.{queued_at};
 
 use crate::event::{event_of, put_event};
 use crate::items::put_items;
 use std::alloc::{AllocError, Global};
-use tks_queue::{Queue, Queued};
+use tks_queue::{Queue, Queued, may_wait};
 use tks_spelling::reading::flag_of;
 use tks_spelling::writing::put_flag;
 use tks_spelling::{Members, Unread, list_of};
@@ -21,12 +21,15 @@ fn queued_of(alloc: Global, bytes: &[u8]) -> Result<(Queued, &[u8]), Unread>
 {
     let (event, rest) = event_of(alloc, bytes)?;
     let (with_mark, rest) = flag_of(rest)?;
+    if !may_wait(&event) {
+        return Err(Unread::Left(rest.len() + 1));
+    }
     Ok((Queued { event, with_mark }, rest))
 }
 
 // Adds an event that waits.
 fn put_queued(out: &mut Vec<u8>, queued: &Queued) -> Result<(), AllocError>
-    requires { is_event queued.now.event ≡ true }
+    requires { may_wait queued.now.event ≡ true }
     ensures puts { PutsSo result out.old.items out.new.items (queues.queued.write queued.now) }
     ensures legal { OnOk result (queues.queued.Legal queued.now) }
 {
@@ -39,13 +42,12 @@ fn put_queued(out: &mut Vec<u8>, queued: &Queued) -> Result<(), AllocError>
 pub struct QueuedEvents;
 
 impl Members<Queued> for QueuedEvents {
-    ghost use Rattle.std.specs.Prelude.{◌≡◌, true};
-    ghost use Rattle.tks_event.specs.Legality.{is_event};
+    ghost use Rattle.tks_queue.specs.Legal.{IsLegal};
     ghost use Rattle.tks_codec_events.specs.Queue.{queued};
 
     ghost spelling = { λ events. queued };
 
-    ghost IsSound = { λ events q. is_event q.event ≡ true };
+    ghost IsSound = { λ events q. IsLegal q };
 
     #[tactic(auto, unfolding(crate::specs::Queue::queued_at))]
     fn read<'a>(&self, alloc: Global, bytes: &'a [u8]) -> Result<(Queued, &'a [u8]), Unread> {

@@ -12,7 +12,7 @@ use tks_share::Numbered;
 use tks_spelling::reading::{text_of, u64_of};
 use tks_spelling::writing::{put_text, put_u64};
 use tks_spelling::{Members, Unread, list_of};
-use tks_text::MAX_NUMBER;
+use tks_text::MAX_TIME;
 use tks_timer::{Idle, Timer, Timers};
 
 // A timer.
@@ -135,14 +135,14 @@ fn are_apart(idles: &[Idle], timers: &[Timer]) -> bool
     true
 }
 
-// Whether each timer is due when there may be a time.
+// Whether each timer is due when there is a time.
 fn are_due(timers: &[Timer]) -> bool
     ensures { result ≡ are_due timers.now }
 {
-    timers.iter().all(|timer| timer.due <= MAX_NUMBER)
+    timers.iter().all(|timer| timer.due <= MAX_TIME)
 }
 
-// Whether ids rise and differ, below the next one, and each timer is due when there may be a time.
+// Whether ids rise and differ, below the next one, and each timer is due when there is a time.
 fn are_waiting(timers: &[Timer], idles: &[Idle], next: u64) -> bool
     ensures { result ≡ are_waiting (record { timers = timers.now; idles = idles.now; next = next }) }
 {

@@ -53,9 +53,10 @@ module _ {W : Type 0} (m : Meaning W) (v new : View) (live : Side × ℕ) (body 
 
 -- what is opened after a crash, behind what was acknowledged
 pub keeps_acknowledged : {W : Type 0} (m : Meaning W) (reads : Images) (acknowledged : ℕ) (waiting : List Input) (images : Images) (world : W)
-    → OpensToCount m reads acknowledged → OpensToPrefix m (opens m reads) waiting images → opens m images ≡ Ok world → HoldsAcknowledged m acknowledged waiting world
+    → OpensToCount m reads acknowledged → OpensToPrefix m (opens m reads) waiting images → opens m images ≡ Ok world → HoldsAcknowledged m reads acknowledged waiting world
 keeps_acknowledged m reads acknowledged waiting images world at some is = record {
   start = at.world;
+  opened = at.opened;
   counted = at.counted;
   behind = record {
     prefix = some.prefix;

@@ -28,3 +28,8 @@ module _ {D F M W : Type 0} (tells : F → Reply → F → Type 0) (m : Meaning 
     subst (λ l. TurnsTo m old l now) (append-nil far.replies) (far.leads [] now refl),
     subst (λ l. FoldsTo tells told l told') (append-nil far.replies) (far.told_so [] told' refl),
   )
+
+-- turns make no call of the disk
+pub turns_keep : {D M W : Type 0} (m : Meaning W) (old new : DurableState D M W) (replies : List Reply) → TurnsTo m old replies new → new.journal ≡ old.journal
+turns_keep m old new [] same = ap (λ s. s.journal) same
+turns_keep m old new (reply ∷ replies) leads = turns_keep m (turned old leads.0) new replies leads.2

@@ -1,15 +1,13 @@
 -- A first side opens to the state that it was begun with.
-use Rattle.std.proofs.Common.{◌≡◌, ◌≤◌, ℕ, ◌^◌, ◌==◌, nat_le, Bool, ◌&&◌, ◌||◌, true, false, List, [], ◌∷◌, length, Some, Ok, Err, refl, sym, ◌∙◌, ap, cond, arith}
+use Rattle.std.proofs.Common.{◌≡◌, ℕ, ◌==◌, ◌&&◌, true, false, List, [], ◌∷◌, Some, Ok, Err, refl, sym, ◌∙◌, ap, cond, arith}
 use Rattle.std.proofs.lemmas.Bool.Decides.{nat_tests}
 use Rattle.tks_text.specs.Size.{Extent}
 use Rattle.tks_text.specs.Text.{same_text}
-use Rattle.tks_spelling.specs.Header as codec
 use Rattle.tks_spelling.specs.declared.header.Header.{Header}
 use Rattle.tks_disk.specs.declared.disk.Side.TheVariants.{A}
 use Rattle.tks_journal.specs.Resting.{begun_as}
 use Rattle.tks_durable.specs.Machine.{Meaning}
 use Rattle.tks_durable.specs.Opening.{admitted, begun, opened, restored, same_grid, same_names}
-use Rattle.tks_durable.specs.Starting.{first_header, is_too_large}
 use Rattle.tks_durable.specs.declared.fault.SessionFault.TheVariants.{OtherCommands, OtherGrid, SmallerLimits}
 
 same_number : (n : ℕ) → (n == n) ≡ true
@@ -41,19 +39,3 @@ begins m world is within = ap (λ b. cond b (Ok m.first) (Err SmallerLimits)) (a
 
 pub begins_not : {W : Type 0} (m : Meaning W) (world : W) → world ≡ m.first → m.within world ≡ false → begun m ≡ Err SmallerLimits
 begins_not m world is within = ap (λ b. cond b (Ok m.first) (Err SmallerLimits)) (ap m.within (sym is) ∙ within)
-
-at_least : (least n : ℕ) → least ≤ n → nat_le least n ≡ true
-at_least least n le = grind (arith, nat_tests)
-
-or_true : (b : Bool) → (b || true) ≡ true
-or_true true = refl
-or_true false = refl
-
-module _ {W : Type 0} (m : Meaning W) (bytes : List ℕ) (is : bytes ≡ m.first_bytes) where
-  pub bytes_too_large : 2 ^ 60 ≤ length bytes → is_too_large m ≡ true
-  bytes_too_large le = ap (λ b. b || nat_le (2 ^ 60) (length (codec.header.write (first_header m)))) (at_least (2 ^ 60) (length m.first_bytes) (rw is at le))
-
-  pub head_too_large : (header : Header) (head : List ℕ) → header ≡ record { generation = 1; grid = m.grid; names = m.names; world_length = length bytes } → head ≡ codec.header.write header → 2 ^ 60 ≤ length head → is_too_large m ≡ true
-  head_too_large header head header_is head_is le =
-      let same : head ≡ codec.header.write (first_header m) = head_is ∙ ap codec.header.write (header_is ∙ ap (λ (l : List ℕ). record { generation = 1; grid = m.grid; names = m.names; world_length = length l }) is) in
-      ap (λ b. nat_le (2 ^ 60) (length m.first_bytes) || b) (at_least (2 ^ 60) (length (codec.header.write (first_header m))) (rw same at le)) ∙ or_true (nat_le (2 ^ 60) (length m.first_bytes))

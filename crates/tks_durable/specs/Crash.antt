@@ -1,11 +1,10 @@
 -- What a crash leaves of a durable machine.
-use Rattle.std.specs.Prelude.{◌≡◌, ◌<◌, ℕ, List, [], ◌++◌, true, false, Result, Ok, Err}
+use Rattle.std.specs.Prelude.{◌≡◌, ◌<◌, ℕ, List, [], ◌++◌, false, Result, Ok, Err}
 use Rattle.tks_disk.specs.DiskModel.{View, Images}
 use Rattle.tks_input.specs.declared.input.Input.{Input}
 use Rattle.tks_durable.specs.Machine.{Meaning}
 use Rattle.tks_durable.specs.Opening.{opens, run}
 use Rattle.tks_durable.specs.Durable.{DurableState}
-use Rattle.tks_durable.specs.Starting.{is_too_large}
 use Rattle.tks_durable.specs.declared.fault.SessionFault.{SessionFault}
 use Rattle.tks_durable.specs.declared.fault.SessionFault.TheVariants as fault
 
@@ -31,9 +30,10 @@ module _ {W : Type 0} (m : Meaning W) where
     pub counted : m.count world ≡ count
 
   -- This state is what the first of the inputs that waited leave, each accepted, behind those that were acknowledged.
-  pub record HoldsAcknowledged (acknowledged : ℕ) (waiting : List Input) (world : W) : Type 0 where
-    -- what the acknowledged inputs left, and nothing else
+  pub record HoldsAcknowledged (reads : Images) (acknowledged : ℕ) (waiting : List Input) (world : W) : Type 0 where
+    -- what is read opens to what the acknowledged inputs left, and nothing else
     pub start : W
+    pub opened : opens m reads ≡ Ok start
     pub counted : m.count start ≡ acknowledged
     pub behind : IsRunOfPrefix (Ok start) waiting world
 
@@ -74,12 +74,12 @@ OfBytes fault.OtherGrid = Unit {0}
 OfBytes fault.SmallerLimits = Unit {0}
 OfBytes fault.Version = Unit {0}
 
--- Why opening fails: what the bytes open to, where the disk is honest; or the device failed; or memory was refused; or a first
--- side would be too large. The device's count of failures rises where it failed, and only there.
+-- Why opening fails: what the bytes open to, where the disk is honest; or the device failed; or memory was refused. The
+-- device's count of failures rises where it failed, and only there.
 abbrev pub OpenFails : {W : Type 0} → Meaning W → Type 0 → Result W SessionFault → ℕ → ℕ → SessionFault → Type 0
 OpenFails m honest result before after fault.Disk = before < after
 OpenFails m honest result before after fault.NoMemory = after ≡ before
-OpenFails m honest result before after fault.TooLarge = (after ≡ before) × (is_too_large m ≡ true)
+OpenFails m honest result before after fault.TooLarge = ⊥
 OpenFails m honest result before after fault.Failed = ⊥
 OpenFails m honest result before after fault.Damaged = (after ≡ before) × (honest → result ≡ Err fault.Damaged)
 OpenFails m honest result before after fault.OtherCommands = (after ≡ before) × (honest → result ≡ Err fault.OtherCommands)

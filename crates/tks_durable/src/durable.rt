@@ -87,7 +87,8 @@ impl<D: Disk, M: Machine> Durable<D, M> {
     }
 
     /// While no call has failed, the inputs that wait leave the world, behind what the disk opens to; all that a crash may leave
-    /// opens so; and that is a state to which just the acknowledged inputs led.
+    /// opens so; that is a state to which just the acknowledged inputs led; and as long as no call of the disk is made, a crash
+    /// leaves what opens to what a prefix of the inputs leaves that wait.
     pub fn stands(&self)
         ensures world { self.now.journal.failed ≡ false → D.honest self.now.journal.disk
             → Stands (M.meaning self.now.machine) (D.view self.now.journal.disk) self.now.waiting self.now.world }
@@ -95,6 +96,9 @@ impl<D: Disk, M: Machine> Durable<D, M> {
             → AllOpenTo (M.meaning self.now.machine) (D.view self.now.journal.disk) (opens (M.meaning self.now.machine) (D.view self.now.journal.disk).reads) }
         ensures acknowledged { self.now.journal.failed ≡ false → D.honest self.now.journal.disk
             → OpensToCount (M.meaning self.now.machine) (D.view self.now.journal.disk).reads self.now.acknowledged }
+        ensures moments { self.now.journal.failed ≡ false → D.honest self.now.journal.disk
+            → LeavesOnly (D.view self.now.journal.disk) (D.view self.now.journal.disk)
+            (OpensToPrefix (M.meaning self.now.machine) (opens (M.meaning self.now.machine) (D.view self.now.journal.disk).reads) self.now.waiting) }
     {
         self.journal.stands();
     }
@@ -129,8 +133,14 @@ impl<D: Disk, M: Machine> Durable<D, M> {
 
     /// Gives the disk and the machine back, and writes nothing: what waits is lost.
     pub fn close(self) -> (D, M)
-        ensures { (result.0 ≡ self.journal.disk) × (result.1 ≡ self.machine) }
+        ensures back { (result.0 ≡ self.journal.disk) × (result.1 ≡ self.machine) }
+
+        // A crash at any moment of the call leaves what opens to what a prefix of the inputs leaves.
+        ensures any_moment { self.journal.failed ≡ false → D.honest self.journal.disk
+            → LeavesOnly (D.view self.journal.disk) (D.view result.0)
+            (OpensToPrefix (M.meaning self.machine) (opens (M.meaning self.machine) (D.view self.journal.disk).reads) self.waiting) }
     {
+        self.journal.stands();
         let Durable {
             alloc: _,
             journal,
@@ -151,10 +161,16 @@ impl<D: Disk, M: Machine> Durable<D, M> {
             × (self.new ≡ record self.old { world = self.new.world; waiting = self.old.waiting ++ input.now ∷ [] })) }
         ensures refused { IfErr result (λ why. PostRefused (M.meaning self.old.machine) self.old input.now why) }
         ensures unchanged { OnErr result (self.new ≡ self.old) }
+
+        // A crash at any moment of the call leaves what opens to what a prefix of the inputs leaves that waited.
+        ensures any_moment { self.old.journal.failed ≡ false → D.honest self.old.journal.disk
+            → LeavesOnly (D.view self.old.journal.disk) (D.view self.new.journal.disk)
+            (OpensToPrefix (M.meaning self.old.machine) (opens (M.meaning self.old.machine) (D.view self.old.journal.disk).reads) self.old.waiting) }
     {
         if self.journal.has_failed() {
             return Err(Refused::Failed);
         }
+        self.journal.stands();
         if self.machine.pending() <= self.waiting {
             return Err(Refused::PendingFull);
         }

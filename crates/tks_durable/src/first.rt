@@ -23,7 +23,7 @@ pub struct FirstSide<W> {
 }
 
 /// What the first side of a machine's disk holds.
-#[tactic(auto, using(crate::proofs::Starts::first_opens, crate::proofs::Starts::begins, crate::proofs::Starts::begins_not, crate::proofs::Starts::bytes_too_large, crate::proofs::Starts::head_too_large))]
+#[tactic(auto, using(crate::proofs::Starts::first_opens, crate::proofs::Starts::begins, crate::proofs::Starts::begins_not))]
 pub fn first_side<M: Machine>(
     alloc: Global,
     machine: &M,
@@ -43,9 +43,6 @@ pub fn first_side<M: Machine>(
     let bytes = machine.first_bytes(alloc)?;
     let header = machine.header(alloc, 1, bytes.len() as u64)?;
     let head = spell(alloc, &header)?;
-    if bytes.len() >= 1 << 60 || head.len() >= 1 << 60 {
-        return Err(SessionFault::TooLarge);
-    }
     Ok(FirstSide {
         world,
         header,

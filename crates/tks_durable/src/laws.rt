@@ -36,7 +36,7 @@ pub fn a_crash_keeps_what_was_acknowledged<D: Disk, M: Machine>(durable: &Durabl
     ensures { (images : Images) (world : M.World) → durable.now.journal.failed ≡ false → D.honest durable.now.journal.disk
         → OpensToPrefix (M.meaning durable.now.machine) (opens (M.meaning durable.now.machine) (D.view durable.now.journal.disk).reads) durable.now.waiting images
         → opens (M.meaning durable.now.machine) images ≡ Ok world
-        → HoldsAcknowledged (M.meaning durable.now.machine) durable.now.acknowledged durable.now.waiting world }
+        → HoldsAcknowledged (M.meaning durable.now.machine) (D.view durable.now.journal.disk).reads durable.now.acknowledged durable.now.waiting world }
 {
     durable.stands();
 }

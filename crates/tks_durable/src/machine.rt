@@ -1,5 +1,5 @@
 //! What is made durable: a machine.
-ghost use Rattle.std.specs.Prelude.{◌≡◌, List, ℕ, IfOk, IfErr, OnErr, Some};
+ghost use Rattle.std.specs.Prelude.{◌≡◌, ◌<◌, ◌+◌, ◌^◌, List, ℕ, length, IfOk, IfErr, OnOk, OnErr, Some};
 ghost use Rattle.tks_spelling.specs.Header.{AreNames, header};
 ghost use Rattle.tks_spelling.specs.declared.header.Header.{Header};
 ghost use Rattle.tks_durable.specs.Machine.{Meaning, accepts};
@@ -19,9 +19,10 @@ pub trait Machine {
     /// What inputs do, and how states are kept.
     ghost meaning: { Self → Meaning Self.World };
 
-    /// What an input does. A refused one changes nothing.
+    /// What an input does. An accepted one adds one to the count of inputs, a refused one changes nothing.
     fn step(&self, alloc: Global, world: &mut Self::World, input: &Input) -> Result<Reply, Refused>
         ensures accepted { IfOk result (λ reply. (meaning self.now).step world.old input.now ≡ accepts world.new reply) }
+        ensures counted { OnOk result ((meaning self.now).count world.new ≡ (meaning self.now).count world.old + 1) }
         ensures refused { IfErr result (λ why. RefusedAs why ((meaning self.now).step world.old input.now)) }
         ensures unchanged { OnErr result (world.new ≡ world.old) };
 
@@ -38,13 +39,15 @@ pub trait Machine {
     ) -> Result<Option<Self::World>, AllocError>
         ensures { IfOk result (λ found. found ≡ (meaning self.now).stored header.now bytes.now) };
 
-    /// The bytes that spell the state before any input, behind any header of this machine.
+    /// The bytes that spell the state before any input, behind any header of this machine; fewer than 2^40.
     fn first_bytes(&self, alloc: Global) -> Result<Vec<u8>, AllocError>
         ensures value { IfOk result (λ bytes. bytes.items ≡ (meaning self.now).first_bytes) }
         ensures stored { IfOk result (λ bytes. (h : Header) → h.grid ≡ (meaning self.now).grid → h.names ≡ (meaning self.now).names
-            → (meaning self.now).stored h bytes.items ≡ Some (meaning self.now).first) };
+            → (meaning self.now).stored h bytes.items ≡ Some (meaning self.now).first) }
+        ensures short { IfOk result (λ bytes. length bytes.items < 2 ^ 40) };
 
-    /// The header of a side of this generation, behind which a world of so many bytes stands. It has a spelling.
+    /// The header of a side of this generation, behind which a world of so many bytes stands. It has a spelling, of fewer than
+    /// 2^40 bytes.
     fn header(
         &self,
         alloc: Global,
@@ -53,7 +56,8 @@ pub trait Machine {
     ) -> Result<Header, AllocError>
         ensures value { IfOk result (λ h. h ≡ record { generation = generation; grid = (meaning self.now).grid; names = (meaning self.now).names; world_length = world_length }) }
         ensures names { IfOk result (λ h. AreNames h.names) }
-        ensures legal { IfOk result (λ h. header.Legal h) };
+        ensures legal { IfOk result (λ h. header.Legal h) }
+        ensures short { IfOk result (λ h. length (header.write h) < 2 ^ 40) };
 
     /// Whether a state keeps within the limits.
     fn is_within(&self, world: &Self::World) -> bool

@@ -128,8 +128,7 @@ impl<D: Disk, M: Machine> Durable<D, M> {
             (λ s. LeavesOnly (D.view disk) (D.view s.journal.disk) (OpensAsOneOf (M.meaning machine) (D.view disk).may_leave))
             (λ x. LeavesOnly (D.view disk) (D.view x.disk) (OpensAsOneOf (M.meaning machine) (D.view disk).may_leave)) }
 
-        // A fault is the bytes' own, or the device failed, or memory was refused, or a first side would be too large. Nothing was
-        // written but where the device failed.
+        // A fault is the bytes' own, or the device failed, or memory was refused. Nothing was written but where the device failed.
         ensures fault { IfErr result (λ x. OpenFails (M.meaning machine) (D.honest disk) (opens (M.meaning machine) (D.view disk).reads) (D.failures disk) (D.failures x.disk) x.fault) }
         ensures unwritten { D.honest disk → IfErr result (λ x. x.fault ≢ DeviceFailed → Unwritten (D.view disk) (D.view x.disk)) }
         ensures machine { IfErr result (λ x. x.machine ≡ machine) }

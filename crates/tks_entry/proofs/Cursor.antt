@@ -1,17 +1,17 @@
 -- The cursor is shown.
-use Rattle.std.proofs.Common.{◌≡◌, ℕ, zero, suc, ◌+◌, ◌-◌, ◌<◌, ◌≤◌, eqb, max, nat_lt, true, false, if◌then◌else◌, List, [], ◌∷◌, length, get_or, drop, Option, Some, None, refl, sym, ap, ◌∙◌, arith}
+use Rattle.std.proofs.Common.{◌≡◌, ℕ, zero, suc, ◌+◌, ◌-◌, ◌<◌, ◌≤◌, nat_lt, false, if◌then◌else◌, List, [], ◌∷◌, length, drop, Option, Some, None, refl, ap, ◌∙◌, arith}
 use Rattle.std.specs.Prelude.{map, option_and_then, slice_get}
 use Rattle.std.specs.List.{range_with_len}
 use Rattle.std.proofs.lemmas.Bool.Decides.{nat_tests}
 use Rattle.std.proofs.lemmas.Option.{slice_get-get_or}
 use Rattle.std.proofs.lemmas.List.FromFn.{length-map-range_with_len, get_or-map-range_with_len}
-use Rattle.tks_opt.specs.Cells.{space, character, line_cell, row, rows}
+use Rattle.tks_opt.specs.Cells.{space, character, row, rows}
 use Rattle.tks_opt.specs.Options.{value_in}
 use Rattle.tks_opt.specs.Table.{max_size}
 use Rattle.tks_opt.specs.Values.{number_within}
 use Rattle.tks_opt.specs.declared.name.OptionName.TheVariants as name
 use Rattle.tks_entry.specs.Entry.{Entry, cursor_place}
-use Rattle.tks_entry.specs.Shown.{or_length, requested_width, masked, first_seen, seen, line_in_first, shown}
+use Rattle.tks_entry.specs.Shown.{or_length, requested_width, masked, first_seen, seen, line_in_first}
 use Rattle.tks_entry.specs.Laws.{cursor_column, ShowsCursor}
 
 -- what stands behind others

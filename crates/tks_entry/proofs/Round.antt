@@ -1,9 +1,9 @@
 -- What comes in and goes out again.
-use Rattle.std.proofs.Common.{◌≡◌, ℕ, ◌+◌, ◌-◌, ◌^◌, ◌<◌, ◌≤◌, ◌&&◌, nat_lt, min, Bool, true, false, if◌then◌else◌, List, [], ◌∷◌, ◌++◌, length, take, drop, refl, sym, ap, subst, ◌∙◌, arith}
+use Rattle.std.proofs.Common.{◌≡◌, ℕ, ◌+◌, ◌^◌, ◌<◌, ◌≤◌, ◌&&◌, nat_lt, min, Bool, true, false, if◌then◌else◌, List, [], ◌∷◌, ◌++◌, length, take, drop, refl, sym, ap, subst, ◌∙◌, arith}
 use Rattle.std.proofs.lemmas.Bool.Decides.{nat_tests}
 use Rattle.std.proofs.lemmas.List.{length-append, length-take-le, length-drop, drop-drop, drop_at, take-append-drop}
 use Rattle.std.proofs.Math.Seq.{take-append_seam}
-use Rattle.tks_entry.specs.Entry.{Entry, cursor_place, kept_place, is_editable, moved_on, moved_back, put_in, taken_out, inserted, deleted}
+use Rattle.tks_entry.specs.Entry.{Entry, cursor_place, kept_place, is_editable, moved_on, moved_back, put_in, taken_out, deleted}
 use Rattle.tks_entry.specs.Laws.{in_and_out, StandsAs}
 
 -- the text with more in it

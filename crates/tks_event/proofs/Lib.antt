@@ -12,3 +12,4 @@ pub mod Bits
 pub mod SpelledBack
 pub mod Equal
 pub mod Short
+pub mod Moved

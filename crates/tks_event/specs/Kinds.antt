@@ -47,3 +47,20 @@ is_detail kind.KeyRelease text = is_keysym text
 is_detail kind.ButtonPress text = is_button text
 is_detail kind.ButtonRelease text = is_button text
 is_detail other text = false
+
+-- a key goes down or up
+abbrev pub is_of_key : Kind → Bool
+is_of_key kind.KeyPress = true
+is_of_key kind.KeyRelease = true
+is_of_key k = false
+
+-- a button goes down or up
+abbrev pub is_of_button : Kind → Bool
+is_of_button kind.ButtonPress = true
+is_of_button kind.ButtonRelease = true
+is_of_button k = false
+
+-- an event with a name of its own
+abbrev pub is_virtual : Kind → Bool
+is_virtual kind.Virtual = true
+is_virtual k = false

@@ -7,6 +7,7 @@ pub mod Reading
 pub mod View
 pub mod Canonical
 pub mod Equality
+pub mod Event
 pub mod Held
 pub mod Numbers
 pub mod Legality

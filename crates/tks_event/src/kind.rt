@@ -1,6 +1,6 @@
 //! Kinds of events.
 ghost use Rattle.std.specs.Prelude.{◌≡◌};
-ghost use Rattle.tks_event.specs.Kinds.{kind_named, kind_name, same_kind, is_button, is_detail};
+ghost use Rattle.tks_event.specs.Kinds.{kind_named, kind_name, same_kind, is_button, is_detail, is_of_key, is_of_button, is_virtual};
 ghost use Rattle.tks_event.specs.Numbers.{kind_number, kind_numbered};
 
 use crate::keysym::is_keysym;
@@ -132,4 +132,25 @@ pub fn is_button(text: &[u8]) -> bool
         [c] => (b'1'..=b'5').contains(c),
         _ => false,
     }
+}
+
+/// Whether it is that of a key that goes down or up.
+pub fn is_of_key(kind: Kind) -> bool
+    ensures { result ≡ is_of_key kind }
+{
+    matches!(kind, Kind::KeyPress | Kind::KeyRelease)
+}
+
+/// Whether it is that of a button that goes down or up.
+pub fn is_of_button(kind: Kind) -> bool
+    ensures { result ≡ is_of_button kind }
+{
+    matches!(kind, Kind::ButtonPress | Kind::ButtonRelease)
+}
+
+/// Whether it is that of an event with a name of its own, `<<name>>`.
+pub fn is_virtual(kind: Kind) -> bool
+    ensures { result ≡ is_virtual kind }
+{
+    matches!(kind, Kind::Virtual)
 }

@@ -17,14 +17,15 @@ mod reading;
 mod sequence;
 mod spelling;
 mod validity;
+mod virtual_name;
 mod words;
 
 pub use collected::MAX_EVENTS;
 pub use equality::are_equal;
-pub use event::Event;
+pub use event::{Event, EventFields};
 pub use held::Held;
 pub use keysym::{is_keysym, is_modifier_key, keysym_char};
-pub use kind::{Kind, is_button};
+pub use kind::{Kind, is_button, is_of_button, is_of_key, is_virtual};
 pub use laws::{
     canonical_reads_back, canonical_spells, kinds_have_numbers, one_pattern, one_sequence,
 };
@@ -34,3 +35,4 @@ pub use parsing::{parse_pattern, parse_sequence};
 pub use pattern::{Pattern, Repeated};
 pub use sequence::Sequence;
 pub use validity::{is_name, is_sequence};
+pub use virtual_name::VirtualName;

@@ -2,6 +2,7 @@ pub mod Suffixes
 pub mod Climbing
 pub mod Operands
 pub mod Literals
+pub mod Fronts
 pub mod Told
 pub mod Spelled
 pub mod Wide

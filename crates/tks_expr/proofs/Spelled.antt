@@ -21,7 +21,7 @@ use Rattle.tks_parse.proofs.Faults.{part_fault, parts_fault, quoted_fault, unclo
 use Rattle.tks_parse.proofs.Spelled.{parts_read, script_reads, quoted_whole, next_rest, scalar_at, braced_name_at, braced_name_rest, nested_at, element_at, variable_at}
 use Rattle.tks_parse.proofs.Tests.{or_left, or_right}
 use Rattle.tks_parse.proofs.Told.{index_rest}
-use Rattle.tks_expr.specs.Expression.{Then, SpaceThen, LiteralThen, IsOnePart, OperandThen, StartsOperand, SignedThen, JoinThen, ChainThen, LevelThen, ConditionalThen, InsideThen, ExprThen, opens_operand, OperandFails, SignedFails, LevelFails, ConditionalFails, InsideFails, ExprFails, ExprOf}
+use Rattle.tks_expr.specs.Expression.{Then, SpaceThen, LiteralThen, sign_of, IsOnePart, OperandThen, StartsOperand, SignedThen, ChainThen, LevelThen, ConditionalThen, InsideThen, ExprThen, opens_operand, OperandFails, SignedFails, LevelFails, ConditionalFails, InsideFails, ExprFails, ExprOf}
 use Rattle.tks_expr.specs.Literal.{literal_len, numeral_len, word_len}
 use Rattle.tks_expr.specs.Sign.{level_of, combined, unary_of}
 use Rattle.tks_expr.specs.Tree.{Expr, Literal, Made, One, Conditional}
@@ -30,6 +30,7 @@ use Rattle.tks_expr.specs.declared.operator.Unary.{Unary}
 use Rattle.tks_expr.specs.declared.sign.Join.{Join}
 use Rattle.tks_expr.proofs.Literals.{LiteralAt, literal_reads, literal_spelled}
 use Rattle.tks_expr.proofs.Climbing.{then_where, chain_from, chain_stops, chain_takes, when_some}
+use Rattle.tks_expr.proofs.Fronts.{no_space_read, sign_starts, sign_read, no_sign_read, JoinAt, join_read, no_join_read}
 use Rattle.tks_expr.proofs.Suffixes.{Leaves, Before, suffix_then, level_leaves, operand_at_leaves}
 use Rattle.tks_expr.proofs.Told.{expr_told}
 
@@ -56,7 +57,7 @@ is_blank : (c : ℕ) (u : List ℕ) → is_space c ≡ true → begins_space (c 
 is_blank c u e = rw e refl
 
 space_read : (t v : List ℕ) → SpaceThen t v → trim t ≡ v
-space_read _ _ (SpaceThen.none v e) = trim_none v e
+space_read _ _ (SpaceThen.none v e) = trim_none v (no_space_read v e)
 space_read _ _ (SpaceThen.space c t v e h) = trim_one c t (is_blank c t e) ∙ space_read t v h
 space_read _ _ (SpaceThen.backslash t v h) = trim_one 92 (10 ∷ t) refl ∙ space_read (10 ∷ t) v h
 
@@ -234,8 +235,8 @@ module _ (operand' : List ℕ → Read) where
   signs_none : (t : List ℕ) → StartsOperand t → signs t ≡ ([], t)
   signs_none [] h = refl
   signs_none (c ∷ u) h =
-      ap (λ b. cond b (signs u) (elim (unary_of c) [ None ↦ ([], c ∷ u) | Some op ↦ (op ∷ (signs u).0, (signs u).1) ])) h.0
-      ∙ ap (λ o. elim o as (λ _. List Unary × List ℕ) [ None ↦ ([], c ∷ u) | Some op ↦ (op ∷ (signs u).0, (signs u).1) ]) h.1
+      ap (λ b. cond b (signs u) (elim (unary_of c) [ None ↦ ([], c ∷ u) | Some op ↦ (op ∷ (signs u).0, (signs u).1) ])) (no_space_read (c ∷ u) h.0)
+      ∙ ap (λ o. elim o as (λ _. List Unary × List ℕ) [ None ↦ ([], c ∷ u) | Some op ↦ (op ∷ (signs u).0, (signs u).1) ]) (no_sign_read c h.1)
 
   -- one sign more
   more_signs : (op : Unary) (ops : List Unary) (r : Read) (e : Expr) (v : List ℕ) → then_read r (λ e v. Before (under ops e) v) ≡ Ok (e, v) → then_read r (λ e v. Before (One op (under ops e)) v) ≡ Ok (One op e, v)
@@ -249,13 +250,13 @@ module _ (operand' : List ℕ → Read) where
   signed_read : (Operand' : Then) → ReadsThen operand' Operand' → ReadsThen (signed operand') (SignedThen Operand')
   signed_read Operand' reads _ _ _ (SignedThen.space c e t v s h) = ap With (signs_space c t (is_blank c t s)) ∙ signed_read Operand' reads e t v h
   signed_read Operand' reads _ _ _ (SignedThen.backslash e t v h) = ap With (signs_space 92 (10 ∷ t) refl) ∙ signed_read Operand' reads e (10 ∷ t) v h
-  signed_read Operand' reads _ _ _ (SignedThen.sign c op e t v s k h) = ap With (signs_sign c op t s k) ∙ more_signs op (signs t).0 (operand' (signs t).1) e v (signed_read Operand' reads e t v h)
+  signed_read Operand' reads _ _ _ (SignedThen.sign op e t v h) = ap With (signs_sign (sign_of op) op t (sign_starts op t) (sign_read op)) ∙ more_signs op (signs t).0 (operand' (signs t).1) e v (signed_read Operand' reads e t v h)
   signed_read Operand' reads _ _ _ (SignedThen.operand e t v s h) = ap With (signs_none t s) ∙ ap (λ r. then_read r (λ e v. Ok (e, v))) (reads e t v h)
 
   signed_fault : (Fault' : Fails) → ReadsFault operand' Fault' → ReadsFault (signed operand') (SignedFails Fault')
   signed_fault Fault' reads _ _ (SignedFails.space c t f s h) = ap With (signs_space c t (is_blank c t s)) ∙ signed_fault Fault' reads t f h
   signed_fault Fault' reads _ _ (SignedFails.backslash t f h) = ap With (signs_space 92 (10 ∷ t) refl) ∙ signed_fault Fault' reads (10 ∷ t) f h
-  signed_fault Fault' reads _ _ (SignedFails.sign c op t f s k h) = ap With (signs_sign c op t s k) ∙ more_faults op (signs t).0 (operand' (signs t).1) f (signed_fault Fault' reads t f h)
+  signed_fault Fault' reads _ _ (SignedFails.sign op t f h) = ap With (signs_sign (sign_of op) op t (sign_starts op t) (sign_read op)) ∙ more_faults op (signs t).0 (operand' (signs t).1) f (signed_fault Fault' reads t f h)
   signed_fault Fault' reads _ _ (SignedFails.operand t f s h) = ap With (signs_none t s) ∙ ap (λ r. then_read r (λ e v. Ok (e, v))) (reads t f h)
 
 -- ---- levels
@@ -271,7 +272,7 @@ module _ (operand' : List ℕ → Read) (leaves : (t : List ℕ) → Leaves t (o
   Behind n a u = chain (is_level (suc n)) (Right n) a 0 u
 
   -- behind an operator of the level, its right operand is read
-  join_goes : (n : ℕ) (op : Join) (a : Expr) (u w : List ℕ) → level_of op ≡ suc n → JoinThen op u w → (r : Read) → level operand' n w ≡ r → Behind n a u ≡ then_read r (λ b v. Behind n (combined op a b) v)
+  join_goes : (n : ℕ) (op : Join) (a : Expr) (u w : List ℕ) → level_of op ≡ suc n → JoinAt op u w → (r : Read) → level operand' n w ≡ r → Behind n a u ≡ then_read r (λ b v. Behind n (combined op a b) v)
   join_goes n op a [] w l q r e = absurd q
   join_goes n op a (c ∷ z) w l q r e =
       let taken : is_level (suc n) op ≡ true = eq-eqb (level_of op) (suc n) l in
@@ -283,19 +284,19 @@ module _ (operand' : List ℕ → Read) (leaves : (t : List ℕ) → Leaves t (o
 
   chain_read : (n : ℕ) → ReadsThen (level operand' n) (L n) → (e : Expr) (t v : List ℕ) → ChainThen (L n) (suc n) e t v → then_read (level operand' n t) (Behind n) ≡ Behind n e v
   chain_read n below _ _ _ (ChainThen.first e t v h) = ap (λ r. then_read r (Behind n)) (below e t v h)
-  chain_read n below _ _ _ (ChainThen.more op a b t u w v j l q h) = chain_read n below a t u j ∙ join_goes n op a u w l q (Before b v) (below b w v h)
+  chain_read n below _ _ _ (ChainThen.more op a b t u w v j l q h) = chain_read n below a t u j ∙ join_goes n op a u w l (join_read op u w q) (Before b v) (below b w v h)
 
   level_read : (n : ℕ) → ReadsThen (level operand' n) (L n)
   unfolding level
   level_read zero e t v h = signed_read operand' Operand' reads e t v h
-  level_read (suc n) e t v h = chain_read n (level_read n) e t v h.0 ∙ chain_stops (is_level (suc n)) v h.1 (Right n) e
+  level_read (suc n) e t v h = chain_read n (level_read n) e t v h.0 ∙ chain_stops (is_level (suc n)) v (no_join_read (suc n) v h.1) (Right n) e
 
   module _ (Fault' : Fails) (faults : ReadsFault operand' Fault') where
     level_fault : (n : ℕ) → ReadsFault (level operand' n) (LevelFails Operand' Fault' n)
     unfolding level
     level_fault zero t f h = signed_fault operand' Fault' faults t f h
     level_fault (suc n) t f (inl h) = ap (λ r. then_read r (Behind n)) (level_fault n t f h)
-    level_fault (suc n) t f (inr (op, a, u, w, j, l, q, h)) = chain_read n (level_read n) a t u j ∙ join_goes n op a u w l q (Err f) (level_fault n w f h)
+    level_fault (suc n) t f (inr (op, a, u, w, j, l, q, h)) = chain_read n (level_read n) a t u j ∙ join_goes n op a u w l (join_read op u w q) (Err f) (level_fault n w f h)
 
 -- ---- `?:`, and all of it
 

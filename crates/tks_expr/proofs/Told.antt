@@ -19,13 +19,14 @@ use Rattle.tks_parse.proofs.Braced.{braced_told, unclosed_told, verbatim_told}
 use Rattle.tks_parse.proofs.Spelled.{variable_at}
 use Rattle.tks_parse.proofs.Tests.{if_case, and_cases, drop_one}
 use Rattle.tks_parse.proofs.Told.{BracketCase, bracket_is, bracket_fails, IndexCase, index_is, index_fails, PartCase, at_stop, at_char, at_escape, at_variable, at_bracket, at_index, at_fault, PartsOutcome, part_case, parts_told, brackets_told, indexes_told, index_rest}
-use Rattle.tks_expr.specs.Expression.{Then, SpaceThen, IsOnePart, OperandThen, StartsOperand, SignedThen, ChainThen, LevelThen, ConditionalThen, InsideThen, ExprThen, opens_operand, OperandFails, SignedFails, LevelFails, ConditionalFails, InsideFails, ExprFails, ExprOf}
+use Rattle.tks_expr.specs.Expression.{Then, SpaceThen, sign_of, IsOnePart, OperandThen, StartsOperand, SignedThen, ChainThen, LevelThen, ConditionalThen, InsideThen, ExprThen, opens_operand, OperandFails, SignedFails, LevelFails, ConditionalFails, InsideFails, ExprFails, ExprOf}
 use Rattle.tks_expr.specs.Literal.{literal_len, numeral_len, word_len}
 use Rattle.tks_expr.specs.Sign.{level_of, combined, join_at, unary_of}
 use Rattle.tks_expr.specs.Tree.{Expr, Made, One, Conditional}
 use Rattle.tks_expr.specs.Reading.{Read, then_read, bad_syntax, begins_name, begins_line, begins_space, trim, made, made_text, literal, close, operand, signs, under, signed, when, on_join, chain, is_level, level, colon, question, inner, operand_at, conditional_at, ended_read, expr_of}
 use Rattle.tks_expr.specs.declared.operator.Unary.{Unary}
 use Rattle.tks_expr.specs.declared.sign.Join.{Join}
+use Rattle.tks_expr.proofs.Fronts.{no_space_told, sign_told, start_told, join_none, join_told, no_join_told}
 use Rattle.tks_expr.proofs.Literals.{literal_reads, literal_spelled}
 use Rattle.tks_expr.proofs.Suffixes.{Suffix, Leaves, drop_none, suffix_then, suffix_drop, level_leaves, operand_at_leaves}
 
@@ -53,11 +54,11 @@ blank_told P space backslash c u k h =
 
 space_told : (t : List ℕ) → SpaceThen t (trim t)
 unfolding trim
-space_told [] = SpaceThen.none [] refl
+space_told [] = SpaceThen.none [] tt
 space_told (c ∷ u) =
     if_case (SpaceThen (c ∷ u)) (begins_space (c ∷ u)) _ _
     (λ k. blank_told (λ t. SpaceThen t (trim u)) (λ d t. SpaceThen.space d t (trim u)) (λ t. SpaceThen.backslash t (trim u)) c u k (space_told u))
-    (λ k. SpaceThen.none (c ∷ u) k)
+    (λ k. SpaceThen.none (c ∷ u) (no_space_told (c ∷ u) k))
 
 -- the same, where t is known as another text
 space_from : (t u : List ℕ) → t ≡ u → SpaceThen u (trim t)
@@ -200,13 +201,13 @@ module _ (operand' : List ℕ → Read) (Operand' : Then) (Fault' : Fails) (tell
   no_sign_told t (Ok x) s h = SignedThen.operand x.0 t x.1 s h
   no_sign_told t (Err f) s h = SignedFails.operand t f s h
 
-  sign_told : (c : ℕ) (op : Unary) (ops : List Unary) (u : List ℕ) (r : Read) → begins_space (c ∷ u) ≡ false → unary_of c ≡ Some op → Told S G u (then_read r (λ e v. Ok (under ops e, v))) → Told S G (c ∷ u) (then_read r (λ e v. Ok (One op (under ops e), v)))
-  sign_told c op ops u (Ok x) s e h = SignedThen.sign c op (under ops x.0) u x.1 s e h
-  sign_told c op ops u (Err f) s e h = SignedFails.sign c op u f s e h
+  one_told : (op : Unary) (ops : List Unary) (u : List ℕ) (r : Read) → Told S G u (then_read r (λ e v. Ok (under ops e, v))) → Told S G (sign_of op ∷ u) (then_read r (λ e v. Ok (One op (under ops e), v)))
+  one_told op ops u (Ok x) h = SignedThen.sign op (under ops x.0) u x.1 h
+  one_told op ops u (Err f) h = SignedFails.sign op u f h
 
   first_told : (c : ℕ) (u : List ℕ) (o : Option Unary) → begins_space (c ∷ u) ≡ false → unary_of c ≡ o → Told S G u (With (signs u)) → Told S G (c ∷ u) (With (elim o as (λ _. List Unary × List ℕ) [ None ↦ ([], c ∷ u) | Some op ↦ (op ∷ (signs u).0, (signs u).1) ]))
-  first_told c u None s e h = no_sign_told (c ∷ u) (operand' (c ∷ u)) (s, e) (tells (c ∷ u))
-  first_told c u (Some op) s e h = sign_told c op (signs u).0 u (operand' (signs u).1) s e h
+  first_told c u None s e h = no_sign_told (c ∷ u) (operand' (c ∷ u)) (start_told c u s e) (tells (c ∷ u))
+  first_told c u (Some op) s e h = subst (λ x. Told S G (x ∷ u) (With (op ∷ (signs u).0, (signs u).1))) (sym (sign_told c op e)) (one_told op (signs u).0 u (operand' (signs u).1) h)
 
   signed_told : Tells (signed operand') S G
   signed_told [] = no_sign_told [] (operand' []) tt (tells [])
@@ -218,10 +219,6 @@ module _ (operand' : List ℕ → Read) (Operand' : Then) (Fault' : Fails) (tell
       (λ k. first_told c u (unary_of c) k refl (signed_told u))
 
 -- ---- levels
-
-join_none : join_at [] ≡ None
-unfolding join_at
-join_none = refl
 
 picked : (taken : Join → Bool) (t : List ℕ) (y x : Join × ℕ) (b : Bool) → join_at t ≡ Some y → taken y.0 ≡ b → cond b (Option.Some y) None ≡ Some x → (join_at t ≡ Some x) × (taken x.0 ≡ true)
 picked taken t y x false e k h = absurd cc
@@ -245,20 +242,20 @@ module _ (operand' : List ℕ → Read) (Operand' : Then) (Fault' : Fails) (tell
     Goes u = (left : Expr) (k : ℕ) → ChainThen (L n) (suc n) left t (drop k u) → Told (L (suc n)) (M (suc n)) t (chain (is_level (suc n)) (λ op. level operand' n) left k u)
 
     right_told : (left : Expr) (c : ℕ) (u : List ℕ) → Goes u → ChainThen (L n) (suc n) left t (c ∷ u) → (x : Join × ℕ) → level_of x.0 ≡ suc n → join_at (c ∷ u) ≡ Some x → (r : Read) → Leaves (drop x.1 u) r → Told (L n) (M n) (drop x.1 u) r → Told (L (suc n)) (M (suc n)) t (then_read r (λ b v. chain (is_level (suc n)) (λ op. level operand' n) (combined x.0 left b) (length u - length v) u))
-    right_told left c u ih j x l e (Err f) s h = inr (x.0, left, c ∷ u, drop x.1 u, j, l, (x.1, e, refl), h)
+    right_told left c u ih j x l e (Err f) s h = inr (x.0, left, c ∷ u, drop x.1 u, j, l, join_told c u x e, h)
     right_told left c u ih j x l e (Ok y) s h =
         let rest : Suffix u y.1 = suffix_then u (drop x.1 u) y.1 (x.1, refl) (s y.0 y.1 refl) in
         ih (combined x.0 left y.0) (length u - length y.1)
-        (subst (λ w. ChainThen (L n) (suc n) (combined x.0 left y.0) t w) (sym (suffix_drop u y.1 rest)) (ChainThen.more x.0 left y.0 t (c ∷ u) (drop x.1 u) y.1 j l (x.1, e, refl) h))
+        (subst (λ w. ChainThen (L n) (suc n) (combined x.0 left y.0) t w) (sym (suffix_drop u y.1 rest)) (ChainThen.more x.0 left y.0 t (c ∷ u) (drop x.1 u) y.1 j l (join_told c u x e) h))
 
     step_told : (left : Expr) (c : ℕ) (u : List ℕ) → Goes u → ChainThen (L n) (suc n) left t (c ∷ u) → (o : Option (Join × ℕ)) → when (is_level (suc n)) (join_at (c ∷ u)) ≡ o → Told (L (suc n)) (M (suc n)) t (on_join (Ok (left, c ∷ u)) o (λ op k. then_read (level operand' n (drop k u)) (λ b v. chain (is_level (suc n)) (λ op. level operand' n) (combined op left b) (length u - length v) u)))
-    step_told left c u ih j None e = (j, e)
+    step_told left c u ih j None e = (j, no_join_told (suc n) (c ∷ u) e)
     step_told left c u ih j (Some x) e =
         let is = when_is (is_level (suc n)) (c ∷ u) (join_at (c ∷ u)) x refl e in
         right_told left c u ih j x (eqb-true (level_of x.0) (suc n) is.1) is.0 (level operand' n (drop x.1 u)) (level_leaves operand' leaves n (drop x.1 u)) (below (drop x.1 u))
 
     chain_told : (u : List ℕ) → Goes u
-    chain_told [] left k j = (subst (λ w. ChainThen (L n) (suc n) left t w) (drop_none k) j, ap (when (is_level (suc n))) join_none)
+    chain_told [] left k j = (subst (λ w. ChainThen (L n) (suc n) left t w) (drop_none k) j, no_join_told (suc n) [] (ap (when (is_level (suc n))) join_none))
     chain_told (c ∷ u) left (suc k) j = chain_told u left k j
     chain_told (c ∷ u) left zero j = step_told left c u (chain_told u) j (when (is_level (suc n)) (join_at (c ∷ u))) refl
 

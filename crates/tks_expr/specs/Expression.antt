@@ -2,8 +2,9 @@
 -- this project's own.
 --
 -- "t is X, then v" says that X stands at the front of t, and v behind it.
-use Rattle.std.specs.Prelude.{◌≡◌, ℕ, zero, suc, ◌<◌, Bool, true, false, ◌||◌, ◌==◌, List, [], ◌∷◌, ◌++◌, length, drop, ◌⊎◌, Some, None, Result, Ok, Err}
+use Rattle.std.specs.Prelude.{◌≡◌, ℕ, zero, suc, ◌<◌, ◌≤◌, Bool, true, false, ◌||◌, ◌==◌, List, [], ◌∷◌, ◌++◌, length, codes, ◌⊎◌, Result, Ok, Err}
 use Rattle.std.specs.Char.{is_digit}
+use Rattle.std.specs.List.{list_all}
 use Rattle.tks_text.specs.Integer.{is_space, AreDigits, BeginsOtherThan}
 use Rattle.tks_text.specs.declared.fault.ScriptFault.{ScriptFault}
 use Rattle.tks_parse.specs.Class.{is_name_char}
@@ -14,19 +15,27 @@ use Rattle.tks_parse.specs.Tree.{Script, Parts, no_part, variable, element, nest
 use Rattle.tks_parse.specs.declared.mode.Mode.TheVariants.{Quoted}
 use Rattle.tks_parse.specs.declared.syntax.Syntax.TheVariants.{Expressions}
 use Rattle.tks_expr.specs.Literal.{is_truth_word}
-use Rattle.tks_expr.specs.Reading.{begins_space, when, is_level, loosest}
-use Rattle.tks_expr.specs.Sign.{level_of, combined, is_letter, join_at, unary_of}
+use Rattle.tks_expr.specs.Sign.{level_of, loosest, combined, is_letter}
 use Rattle.tks_expr.specs.Tree.{Expr, Literal, Made, One, Conditional}
 use Rattle.tks_expr.specs.declared.operator.Unary.{Unary}
+use Rattle.tks_expr.specs.declared.operator.Unary.TheVariants.{Minus, Plus, Complement, Not}
+use Rattle.tks_expr.specs.declared.operator.Binary.{Binary}
+use Rattle.tks_expr.specs.declared.operator.Binary.TheVariants.{Multiply, Divide, Remainder, Add, Subtract, ShiftLeft, ShiftRight, Less, Greater, AtMost, AtLeast, Equal, NotEqual, SameText, OtherText, BitAnd, BitXor, BitOr}
 use Rattle.tks_expr.specs.declared.sign.Join.{Join}
+use Rattle.tks_expr.specs.declared.sign.Join.TheVariants.{Of, And, Or}
 
 -- "t is e, then v"
 abbrev pub Then : Type 1
 Then = Expr → List ℕ → List ℕ → Type 0
 
+-- no white space stands at the front: no blank, tab or newline, and no backslash before a newline
+abbrev pub NoSpace : List ℕ → Type 0
+NoSpace [] = Unit {0}
+NoSpace (c ∷ t) = (is_space c ≡ false) × (c ≡ 92 → BeginsNot (λ d. d == 10) t)
+
 -- white space, then v, which begins with none: blanks, tabs, newlines, and backslashes before newlines
 pub data SpaceThen : List ℕ → List ℕ → Type 0 where
-  none : (v : List ℕ) → begins_space v ≡ false → SpaceThen v v
+  none : (v : List ℕ) → NoSpace v → SpaceThen v v
   space : (c : ℕ) (t v : List ℕ) → is_space c ≡ true → SpaceThen t v → SpaceThen (c ∷ t) v
   backslash : (t v : List ℕ) → SpaceThen (10 ∷ t) v → SpaceThen (92 ∷ 10 ∷ t) v
 
@@ -54,24 +63,68 @@ pub data OperandThen (Inside : Then) (d : ℕ) : Expr → List ℕ → List ℕ 
   braces : (inside value u w v : List ℕ) → BracedThen inside u w → Verbatim inside value → SpaceThen w v → OperandThen Inside d (Made (chars value no_part)) (123 ∷ u) v
   literal : (text t w v : List ℕ) → LiteralThen text t w → SpaceThen w v → OperandThen Inside d (Literal text) t v
 
+-- the sign of an operator of one operand
+abbrev pub sign_of : Unary → ℕ
+sign_of Minus = 45
+sign_of Plus = 43
+sign_of Complement = 126
+sign_of Not = 33
+
 -- no white space and no sign stands at the front
 abbrev pub StartsOperand : List ℕ → Type 0
 StartsOperand [] = Unit {0}
-StartsOperand (c ∷ u) = (begins_space (c ∷ u) ≡ false) × (unary_of c ≡ None)
+StartsOperand (c ∷ u) = NoSpace (c ∷ u) × ((op : Unary) → c ≡ sign_of op → ⊥)
 
 -- signs and an operand, with white space before each
 pub data SignedThen (Operand : Then) : Expr → List ℕ → List ℕ → Type 0 where
   space : (c : ℕ) (e : Expr) (t v : List ℕ) → is_space c ≡ true → SignedThen Operand e t v → SignedThen Operand e (c ∷ t) v
   backslash : (e : Expr) (t v : List ℕ) → SignedThen Operand e (10 ∷ t) v → SignedThen Operand e (92 ∷ 10 ∷ t) v
-  sign : (c : ℕ) (op : Unary) (e : Expr) (t v : List ℕ) → begins_space (c ∷ t) ≡ false → unary_of c ≡ Some op → SignedThen Operand e t v → SignedThen Operand (One op e) (c ∷ t) v
+  sign : (op : Unary) (e : Expr) (t v : List ℕ) → SignedThen Operand e t v → SignedThen Operand (One op e) (sign_of op ∷ t) v
   operand : (e : Expr) (t v : List ℕ) → StartsOperand t → Operand e t v → SignedThen Operand e t v
 
 -- ---- levels
 
+-- how an operator of two operands is written
+abbrev pub binary_written : Binary → List ℕ
+binary_written Multiply = codes "*"
+binary_written Divide = codes "/"
+binary_written Remainder = codes "%"
+binary_written Add = codes "+"
+binary_written Subtract = codes "-"
+binary_written ShiftLeft = codes "<<"
+binary_written ShiftRight = codes ">>"
+binary_written Less = codes "<"
+binary_written Greater = codes ">"
+binary_written AtMost = codes "<="
+binary_written AtLeast = codes ">="
+binary_written Equal = codes "=="
+binary_written NotEqual = codes "!="
+binary_written SameText = codes "eq"
+binary_written OtherText = codes "ne"
+binary_written BitAnd = codes "&"
+binary_written BitXor = codes "^"
+binary_written BitOr = codes "|"
+
+abbrev pub written : Join → List ℕ
+written (Of op) = binary_written op
+written And = codes "&&"
+written Or = codes "||"
+
+-- `eq` and `ne` are words
+abbrev pub is_word : Join → Bool
+is_word op = list_all is_letter (written op)
+
+-- an operator is written at the front of t, then v, where no letter stands behind a word
+abbrev pub Stands : Join → List ℕ → List ℕ → Type 0
+Stands op t v = (t ≡ written op ++ v) × (is_word op ≡ true → BeginsNot is_letter v)
+
 -- the operator that t begins with, the longest one, then v
 abbrev pub JoinThen : Join → List ℕ → List ℕ → Type 0
-JoinThen op [] v = ⊥
-JoinThen op (c ∷ u) v = (n : ℕ) × (join_at (c ∷ u) ≡ Some (op, n)) × (drop n u ≡ v)
+JoinThen op t v = Stands op t v × ((other : Join) (w : List ℕ) → Stands other t w → length (written other) ≤ length (written op))
+
+-- t begins with no operator of this level
+abbrev pub NoJoin : ℕ → List ℕ → Type 0
+NoJoin n t = (op : Join) (v : List ℕ) → JoinThen op t v → level_of op ≡ n → ⊥
 
 -- operands of the level below with operators of this level between them, to the left
 pub data ChainThen (Below : Then) (n : ℕ) : Expr → List ℕ → List ℕ → Type 0 where
@@ -81,7 +134,7 @@ pub data ChainThen (Below : Then) (n : ℕ) : Expr → List ℕ → List ℕ →
 -- an expression of a level: up to where no operator of it, or of a tighter one, stands
 abbrev pub LevelThen : Then → ℕ → Then
 LevelThen Operand zero e t v = SignedThen Operand e t v
-LevelThen Operand (suc n) e t v = ChainThen (LevelThen Operand n) (suc n) e t v × (when (is_level (suc n)) (join_at v) ≡ None)
+LevelThen Operand (suc n) e t v = ChainThen (LevelThen Operand n) (suc n) e t v × NoJoin (suc n) v
 
 -- ---- `?:`, to the right
 
@@ -117,7 +170,7 @@ pub data OperandFails (Inside : Then) (InsideFails : Fails) (d : ℕ) : List ℕ
 pub data SignedFails (OperandFault : Fails) : List ℕ → ScriptFault → Type 0 where
   space : (c : ℕ) (t : List ℕ) (fault : ScriptFault) → is_space c ≡ true → SignedFails OperandFault t fault → SignedFails OperandFault (c ∷ t) fault
   backslash : (t : List ℕ) (fault : ScriptFault) → SignedFails OperandFault (10 ∷ t) fault → SignedFails OperandFault (92 ∷ 10 ∷ t) fault
-  sign : (c : ℕ) (op : Unary) (t : List ℕ) (fault : ScriptFault) → begins_space (c ∷ t) ≡ false → unary_of c ≡ Some op → SignedFails OperandFault t fault → SignedFails OperandFault (c ∷ t) fault
+  sign : (op : Unary) (t : List ℕ) (fault : ScriptFault) → SignedFails OperandFault t fault → SignedFails OperandFault (sign_of op ∷ t) fault
   operand : (t : List ℕ) (fault : ScriptFault) → StartsOperand t → OperandFault t fault → SignedFails OperandFault t fault
 
 -- the first operand of a level fails, or one behind an operator

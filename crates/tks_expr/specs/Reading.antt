@@ -10,7 +10,7 @@ use Rattle.tks_parse.specs.Tree.{Script, Parts, no_part}
 use Rattle.tks_parse.specs.declared.syntax.Syntax.{Syntax}
 use Rattle.tks_parse.specs.declared.syntax.Syntax.TheVariants.{Expressions}
 use Rattle.tks_expr.specs.Literal.{literal_len}
-use Rattle.tks_expr.specs.Sign.{level_of, combined, join_at, unary_of}
+use Rattle.tks_expr.specs.Sign.{level_of, loosest, combined, join_at, unary_of}
 use Rattle.tks_expr.specs.Tree.{Expr, Literal, Made, One, Conditional}
 use Rattle.tks_expr.specs.declared.operator.Unary.{Unary}
 use Rattle.tks_expr.specs.declared.sign.Join.{Join}
@@ -137,10 +137,6 @@ colon inner c a (x ∷ u) = if x == 58 then then_read (inner u) (λ b v. Ok (Con
 abbrev pub question : (List ℕ → Read) → Expr → List ℕ → Read
 question inner c [] = Ok (c, [])
 question inner c (x ∷ u) = if x == 63 then then_read (inner u) (colon inner c) else Ok (c, x ∷ u)
-
--- the loosest level of binary operators
-abbrev pub loosest : ℕ
-loosest = 11
 
 abbrev pub conditional : (List ℕ → Read) → (List ℕ → Read) → List ℕ → Read
 conditional inner operand t = then_read (level operand loosest t) (question inner)

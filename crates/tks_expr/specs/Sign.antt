@@ -35,6 +35,10 @@ level_of (Of op) = binary_level op
 level_of And = 10
 level_of Or = 11
 
+-- the level that binds loosest
+abbrev pub loosest : ℕ
+loosest = 11
+
 -- two operands and what joins them
 abbrev pub combined : Join → Expr → Expr → Expr
 combined (Of op) a b = Two op a b

@@ -7,7 +7,7 @@ use Rattle.tks_text.specs.Limits.{Wider}
 use Rattle.tks_text.specs.declared.limits.Limits.{Limits}
 use Rattle.tks_bind.specs.declared.binding.Binding.{Binding}
 use Rattle.tks_bind.specs.declared.virtual_event.VirtualEvent.{VirtualEvent}
-use Rattle.tks_event.specs.declared.event.Event.{Event}
+use Rattle.tks_event.specs.Event.{Event}
 use Rattle.tks_event.specs.declared.pattern.Pattern.{Pattern}
 use Rattle.tks_lines.specs.Lines.{Lines}
 use Rattle.tks_listbox.specs.Listbox.{Listbox}

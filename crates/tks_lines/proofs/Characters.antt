@@ -1,12 +1,12 @@
 -- Characters and their tags, one by one.
-use Rattle.std.proofs.Common.{◌≡◌, ℕ, zero, suc, ◌+◌, ◌-◌, ◌<◌, ◌≤◌, min, max, Bool, true, false, if◌then◌else◌, List, [], ◌∷◌, ◌++◌, length, take, drop, map, Option, Some, None, refl, sym, ap, ◌∙◌, subst, arith}
+use Rattle.std.proofs.Common.{◌≡◌, ℕ, zero, suc, ◌+◌, ◌<◌, ◌≤◌, max, Bool, true, false, if◌then◌else◌, List, [], ◌∷◌, ◌++◌, length, take, drop, map, Some, None, refl, sym, ap, ◌∙◌, subst, arith}
 use Rattle.std.specs.Prelude.{replicate, slice_get}
 use Rattle.std.specs.List.{filter}
 use Rattle.std.proofs.lemmas.List.{length-take-le, length-replicate}
 use Rattle.tks_lines.specs.declared.parts.Tag.{Tag}
 use Rattle.tks_lines.specs.Lines.{Lines, Formed, AreLong, is_editable, is_on, is_true, spliced, cut, grown, shrunk, put_in, deleted, moved_back}
 use Rattle.tks_lines.specs.Commands.{names_on}
-use Rattle.tks_lines.specs.Laws.{Character, character_at, PutsIn, TakesOut}
+use Rattle.tks_lines.specs.Laws.{PutsIn, TakesOut}
 
 -- ---- what stands at a place
 

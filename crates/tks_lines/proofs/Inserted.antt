@@ -1,6 +1,5 @@
 -- What characters come into stays formed.
-use Rattle.std.proofs.Common.{◌≡◌, ℕ, ◌≤◌, List, length, map, subst, sym}
-use Rattle.tks_opt.specs.Options.{Options}
+use Rattle.std.proofs.Common.{◌≡◌, ℕ, ◌≤◌, List, length, map}
 use Rattle.tks_lines.specs.declared.parts.Tag.{Tag}
 use Rattle.tks_lines.specs.declared.parts.Mark.{Mark}
 use Rattle.tks_lines.specs.Lines.{Lines, Formed, grown, is_around, is_among, moved_on, spliced, with_tags}

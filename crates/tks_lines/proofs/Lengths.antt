@@ -1,10 +1,10 @@
 -- Tags are as long as the text.
-use Rattle.std.proofs.Common.{◌≡◌, ℕ, ◌+◌, ◌-◌, ◌<◌, ◌≤◌, min, max, Bool, true, false, not, if◌then◌else◌, List, [], ◌∷◌, ◌++◌, length, take, drop, map, refl, sym, ap, ◌∙◌, subst, arith}
+use Rattle.std.proofs.Common.{◌≡◌, ℕ, ◌+◌, ◌-◌, ◌≤◌, min, max, Bool, true, false, not, if◌then◌else◌, List, [], ◌∷◌, ◌++◌, length, take, drop, map, ◌∙◌, arith}
 use Rattle.std.specs.Prelude.{replicate}
-use Rattle.std.specs.List.{filter, list_any}
+use Rattle.std.specs.List.{list_any}
 use Rattle.std.proofs.lemmas.List.{length-append, length-take-le, length-take, length-drop, length-replicate}
 use Rattle.tks_lines.specs.declared.parts.Tag.{Tag}
-use Rattle.tks_lines.specs.Lines.{AreLong, is_listed, is_tag, is_around, is_among, new_tag, with_tag, with_tags, without_tags, tagged, painted, grown, shrunk, spliced, cut}
+use Rattle.tks_lines.specs.Lines.{AreLong, is_tag, is_around, is_among, new_tag, with_tag, with_tags, without_tags, tagged, painted, grown, shrunk, spliced, cut}
 
 all_long : (len long : ℕ) (f : Tag → Tag) → ((g : Tag) → length g.on ≡ len → length (f g).on ≡ long) → (tags : List Tag) → AreLong len tags → AreLong long (map f tags)
 all_long len long f h [] a = a

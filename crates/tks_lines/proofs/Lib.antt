@@ -12,3 +12,7 @@ pub mod Spelling
 pub mod Characters
 pub mod Ends
 pub mod Restored
+pub mod Kept
+pub mod IndexRead
+pub mod IndexTold
+pub mod Indexed

@@ -1,5 +1,5 @@
 -- An index as it is told is read as the place it tells.
-use Rattle.std.proofs.Common.{◌≡◌, ℕ, zero, suc, ◌+◌, ◌-◌, ◌^◌, ◌<◌, ◌≤◌, ◌==◌, ◌&&◌, min, Bool, true, false, if◌then◌else◌, List, [], ◌∷◌, ◌++◌, length, take, drop, Option, Some, None, refl, sym, ap, ◌∙◌, arith, append-nil, length-append}
+use Rattle.std.proofs.Common.{◌≡◌, ℕ, ◌+◌, ◌-◌, ◌^◌, ◌<◌, ◌≤◌, ◌==◌, ◌&&◌, min, Bool, true, false, if◌then◌else◌, List, [], ◌∷◌, ◌++◌, length, take, drop, Option, Some, None, refl, sym, ap, ◌∙◌, arith, append-nil, length-append}
 use Rattle.std.specs.Prelude.{codes}
 use Rattle.std.proofs.lemmas.Bool.Decides.{nat_tests}
 use Rattle.std.proofs.lemmas.Grind.{common_steps}
@@ -12,12 +12,13 @@ use Rattle.std.specs.Char.{digit_value, is_digit}
 use Rattle.std.specs.Fmt.{decimal}
 use Rattle.std.specs.List.{prefix_len}
 use Rattle.std.specs.Option.{option_map}
-use Rattle.std.specs.Str.Parse.{AllDigits, IsNumeral, digits_value}
+use Rattle.std.specs.Str.Parse.{AllDigits, digits_value}
 use Rattle.tks_text.specs.Integer.{is_space}
 use Rattle.tks_text.specs.Text.{same_text, BeginsNot}
 use Rattle.tks_text.proofs.Prefixes.{Pass, prefix_of}
 use Rattle.tks_lines.specs.Places.{is_newline, is_inner, with_newline, end_place, lines_before, column_of, place_at, place_of_line}
-use Rattle.tks_lines.specs.Indices.{is_minus, digits_len, number_at, column_at, behind_dot, line_column, numbered, if_at_end, or_else, named, based, index_place}
+use Rattle.tks_lines.specs.Indices.{digits_len, number_at, column_at, behind_dot, line_column, numbered, if_at_end, or_else, named, based, index_place}
+use Rattle.tks_lines.specs.IndexText.{is_minus}
 use Rattle.tks_lines.specs.Lines.{Lines}
 use Rattle.tks_lines.specs.Commands.{spelled}
 use Rattle.tks_lines.proofs.Returning.{leads_back}

@@ -13,21 +13,11 @@ use Rattle.tks_text.specs.declared.fault.ScriptFault.{ScriptFault}
 use Rattle.tks_lines.specs.declared.modifier.Step.{Step}
 use Rattle.tks_lines.specs.declared.modifier.Modifier.{Modifier}
 use Rattle.tks_lines.specs.declared.modifier.Modifier.TheVariants as modifier
+use Rattle.tks_lines.specs.IndexText.{is_minus, is_sign, is_of_word}
 use Rattle.tks_lines.specs.Lines.{Lines, mark_named}
 use Rattle.tks_lines.specs.Places.{end_place, place_of_line, changed}
 
 -- ---- characters
-
-abbrev pub is_minus : ℕ → Bool
-is_minus c = c == 45
-
--- what begins a modifier by a count
-abbrev pub is_sign : ℕ → Bool
-is_sign c = (c == 43) || is_minus c
-
--- what a name or a keyword has
-abbrev pub is_of_word : ℕ → Bool
-is_of_word c = not (is_space c || is_sign c)
 
 abbrev pub space_len : List ℕ → ℕ
 space_len t = prefix_len is_space t

@@ -2,6 +2,7 @@ pub mod Places
 pub mod Ranges
 pub mod Lines
 pub mod Restoring
+pub mod IndexText
 pub mod Indices
 pub mod Commands
 pub mod Shown

@@ -1,9 +1,10 @@
 //! Laws of text widgets.
-ghost use Rattle.std.specs.Prelude.{◌≡◌, ℕ, Bool, true, false, ◌+◌, ◌^◌, ◌<◌, ◌≤◌, List, length, take, Some, None};
+ghost use Rattle.std.specs.Prelude.{◌≡◌, ◌↔◌, ℕ, Bool, true, false, ◌+◌, ◌^◌, ◌<◌, ◌≤◌, List, length, take, Some, None};
 ghost use Rattle.tks_lines.specs.declared.parts.Mark.{Mark};
 ghost use Rattle.tks_lines.specs.declared.parts.Tag.{Tag};
 ghost use Rattle.tks_lines.specs.Places.{end_place};
 ghost use Rattle.tks_lines.specs.Indices.{index_place};
+ghost use Rattle.tks_lines.specs.IndexText.{IndexText};
 ghost use Rattle.tks_lines.specs.Commands.{spelled};
 ghost use Rattle.tks_lines.specs.Lines.{Lines, Formed, is_editable, put_in, deleted, moved_on};
 ghost use Rattle.tks_opt.specs.Options.{Options};
@@ -38,6 +39,13 @@ pub fn ranges_are_the_tagged()
 /// An index as a text widget tells it names the place that it tells, whatever marks there are.
 pub fn told_index_names_its_place()
     ensures { (t : Lines) (place : ℕ) → length t.text < 2 ^ 63 → place ≤ end_place t.text → index_place t (spelled t.text place) ≡ Some place }
+{}
+
+/// A text is one index or none: it is read as the place that its base and its modifiers name, each taken for itself, and is
+/// refused where it isn't made of such parts. So two readings of one text name the same place. Numbers in it may be of any size.
+pub fn one_index()
+    ensures read { (t : Lines) (word : List ℕ) (place : ℕ) → Formed t → length t.text < 2 ^ 63 → IndexText t word place ↔ (index_place t word ≡ Some place) }
+    ensures one { (t : Lines) (word : List ℕ) (place other : ℕ) → Formed t → length t.text < 2 ^ 63 → IndexText t word place → IndexText t word other → place ≡ other }
 {}
 
 /// Character by character: where others come in, those before and behind are what they were, tags and all, and each of the new

@@ -23,7 +23,7 @@ mod tags;
 pub use flag_list::Flags;
 pub use laws::{
     deletion_keeps_the_others, deletion_undoes_insertion, insertion_keeps_the_others,
-    last_newline_stays, marks_stay_in_order, ranges_are_the_tagged, ranges_say_flags,
+    last_newline_stays, marks_stay_in_order, one_index, ranges_are_the_tagged, ranges_say_flags,
     texts_are_restored, told_index_names_its_place,
 };
 pub use lines::TextWidget;

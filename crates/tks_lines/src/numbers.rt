@@ -1,6 +1,7 @@
 //! The parts of which indices are made: names, numbers, counts.
 ghost use Rattle.std.specs.Prelude.{◌≡◌, ◌+◌, ◌-◌, ◌<◌, ◌≤◌, ◌^◌, length, take, IfSome};
-ghost use Rattle.tks_lines.specs.Indices.{is_minus, is_sign, is_of_word, word_len, word_at, number_at, column_at, behind_dot, line_column, sign_len, begins_minus, count_at, turned_back};
+ghost use Rattle.tks_lines.specs.Indices.{word_len, word_at, number_at, column_at, behind_dot, line_column, sign_len, begins_minus, count_at, turned_back};
+ghost use Rattle.tks_lines.specs.IndexText.{is_minus, is_sign, is_of_word};
 
 use crate::modifier::Step;
 use tks_text::{digits_len, is_space, value_of};

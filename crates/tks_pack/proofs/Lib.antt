@@ -10,3 +10,4 @@ pub mod Overtakes
 pub mod Ready
 pub mod Sized
 pub mod Padded
+pub mod Told

@@ -1,5 +1,5 @@
 -- What a user of the packer would doubt (pack(n), "The packer algorithm"), said of its places and shares.
-use Rattle.std.specs.Prelude.{ℕ, ◌+◌, ◌≤◌, List, [], ◌∷◌, Option, Some, None}
+use Rattle.std.specs.Prelude.{◌≡◌, ℕ, ◌+◌, ◌<◌, ◌≤◌, ◌^◌, List, [], ◌∷◌, Option, Some, None}
 use Rattle.std.specs.List.{AllByRecursion}
 use Rattle.tks_pack.specs.declared.area.Area.{Area}
 use Rattle.tks_pack.specs.declared.area.Extent.{Extent}
@@ -8,6 +8,7 @@ use Rattle.tks_pack.specs.declared.packing.Content.{Content}
 use Rattle.tks_pack.specs.declared.settings.Side.{Side}
 use Rattle.tks_pack.specs.declared.settings.Side.TheVariants as side
 use Rattle.tks_pack.specs.declared.stretch.Stretch.{Stretch}
+use Rattle.tks_pack.specs.Packing.{capped}
 use Rattle.tks_pack.specs.Stretch.{inner}
 
 -- a window has at least a cell, and lies inside its container
@@ -65,3 +66,13 @@ AllHaveSizes size (c ∷ contents) (place ∷ places) = HasSize (size c.window) 
 -- each has a size of a cell at least
 abbrev pub AllHaveCells : (ℕ → Extent) → List Content → Type 0
 AllHaveCells size contents = AllByRecursion (λ c. (1 ≤ (size c.window).width) × (1 ≤ (size c.window).height)) contents
+
+-- ---- requests of more than 2^32 - 1 cells (this project's own rule)
+
+-- so many cells are told as they are, or as 2^32 - 1 where they are more
+abbrev pub IsToldAs : ℕ → ℕ → Type 0
+IsToldAs cells told = (told < 2 ^ 32) × (cells < 2 ^ 32 → told ≡ cells) × (2 ^ 32 ≤ cells → told + 1 ≡ 2 ^ 32)
+
+-- a size as a window tells it
+abbrev pub told_size : Extent → Extent
+told_size size = record { width = capped size.width; height = capped size.height }

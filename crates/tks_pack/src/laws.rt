@@ -1,5 +1,5 @@
 //! Laws of the packer.
-ghost use Rattle.std.specs.Prelude.{List, ◌∷◌, ◌≡◌, ◌≤◌, ◌↔◌, ℕ, Some, true};
+ghost use Rattle.std.specs.Prelude.{List, ◌∷◌, ◌≡◌, ◌<◌, ◌≤◌, ◌^◌, ◌↔◌, ℕ, Bool, Some, true, IfSome};
 ghost use Rattle.std.specs.List.{AllByRecursion};
 ghost use Rattle.tks_pack.specs.declared.area.Extent.{Extent};
 ghost use Rattle.tks_pack.specs.declared.line.Span.{Span};
@@ -7,10 +7,10 @@ ghost use Rattle.tks_pack.specs.declared.packing.Content.{Content};
 ghost use Rattle.tks_pack.specs.declared.settings.Fill.{Fill};
 ghost use Rattle.tks_pack.specs.declared.settings.Side.{Side};
 ghost use Rattle.tks_pack.specs.declared.stretch.Stretch.{Stretch};
-ghost use Rattle.tks_pack.specs.Laws.{LiesInside, InOrder, AllGet, AllAsk, AllHaveSizes, AllHaveCells};
+ghost use Rattle.tks_pack.specs.Laws.{LiesInside, InOrder, AllGet, AllAsk, AllHaveSizes, AllHaveCells, IsToldAs, told_size};
 ghost use Rattle.tks_pack.specs.Numbers.{side_number, side_numbered, fill_number, fill_numbered};
 ghost use Rattle.tks_pack.specs.Packer.{share, spans, request};
-ghost use Rattle.tks_pack.specs.Packing.{places, horizontals, verticals};
+ghost use Rattle.tks_pack.specs.Packing.{places, horizontals, verticals, requested};
 ghost use Rattle.tks_pack.specs.Requests.{request_with};
 ghost use Rattle.tks_pack.specs.Stretch.{takes_share};
 
@@ -40,6 +40,15 @@ pub fn request_is_the_least_that_fits()
 /// In a container as large as its contents ask for, each window has its size.
 pub fn windows_have_their_sizes()
     ensures { (size : ℕ → Extent) (container : Extent) (contents : List Content) → AllHaveCells size contents → request (horizontals size contents) ≤ container.width → request (verticals size contents) ≤ container.height → AllHaveSizes size contents (places size container contents) }
+{}
+
+/// A container tells of the cells that its contents ask for, and of 2^32 - 1 where they are more. Nothing shows which of its
+/// contents told of so many in place of more: neither what it tells of itself, nor any place in it, where it has fewer than
+/// 2^32 cells along each axis.
+pub fn untold_cells_show_nowhere()
+    ensures told { (size : ℕ → Extent) (propagates : Bool) (contents : List Content) → IfSome (requested size propagates contents) (λ asked. IsToldAs (request (horizontals size contents)) asked.width × IsToldAs (request (verticals size contents)) asked.height) }
+    ensures requests { (size : ℕ → Extent) (propagates : Bool) (contents : List Content) → requested (λ window. told_size (size window)) propagates contents ≡ requested size propagates contents }
+    ensures places { (size : ℕ → Extent) (container : Extent) (contents : List Content) → container.width < 2 ^ 32 → container.height < 2 ^ 32 → places (λ window. told_size (size window)) container contents ≡ places size container contents }
 {}
 
 /// Each side has a number of its own, and is the one of that number.

@@ -1,7 +1,7 @@
 -- Where events are put.
 use Rattle.std.specs.List.{insert, list_all}
 use Rattle.std.proofs.Common.{◌≡◌, ◌≤◌, ◌+◌, ◌-◌, if◌then◌else◌, ◌⊎◌, inl, inr, ℕ, suc, not, Bool, true, false, List, [], ◌∷◌, length, refl, ap, arith}
-use Rattle.tks_event.specs.declared.event.Event.{Event}
+use Rattle.tks_event.specs.Event.{Event}
 use Rattle.tks_queue.specs.declared.queued.Queued.{Queued}
 use Rattle.std.proofs.lemmas.List.Edits.{insert_end}
 use Rattle.tks_queue.specs.declared.place.Place.{Place}

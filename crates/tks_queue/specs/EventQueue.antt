@@ -1,13 +1,18 @@
--- The queue of events (event(n), `event generate -when`).
+-- The queue of events (event(n), `event generate -when`; under which window a key waits is this project's own rule).
 use Rattle.std.specs.Prelude.{◌≡◌, ℕ, Bool, true, false, ◌||◌, ◌==◌, not, if◌then◌else◌, List, [], ◌∷◌, ◌++◌, Option, Some, None}
 use Rattle.std.specs.List.{filter, list_all}
-use Rattle.tks_event.specs.declared.event.Event.{Event}
+use Rattle.tks_event.specs.Event.{Event}
+use Rattle.tks_event.specs.Kinds.{is_of_key}
 use Rattle.tks_queue.specs.declared.queued.Queued.{Queued}
 use Rattle.tks_queue.specs.declared.place.Place.{Place}
 use Rattle.tks_queue.specs.declared.place.Place.TheVariants as place
 
+-- an event as it waits: one of a key under `.`, since it goes to the window that has the focus when it is delivered
+abbrev pub waiting : Event → Event
+waiting e = if is_of_key e.kind then record e { window = 0 } else e
+
 abbrev pub queued : Bool → Event → Queued
-queued with_mark e = record { event = e; with_mark = with_mark }
+queued with_mark e = record { event = waiting e; with_mark = with_mark }
 
 -- whether one of them was put with `mark`
 abbrev pub some_with_mark : List Queued → Bool

@@ -1,6 +1,6 @@
 //! What is stated of queues alone.
 ghost use Rattle.std.specs.Prelude.{List, ◌⊎◌};
-ghost use Rattle.tks_event.specs.declared.event.Event.{Event};
+ghost use Rattle.tks_event.specs.Event.{Event};
 ghost use Rattle.tks_queue.specs.EventQueue.{put_with_mark, BehindTheLast, First};
 ghost use Rattle.tks_queue.specs.declared.queued.Queued.{Queued};
 

@@ -9,4 +9,4 @@ mod queued;
 pub use laws::mark_goes_behind_the_last;
 pub use place::Place;
 pub use queue::Queue;
-pub use queued::Queued;
+pub use queued::{Queued, may_wait};

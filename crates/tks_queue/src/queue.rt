@@ -1,7 +1,6 @@
 //! The queue: events that wait, and what is done to them.
-ghost use Rattle.std.specs.Prelude.{◌≡◌, ◌==◌, not, ◌<◌, ◌^◌, Bool, true, length, [], IfSome, IfOk, IfErr, OnOk, OnErr};
+ghost use Rattle.std.specs.Prelude.{◌≡◌, ◌==◌, not, ◌<◌, ◌^◌, Bool, length, [], IfOk, IfErr, OnOk, OnErr};
 ghost use Rattle.std.specs.List.{filter};
-ghost use Rattle.tks_event.specs.Legality.{is_event};
 ghost use Rattle.tks_share.specs.Lists.{Says, Decides};
 ghost use Rattle.tks_queue.specs.declared.queued.Queued.{Queued};
 ghost use Rattle.tks_queue.specs.Legal.{AreLegal};
@@ -9,13 +8,13 @@ ghost use Rattle.tks_queue.specs.EventQueue.{put, first, without_first, without_
 ghost use Rattle.tks_queue.specs.Index.{up_to_mark, is_mark, index_for};
 
 use crate::place::Place;
-use crate::queued::Queued;
+use crate::queued::{Queued, waiting};
 use std::alloc::{AllocError, AllocFailed, Global};
 use std::marker::Model;
 use tks_event::Event;
 use tks_share::{Items, SharedList};
 
-/// The events that wait to be delivered, the next one first: each is one that there is. Copies share what they have in common.
+/// The events that wait to be delivered, the next one first; one of a key waits under `.`. Copies share what they have in common.
 pub struct Queue {
     events: SharedList<Queued>,
 }
@@ -85,9 +84,9 @@ impl Queue {
         self.events.len()
     }
 
-    /// Puts an event into its place. Where memory is refused, or it is one too many, it hands the event back.
+    /// Puts an event into its place; one of a key waits under `.`. Where memory is refused, or it is one too many, it hands the
+    /// event back.
     pub fn put(&mut self, place: Place, event: Event) -> Result<(), AllocFailed<Event>>
-        requires { is_event event ≡ true }
         ensures ok { OnOk result (self.new ≡ put place event self.old) }
         ensures err { OnErr result (self.new ≡ self.old) }
         ensures handed_back { IfErr result (λ refused. refused.value ≡ event) }
@@ -101,12 +100,13 @@ impl Queue {
     // Puts a copy of an event into its place, since what the list has taken can't be had back.
     #[tactic(auto, using(crate::proofs::Putting::put_at_index, crate::proofs::Putting::index_within))]
     fn put_copy(&mut self, place: Place, event: &Event) -> Result<(), AllocError>
-        requires { is_event event.now ≡ true }
         ensures ok { OnOk result (self.new ≡ put place event.now self.old) }
         ensures err { OnErr result (self.new ≡ self.old) }
     {
+        let event = waiting(event.try_clone()?);
+        event.stands();
         let queued = Queued {
-            event: event.try_clone()?,
+            event,
             with_mark: is_mark(place),
         };
         let index = index_for(place, &self.events);
@@ -116,7 +116,6 @@ impl Queue {
     /// Takes out the first event, and hands out a copy of it.
     pub fn take(&mut self) -> Result<Option<Event>, AllocError>
         ensures value { IfOk result (λ event. event ≡ first self.old) }
-        ensures legal { IfOk result (λ o. IfSome o (λ event. is_event event ≡ true)) }
         ensures ok { OnOk result (self.new ≡ without_first self.old) }
         ensures err { OnErr result (self.new ≡ self.old) }
     {

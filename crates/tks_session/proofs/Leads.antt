@@ -48,11 +48,12 @@ module _ (app : Application) (limits : Limits) (grid : Extent) where
 -- behind what was acknowledged
 pub behind : (app : Application) (limits : Limits) (grid : Extent) (reads : Images) (acknowledged : ℕ) (waiting : List Input) (images : Images) (world : World)
     → OpensToCount (terminal app limits grid) reads acknowledged → OpensToPrefix (terminal app limits grid) (opens (terminal app limits grid) reads) waiting images → opens (terminal app limits grid) images ≡ Ok world
-    → LeadsBehind app limits acknowledged waiting world
+    → LeadsBehind (record { app = app; limits = limits; grid = grid }) reads acknowledged waiting world
 behind app limits grid reads acknowledged waiting images world at some is =
     let kept = keeps_acknowledged (terminal app limits grid) reads acknowledged waiting images world at some is in
     record {
       start = kept.start;
+      opened = kept.opened;
       counted = kept.counted;
       leads = record {
         prefix = kept.behind.prefix;

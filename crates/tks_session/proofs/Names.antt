@@ -48,7 +48,7 @@ name_text [] h = tt
 name_text (c ∷ name) h = let both = and_parts (is_name_byte c) (list_all is_name_byte name) h in (text_byte c both.0, name_text name both.1)
 
 -- what makes a name
-name_parts : (name : List ℕ) → is_name name ≡ true → (length name ≤ 64) × IsText name
+pub name_parts : (name : List ℕ) → is_name name ≡ true → (length name ≤ 64) × IsText name
 name_parts name h =
     let four = and_parts (leb 1 (length name) && leb (length name) 64 && list_all is_name_byte name && not (begins_dot name)) (not (is_built_in name)) h in
     let three = and_parts (leb 1 (length name) && leb (length name) 64 && list_all is_name_byte name) (not (begins_dot name)) four.0 in

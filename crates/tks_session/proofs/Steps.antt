@@ -1,5 +1,8 @@
 -- Steps, as a session sees them.
-use Rattle.std.proofs.Common.{◌≡◌, ap}
+use Rattle.std.proofs.Common.{◌≡◌, ◌+◌, ap}
+use Rattle.tks_text.specs.declared.limits.Limits.{Limits}
+use Rattle.tks_app.specs.Applications.{Application}
+use Rattle.tks_input.specs.declared.input.Input.{Input}
 use Rattle.tks_input.specs.declared.reply.Reply.{Reply}
 use Rattle.tks_input.specs.declared.reply.Refused.{Refused}
 use Rattle.tks_input.specs.declared.reply.Refused.TheVariants.{BadInput, ClockBack, PendingFull, Budget, Depth, TooLarge, NoMemory, Quiet, Failed}
@@ -7,11 +10,15 @@ use Rattle.tks_durable.specs.Machine.{accepts}
 use Rattle.tks_durable.specs.Refusing.{RefusedAs}
 use Rattle.tks_state.specs.World.{World}
 use Rattle.tks_world.specs.Meets.{RefusedSo}
-use Rattle.tks_world.specs.Step.{Stepped, Accepts}
+use Rattle.tks_world.specs.Step.{Stepped, Accepts, step}
+use Rattle.tks_world.proofs.Counts.{steps_count}
 use Rattle.tks_session.specs.Terminals.{as_machine}
 
 pub accepted : (stepped : Stepped) (world : World) (reply : Reply) → stepped ≡ Accepts world reply → as_machine stepped ≡ accepts world reply
 accepted stepped world reply is = ap as_machine is
+
+pub counted : (app : Application) (limits : Limits) (old new : World) (input : Input) (reply : Reply) → step app old input limits ≡ Accepts new reply → new.accepted ≡ old.accepted + 1
+counted app limits old new input reply is = (steps_count app limits old input new reply is).0
 
 pub refused : (why : Refused) (stepped : Stepped) → RefusedSo why stepped → RefusedAs why (as_machine stepped)
 refused BadInput stepped is = ap as_machine is

@@ -1,2 +1,5 @@
 pub mod Terminals
+pub mod Sessions
 pub mod Crash
+pub mod Refusing
+pub mod Draining

@@ -33,5 +33,6 @@ pub fn wider_limits_open()
 pub fn a_crash_keeps_what_was_acknowledged()
     ensures { (app : Application) (limits : Limits) (grid : Extent) (reads : Images) (acknowledged : ℕ) (waiting : List Input) (images : Images) (world : World)
         → OpensToCount (terminal app limits grid) reads acknowledged → OpensToPrefix (terminal app limits grid) (opens (terminal app limits grid) reads) waiting images
-        → opens (terminal app limits grid) images ≡ Ok world → LeadsBehind app limits acknowledged waiting world }
+        → opens (terminal app limits grid) images ≡ Ok world
+        → LeadsBehind (record { app = app; limits = limits; grid = grid }) reads acknowledged waiting world }
 {}

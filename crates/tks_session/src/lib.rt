@@ -1,10 +1,16 @@
-//! A terminal: the world of scripts within limits, as a session keeps it.
+//! A session: the world of scripts within limits, with an application's commands, made durable on a disk.
 #![tactic(auto)]
 
+mod fault;
 mod laws;
-mod terminal;
+mod session;
+mod stepper;
 
+pub use fault::OpenFault;
 pub use laws::{
     a_crash_keeps_what_was_acknowledged, a_crash_leaves_whole_inputs, wider_limits_open,
 };
-pub use terminal::Terminal;
+pub use session::Session;
+pub use stepper::Stepper;
+pub use tks_durable::{Drained, SessionFault};
+pub use tks_input::{Input, Refused, Reply};

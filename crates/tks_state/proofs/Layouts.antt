@@ -1,10 +1,11 @@
 -- Sizes and places, found one after the other.
-use Rattle.std.proofs.Common.{◌≡◌, ℕ, zero, suc, ◌+◌, ◌<◌, ◌^◌, length, get_or, drop, drop-cons, add-one, subst, sym, append_assoc, Bool, true, false, cond, if◌then◌else◌, List, [], ◌∷◌, ◌++◌, Option, Some, None, refl, ap, ◌∙◌, arith}
+use Rattle.std.proofs.Common.{◌≡◌, is_some, ℕ, zero, suc, ◌+◌, ◌<◌, ◌≤◌, ◌^◌, length, get_or, drop, drop-cons, add-one, subst, sym, append_assoc, Bool, true, false, cond, if◌then◌else◌, List, [], ◌∷◌, ◌++◌, Option, Some, None, refl, ap, ◌∙◌, arith}
 use Rattle.std.specs.List.{AllByRecursion}
 use Rattle.std.specs.Ordering.{nat_cmp, eq_by_cmp}
 use Rattle.std.specs.Cmp.{nat_cmp_total}
 use Rattle.std.specs.FinMap as map
-use Rattle.std.specs.Prelude.{IfSome, slice_get, take}
+use Rattle.std.specs.Prelude.{◌==◌, IfSome, slice_get, take}
+use Rattle.std.proofs.lemmas.Bool.{eq-eqb}
 use Rattle.tks_text.specs.Size as grid
 use Rattle.tks_pack.specs.Laws.{LiesInside}
 use Rattle.tks_pack.specs.Packing.{places}
@@ -12,11 +13,15 @@ use Rattle.tks_pack.proofs.Order.{places_inside}
 use Rattle.tks_pack.specs.declared.area.Area.{Area}
 use Rattle.tks_pack.specs.declared.area.Extent.{Extent}
 use Rattle.tks_pack.specs.declared.packing.Content.{Content}
+use Rattle.tks_tree.specs.WellFormed.{WellFormed}
+use Rattle.tks_tree.specs.Windows.{Windows, max_number, of_number, preorder, times}
+use Rattle.tks_tree.proofs.Below.{there_below}
+use Rattle.tks_tree.proofs.Once.{each_once}
 use Rattle.tks_state.specs.declared.layout.Placed.{Placed}
 use Rattle.tks_state.specs.declared.kept.Kept.{Kept}
 use Rattle.tks_vars.specs.Variables.{Variables}
 use Rattle.tks_state.specs.ByWindow.{ByWindow}
-use Rattle.tks_state.specs.Layout.{size_in, with_size, sizes_before, placed_after, on_grid, extent_of, grid_area, with_content, with_contents, with_contents_of, with_area, shown_of, LiesOn, AllInside, AllLieOn, covers, or_this, last_over}
+use Rattle.tks_state.specs.Layout.{size_in, with_size, sizes_before, placed_after, on_grid, extent_of, grid_area, with_content, with_contents, with_contents_of, with_area, shown_of, LiesOn, IsShownOn, AllInside, AllShownOn, covers, or_this, last_over}
 
 abbrev kept_or : Kept → Option Kept → Kept
 kept_or d None = d
@@ -95,14 +100,37 @@ shown_more placed old new numbers i number area h e a n =
     ∙ ap (λ ps. old ++ ps) (with_rest number area rest ∙ ap (λ o. with_area number o rest) a)
     ∙ sym (ap (λ ns. old ++ shown_of placed ns) (next_one numbers i number h e))
 
-all_both : (g : grid.Extent) (number : ℕ) (o : Option Area) (ps : List Placed) → IfSome o (LiesOn g) → AllLieOn g ps → AllLieOn g (with_area number o ps)
-all_both g number None ps h all = all
-all_both g number (Some a) ps h all = (h, all)
+all_both : (g : grid.Extent) (number : ℕ) (o : Option Area) (ps : List Placed) → number ≤ max_number → IfSome o (LiesOn g) → AllShownOn g ps → AllShownOn g (with_area number o ps)
+all_both g number None ps low h all = all
+all_both g number (Some a) ps low h all = ((low, h), all)
 
--- so do those that are shown
-pub shown_lie : (g : grid.Extent) (placed : ByWindow Area) (numbers : List ℕ) → AllInside g placed → AllLieOn g (shown_of placed numbers)
-shown_lie g placed [] all = tt
-shown_lie g placed (n ∷ numbers) all = all_both g n (map.get placed n) (shown_of placed numbers) (all n) (shown_lie g placed numbers all)
+-- so do those that are shown, of windows that there are
+pub shown_lie : (g : grid.Extent) (placed : ByWindow Area) (numbers : List ℕ) → AllByRecursion (λ n. n ≤ max_number) numbers → AllInside g placed → AllShownOn g (shown_of placed numbers)
+shown_lie g placed [] low all = tt
+shown_lie g placed (n ∷ numbers) low all = all_both g n (map.get placed n) (shown_of placed numbers) low.0 (all n) (shown_lie g placed numbers low.1 all)
+
+-- ---- the windows of a tree have numbers that there are
+
+counted_here : (n : ℕ) (ns : List ℕ) → 0 < times n (n ∷ ns)
+counted_here n ns = rw (eq-eqb n n refl) (omega arith)
+
+counted_behind : (m n : ℕ) (ns : List ℕ) → 0 < times m ns → 0 < times m (n ∷ ns)
+counted_behind m n ns h = by (n == m)
+  where
+    by : (b : Bool) → 0 < (if b then suc (times m ns) else times m ns)
+    by true = omega arith
+    by false = h
+
+all_counted : (P : ℕ → Type 0) (ns : List ℕ) → ((n : ℕ) → 0 < times n ns → P n) → AllByRecursion P ns
+all_counted P [] h = tt
+all_counted P (n ∷ ns) h = (h n (counted_here n ns), all_counted P ns (λ m k. h m (counted_behind m n ns k)))
+
+pub preorder_low : (t : Windows) → WellFormed t → AllByRecursion (λ n. n ≤ max_number) (preorder t)
+preorder_low t f = all_counted (λ n. n ≤ max_number) (preorder t) (λ n h. by n (is_some (of_number t.windows n)) refl (each_once t n f) h)
+  where
+    by : (n : ℕ) (b : Bool) → is_some (of_number t.windows n) ≡ b → times n (preorder t) ≡ (if is_some (of_number t.windows n) then 1 else 0) → 0 < times n (preorder t) → n ≤ max_number
+    by n true e once h = there_below t n f e
+    by n false e once h = absurd (let none : times n (preorder t) ≡ 0 = rw e at once in omega (arith, none, h))
 
 -- ---- the last one
 
@@ -115,14 +143,14 @@ last_of (q ∷ before) p x y = ap (or_this (covers q.area x y) q) (last_of befor
     by false = refl
 
 -- it lies where all of them lie
-pub last_inside : (g : grid.Extent) (ps : List Placed) (x y : ℕ) → AllLieOn g ps → IfSome (last_over ps x y) (λ p. LiesOn g p.area)
+pub last_inside : (g : grid.Extent) (ps : List Placed) (x y : ℕ) → AllShownOn g ps → IfSome (last_over ps x y) (IsShownOn g)
 last_inside g [] x y all = tt
 last_inside g (p ∷ ps) x y all = by (last_over ps x y) (last_inside g ps x y all.1)
   where
-    alone : (b : Bool) → IfSome (if b then Some p else None) (λ p. LiesOn g p.area)
+    alone : (b : Bool) → IfSome (if b then Some p else None) (IsShownOn g)
     alone true = all.0
     alone false = tt
 
-    by : (o : Option Placed) → IfSome o (λ p. LiesOn g p.area) → IfSome (or_this (covers p.area x y) p o) (λ p. LiesOn g p.area)
+    by : (o : Option Placed) → IfSome o (IsShownOn g) → IfSome (or_this (covers p.area x y) p o) (IsShownOn g)
     by None later = alone (covers p.area x y)
     by (Some q) later = later

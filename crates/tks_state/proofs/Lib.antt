@@ -6,6 +6,7 @@ pub mod Children
 mod Linked
 pub mod Restored
 pub mod Possible
-pub mod Legal
 mod Looping
 mod Standing
+mod Tagging
+pub mod FirstTable

@@ -1,21 +1,20 @@
 -- What turns work on is of windows that are there, whatever is done to it and to the windows.
-use Rattle.std.proofs.Common.{◌≡◌, ◌≤◌, ◌^◌, ℕ, Bool, true, false, List, [], ◌∷◌, ◌++◌, Option, Some, None, is_some, Ok, refl, sym, subst, ◌∙◌}
+use Rattle.std.proofs.Common.{◌≡◌, ◌≤◌, ◌^◌, ℕ, Bool, true, false, List, [], ◌∷◌, ◌++◌, Option, Some, None, is_some, IfSome, Ok, refl, sym, subst, ◌∙◌}
 use Rattle.std.specs.Prelude.{◌&&◌, ◌==◌, if◌then◌else◌}
 use Rattle.std.specs.List.{filter, list_all}
 use Rattle.std.proofs.lemmas.Bool.{and_from, and_parts}
 use Rattle.std.proofs.lemmas.List.Folds.{list_all-append}
 use Rattle.tks_text.specs.declared.class.Class.{Class}
-use Rattle.tks_event.specs.Legality.{is_event}
-use Rattle.tks_event.specs.declared.event.Event.{Event}
+use Rattle.tks_event.specs.Event.{Event}
+use Rattle.tks_event.specs.Kinds.{is_of_key}
 use Rattle.tks_queue.specs.declared.place.Place.{Place}
 use Rattle.tks_queue.specs.declared.place.Place.TheVariants as place
 use Rattle.tks_queue.specs.declared.queued.Queued.{Queued}
-use Rattle.tks_queue.specs.EventQueue.{queued, some_with_mark, put_with_mark, put, without_first}
+use Rattle.tks_queue.specs.EventQueue.{queued, waiting, some_with_mark, put_with_mark, put, without_first}
 use Rattle.tks_tree.specs.Windows.{Window, Windows, root, of_number, created}
 use Rattle.tks_tree.specs.WellFormed.{WellFormed}
 use Rattle.tks_tree.proofs.Below.{there_below}
-use Rattle.tks_state.specs.EventLoop.{EventLoop, is_event_in_some_window, is_there, is_for, is_press, all_in, left_focus, left_pressed, left, Stay}
-use Rattle.tks_state.proofs.Legal.{in_window}
+use Rattle.tks_state.specs.EventLoop.{EventLoop, is_there, is_for, is_press, all_in, left_focus, left_pressed, left, Stay}
 use Rattle.tks_state.proofs.Marks.{made, created_made}
 
 -- ---- the three tests
@@ -33,9 +32,13 @@ all_there ws x focus queue pressed =
 pub focus_below : (t : Windows) (x : EventLoop) → WellFormed t → all_in t.windows x ≡ true → x.focus ≤ 2 ^ 62
 focus_below t x f h = there_below t x.focus f (parts t.windows x h).0
 
--- an event that there is but for its window is one if a window has that number
-pub legal_there : (t : Windows) (e : Event) → WellFormed t → is_there t.windows e.window ≡ true → is_event_in_some_window e ≡ true → is_event e ≡ true
-legal_there t e f there h = in_window e e.window (there_below t e.window f there) h
+-- so is that of the window that took the last press
+pub press_below : (t : Windows) (x : EventLoop) → WellFormed t → all_in t.windows x ≡ true → IfSome x.pressed (λ n. n ≤ 2 ^ 62)
+press_below t x f h = by x.pressed (parts t.windows x h).1.1
+  where
+    by : (o : Option ℕ) → is_press t.windows o ≡ true → IfSome o (λ n. n ≤ 2 ^ 62)
+    by None there = tt
+    by (Some n) there = there_below t n f there
 
 -- ---- the windows change
 
@@ -102,6 +105,14 @@ left_there ws later x e = all_there ws (left ws x) (focus_left ws x.focus (root_
 
 -- ---- the loop changes
 
+-- an event as it waits is of a window that is there
+waits_there : (ws : List Window) (e : Event) → is_there ws 0 ≡ true → is_there ws e.window ≡ true → is_there ws (waiting e).window ≡ true
+waits_there ws e root h = by (is_of_key e.kind)
+  where
+    by : (b : Bool) → is_there ws (if b then record e { window = 0 } else e).window ≡ true
+    by true = root
+    by false = h
+
 marked_put : (test : Queued → Bool) (e : Event) (queue : List Queued) → test (queued true e) ≡ true → list_all test queue ≡ true → list_all test (put_with_mark e queue) ≡ true
 marked_put test e [] k h = and_from (test (queued true e)) true k refl
 marked_put test e (q ∷ queue) k h = by (some_with_mark (q ∷ queue)) (and_parts (test q) (list_all test queue) h) (marked_put test e queue k)
@@ -111,17 +122,18 @@ marked_put test e (q ∷ queue) k h = by (some_with_mark (q ∷ queue)) (and_par
     by true a rest = and_from (test q) (list_all test (put_with_mark e queue)) a.0 (rest a.1)
     by false a rest = and_from (test (queued true e)) (list_all test (q ∷ queue)) k h
 
-all_put : (ws : List Window) (p : Place) (e : Event) (queue : List Queued) → is_there ws e.window ≡ true → list_all (is_for ws) queue ≡ true → list_all (is_for ws) (put p e queue) ≡ true
+all_put : (ws : List Window) (p : Place) (e : Event) (queue : List Queued) → is_there ws (waiting e).window ≡ true → list_all (is_for ws) queue ≡ true → list_all (is_for ws) (put p e queue) ≡ true
 all_put ws place.Tail e queue k h =
     list_all-append (is_for ws) queue (queued false e ∷ []) ∙ and_from (list_all (is_for ws) queue) (is_for ws (queued false e) && true) h (and_from (is_for ws (queued false e)) true k refl)
 all_put ws place.Head e queue k h = and_from (is_for ws (queued false e)) (list_all (is_for ws) queue) k h
 all_put ws place.Mark e queue k h = marked_put (is_for ws) e queue k h
 
 -- an event comes
-pub put_there : (ws : List Window) (p : Place) (e : Event) (x : EventLoop) → is_there ws e.window ≡ true → all_in ws x ≡ true → all_in ws (record x { queue = put p e x.queue }) ≡ true
-put_there ws p e x k h =
-    let a = parts ws x h in
-    all_there ws (record x { queue = put p e x.queue }) a.0 (all_put ws p e x.queue k a.1.0) a.1.1
+pub put_there : (t : Windows) (p : Place) (e : Event) (x : EventLoop) → WellFormed t → is_there t.windows e.window ≡ true → all_in t.windows x ≡ true → all_in t.windows (record x { queue = put p e x.queue }) ≡ true
+put_there t p e x f k h =
+    let a = parts t.windows x h in
+    let waits = waits_there t.windows e (root_there t.windows f.first.0 f.first.1) k in
+    all_there t.windows (record x { queue = put p e x.queue }) a.0 (all_put t.windows p e x.queue waits a.1.0) a.1.1
 
 all_behind : (test : Queued → Bool) (queue : List Queued) → list_all test queue ≡ true → list_all test (without_first queue) ≡ true
 all_behind test [] h = refl

@@ -1,8 +1,8 @@
 -- Worlds that stand are possible ones.
 use Rattle.std.proofs.Common.{◌≡◌, ℕ, true, false, map, List, [], ◌∷◌, length, Some, refl, ap}
-use Rattle.std.specs.Prelude.{◌==◌, ◌^◌, nat_le}
+use Rattle.std.specs.Prelude.{◌==◌, ◌^◌, nat_le, nat_lt}
 use Rattle.std.specs.List.{AllByRecursion, IsDistinct, list_all}
-use Rattle.std.proofs.lemmas.Bool.{and_from, eq-eqb, le-leb}
+use Rattle.std.proofs.lemmas.Bool.{and_from, eq-eqb, le-leb, lt-ltb}
 use Rattle.tks_text.specs.declared.class.Class.{Class}
 use Rattle.tks_bind.specs.History.{max_history}
 use Rattle.tks_opt.specs.Numbers.{class_number}
@@ -67,13 +67,13 @@ pub possible : (w : World) → WellFormed w → is_possible w ≡ true
 unfolding is_possible
 possible w h =
     let counted : nat_le w.accepted (2 ^ 62) ≡ true = le-leb w.accepted (2 ^ 62) h.counted in
-    let clock : nat_le w.clock (2 ^ 62) ≡ true = le-leb w.clock (2 ^ 62) h.event_loop.clock in
+    let clock : nat_lt w.clock (2 ^ 62) ≡ true = lt-ltb w.clock (2 ^ 62) h.event_loop.clock in
     let step = in_step w.tree.windows w.kept h.windows.in_step in
     let each = packs w.tree w.kept h.windows.packs in
     let remembered : nat_le (length w.history) max_history ≡ true = le-leb (length w.history) max_history h.events.history in
     let faults : nat_le (length w.faults) max_faults ≡ true = le-leb (length w.faults) max_faults h.events.faults in
     let rests : (length w.variables.locals == 0) ≡ true = eq-eqb (length w.variables.locals) 0 (ap length h.rests) in
-    and_from (counts_fit w.accepted w.clock) _ (and_from (nat_le w.accepted (2 ^ 62)) (nat_le w.clock (2 ^ 62)) counted clock)
+    and_from (counts_fit w.accepted w.clock) _ (and_from (nat_le w.accepted (2 ^ 62)) (nat_lt w.clock (2 ^ 62)) counted clock)
     (and_from (length w.variables.locals == 0) _ rests
     (and_from (are_windows (windows_of w)) _ (and_from (are_in_step w.tree.windows w.kept) (list_all (packs_children w.tree) w.kept) step each)
     (and_from (nat_le (length w.history) max_history) _ remembered (and_from (nat_le (length w.faults) max_faults) (all_in w.tree.windows (loop_of w)) faults h.there))))

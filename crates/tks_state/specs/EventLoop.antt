@@ -3,8 +3,6 @@
 use Rattle.std.specs.Prelude.{ℕ, ◌≡◌, Bool, true, ◌&&◌, is_some, if◌then◌else◌, List, [], Option, Some, None}
 use Rattle.std.specs.List.{filter, list_all}
 use Rattle.tks_event.specs.Held.{nothing_held}
-use Rattle.tks_event.specs.Legality.{is_event}
-use Rattle.tks_event.specs.declared.event.Event.{Event}
 use Rattle.tks_event.specs.declared.held.Held.{Held}
 use Rattle.tks_queue.specs.declared.queued.Queued.{Queued}
 use Rattle.tks_timer.specs.After.{Content, nothing}
@@ -36,10 +34,6 @@ is_there windows number = is_some (of_number windows number)
 -- the windows that were there are there
 abbrev pub Stay : List Window → List Window → Type 0
 Stay before after = (number : ℕ) → is_there before number ≡ true → is_there after number ≡ true
-
--- whether an event is one that there is, but for its window
-abbrev pub is_event_in_some_window : Event → Bool
-is_event_in_some_window e = is_event (record e { window = 0 })
 
 -- whether an event stays: its window is there
 abbrev pub is_for : List Window → Queued → Bool

@@ -8,7 +8,7 @@ use Rattle.tks_pack.specs.Packing as packer
 use Rattle.tks_pack.specs.declared.area.Area.{Area}
 use Rattle.tks_pack.specs.declared.area.Extent.{Extent}
 use Rattle.tks_pack.specs.declared.packing.Content.{Content}
-use Rattle.tks_tree.specs.Windows.{preorder}
+use Rattle.tks_tree.specs.Windows.{max_number, preorder}
 use Rattle.tks_vars.specs.Variables.{Variables}
 use Rattle.tks_state.specs.Links.{requested}
 use Rattle.tks_state.specs.World.{World}
@@ -128,5 +128,9 @@ LiesOn g a = (a.x + a.width ≤ g.width) × (a.y + a.height ≤ g.height)
 abbrev pub AllInside : grid.Extent → ByWindow Area → Type 0
 AllInside g placed = (window : ℕ) → IfSome (map.get placed window) (LiesOn g)
 
-abbrev pub AllLieOn : grid.Extent → List Placed → Type 0
-AllLieOn g placed = AllByRecursion (λ p. LiesOn g p.area) placed
+-- one that is shown has a number that there is, and lies on the grid
+abbrev pub IsShownOn : grid.Extent → Placed → Type 0
+IsShownOn g p = (p.window ≤ max_number) × LiesOn g p.area
+
+abbrev pub AllShownOn : grid.Extent → List Placed → Type 0
+AllShownOn g placed = AllByRecursion (IsShownOn g) placed

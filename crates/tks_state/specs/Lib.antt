@@ -3,6 +3,7 @@ pub mod Widget
 pub mod Links
 pub mod Events
 pub mod ClassBindings
+pub mod FirstTable
 pub mod EventLoop
 pub mod Windows
 pub mod World

@@ -1,6 +1,6 @@
 -- Worlds made again of their parts: which of them are possible (this project's own rules; that what is packed stands in its
 -- container, pack(n)).
-use Rattle.std.specs.Prelude.{ℕ, ◌^◌, Bool, true, false, ◌&&◌, ◌||◌, ◌==◌, not, nat_le, if◌then◌else◌, List, [], ◌∷◌, length, Option, Some, None}
+use Rattle.std.specs.Prelude.{ℕ, ◌^◌, Bool, true, false, ◌&&◌, ◌||◌, ◌==◌, not, nat_le, nat_lt, if◌then◌else◌, List, [], ◌∷◌, length, Option, Some, None}
 use Rattle.std.specs.List.{list_all}
 use Rattle.tks_bind.specs.History.{max_history}
 use Rattle.tks_opt.specs.Numbers.{class_number}
@@ -61,7 +61,7 @@ are_windows x = are_in_step x.tree.windows x.kept && list_all (packs_children x.
 
 -- whether so many inputs may have been accepted, and the clock may stand so
 abbrev pub counts_fit : ℕ → ℕ → Bool
-counts_fit accepted clock = nat_le accepted (2 ^ 62) && nat_le clock (2 ^ 62)
+counts_fit accepted clock = nat_le accepted (2 ^ 62) && nat_lt clock (2 ^ 62)
 
 -- whether a world with such a tree is one that there may be
 unfoldable pub is_possible : World → Bool

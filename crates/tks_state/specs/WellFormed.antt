@@ -1,10 +1,10 @@
 -- What holds of all worlds (this project's own rules; that what is packed stands in its container, pack(n)).
-use Rattle.std.specs.Prelude.{ℕ, ◌≡◌, ◌==◌, ◌≤◌, ◌^◌, true, List, [], length, map, Some}
+use Rattle.std.specs.Prelude.{ℕ, ◌≡◌, ◌==◌, ◌≤◌, ◌<◌, ◌^◌, true, List, [], length, map, Some}
 use Rattle.std.specs.List.{AllByRecursion, IsDistinct}
 use Rattle.tks_text.specs.declared.class.Class.{Class}
 use Rattle.tks_tree.specs.Windows as tree
 use Rattle.tks_tree.specs.WellFormed as trees
-use Rattle.tks_bind.specs.History.{max_history}
+use Rattle.tks_bind.specs.History.{are_physical, max_history}
 use Rattle.tks_bind.specs.WellFormed.{AreBindings, AreVirtuals}
 use Rattle.tks_event.specs.Legality.{AreEvents}
 use Rattle.tks_queue.specs.Legal.{AreLegal}
@@ -52,17 +52,18 @@ pub record WellFormedEvents (x : Events) : Type 0 where
   pub bindings : AreBindings x.bindings
   -- names differ, and each has sequences of physical events, which differ
   pub virtuals : AreVirtuals x.virtuals
-  -- each is an event that there is
+  -- each is a physical event that there is
   pub events : AreEvents x.history
+  pub physical : are_physical x.history ≡ true
   pub history : length x.history ≤ max_history
   pub faults : length x.faults ≤ max_faults
 
 -- what holds of what turns work on
 pub record WellFormedLoop (x : EventLoop) : Type 0 where
-  pub clock : x.clock ≤ 2 ^ 62
-  -- each is an event that there is
+  pub clock : x.clock < 2 ^ 62
+  -- each is an event that there is, and one of a key waits under `.`
   pub queue : AreLegal x.queue
-  -- ids rise and differ
+  -- ids rise and differ, and each timer is due at a time that there is
   pub timers : AreWaiting x.timers
 
 pub record WellFormed (w : World) : Type 0 where

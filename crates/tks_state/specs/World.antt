@@ -8,7 +8,7 @@ use Rattle.tks_tree.specs.Windows as tree
 use Rattle.tks_vars.specs.Variables.{Variables, no_variables}
 use Rattle.tks_app.specs.Memories.{first_memories}
 use Rattle.tks_vars.specs.Table.{Map}
-use Rattle.tks_event.specs.declared.event.Event.{Event}
+use Rattle.tks_event.specs.Event.{Event}
 use Rattle.tks_event.specs.declared.held.Held.{Held}
 use Rattle.tks_event.specs.declared.pattern.Pattern.{Pattern}
 use Rattle.tks_queue.specs.EventQueue as queue

@@ -1,7 +1,6 @@
 //! What turns work on: the clock, what waits to be delivered or run, the focus, and what is held down.
-ghost use Rattle.std.specs.Prelude.{◌≡◌, true, ◌↔◌, ◌≤◌, ◌^◌, Err, is_some, IfSome, IfOk, IfErr, OnOk, OnErr};
+ghost use Rattle.std.specs.Prelude.{◌≡◌, ◌↔◌, ◌≤◌, ◌<◌, ◌^◌, Err, is_some, IfOk, IfErr, OnOk, OnErr};
 ghost use Rattle.std.specs.List.{list_all};
-ghost use Rattle.tks_event.specs.Legality.{is_event};
 ghost use Rattle.tks_queue.specs.EventQueue.{put, first, without_first};
 ghost use Rattle.tks_timer.specs.After as after;
 ghost use Rattle.tks_timer.specs.After.{script_in, kept_under, with_script};
@@ -18,7 +17,7 @@ use tks_text::Txt;
 use tks_timer::{AfterFault, Timers};
 use tks_tree::{Tree, WindowId};
 
-/// What turns work on. The clock is at most 2^62. Copies share the events and scripts that wait, but for what one of them has changed.
+/// What turns work on. The clock is below 2^62. Copies share the events and scripts that wait, but for what one of them has changed.
 pub struct EventLoop {
     clock: u64,
     queue: Queue,
@@ -49,9 +48,9 @@ impl Model for EventLoop {
 
     ghost view = { λ x. record { clock = x.clock; queue = x.queue; timers = x.timers; focus = x.focus; held = x.held; pressed = x.pressed } };
 
-    ghost use Rattle.std.specs.Prelude.{◌≤◌, ◌^◌};
+    ghost use Rattle.std.specs.Prelude.{◌<◌, ◌^◌};
 
-    ghost invariant = { λ x. x.clock ≤ 2 ^ 62 };
+    ghost invariant = { λ x. x.clock < 2 ^ 62 };
 }
 
 impl EventLoop {
@@ -78,7 +77,7 @@ impl EventLoop {
         held: Held,
         pressed: Option<WindowId>,
     ) -> EventLoop
-        requires { clock ≤ 2 ^ 62 }
+        requires { clock < 2 ^ 62 }
         ensures { result ≡ record { clock = clock; queue = queue; timers = timers; focus = focus; held = held; pressed = pressed } }
     {
         EventLoop {
@@ -89,6 +88,15 @@ impl EventLoop {
             held,
             pressed,
         }
+    }
+
+    /// What holds of all that turns work on.
+    pub fn stands(&self)
+        ensures { WellFormedLoop self.now }
+    {
+        let _ = self.clock();
+        let _ = self.queue.events();
+        let _ = self.timers.next();
     }
 
     /// Whether the focus, the events that wait and the last press are of windows that are there.
@@ -103,14 +111,14 @@ impl EventLoop {
     /// The time, in milliseconds.
     pub fn clock(&self) -> u64
         ensures value { result ≡ self.now.clock }
-        ensures bound { self.now.clock ≤ 2 ^ 62 }
+        ensures bound { self.now.clock < 2 ^ 62 }
     {
         self.clock
     }
 
     /// Sets the clock.
     pub fn set_clock(&mut self, time: u64)
-        requires { time ≤ 2 ^ 62 }
+        requires { time < 2 ^ 62 }
         ensures { self.new ≡ record self.old { clock = time } }
     {
         self.clock = time;
@@ -123,9 +131,8 @@ impl EventLoop {
         &self.queue
     }
 
-    /// Puts an event into its place. Where memory is refused, it hands the event back.
+    /// Puts an event into its place; one of a key waits under `.`. Where memory is refused, it hands the event back.
     pub fn put_event(&mut self, place: Place, event: Event) -> Result<(), AllocFailed<Event>>
-        requires { is_event event ≡ true }
         ensures ok { OnOk result (self.new ≡ record self.old { queue = put place event self.old.queue }) }
         ensures err { OnErr result (self.new ≡ self.old) }
         ensures handed_back { IfErr result (λ refused. refused.value ≡ event) }
@@ -136,7 +143,6 @@ impl EventLoop {
     /// Takes out the first event.
     pub fn take_event(&mut self) -> Result<Option<Event>, AllocError>
         ensures value { IfOk result (λ event. event ≡ first self.old.queue) }
-        ensures legal { IfOk result (λ o. IfSome o (λ event. is_event event ≡ true)) }
         ensures ok { OnOk result (self.new ≡ record self.old { queue = without_first self.old.queue }) }
         ensures err { OnErr result (self.new ≡ self.old) }
     {
@@ -145,13 +151,8 @@ impl EventLoop {
 
     /// The scripts that wait to be run.
     pub fn timers(&self) -> &Timers
-        ensures value { result.now ≡ self.now.timers }
-        ensures formed { WellFormedLoop self.now }
+        ensures { result.now ≡ self.now.timers }
     {
-        // What holds of the clock, of all queues and of all timers is asked for here.
-        let _ = self.clock();
-        let _ = self.queue.events();
-        let _ = self.timers.next();
         &self.timers
     }
 

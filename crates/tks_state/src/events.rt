@@ -1,11 +1,9 @@
 //! What scripts bound to events rest on: the bindings, virtual events, the history, and the faults of such scripts.
-ghost use Rattle.std.specs.Prelude.{◌≡◌, true, false, ◌≢◌, ◌↔◌, ◌≤◌, ◌^◌, [], Some, None, if◌then◌else◌, nat_le, Err, length, option_copied, IfOk, IfErr, OnOk, OnErr};
+ghost use Rattle.std.specs.Prelude.{◌≡◌, ◌≢◌, ◌↔◌, ◌≤◌, ◌^◌, [], Some, None, if◌then◌else◌, nat_le, Err, length, option_copied, IfOk, IfErr, OnOk, OnErr};
 ghost use Rattle.tks_bind.specs.Binding.{bound};
 ghost use Rattle.tks_bind.specs.Choosing.{chosen};
 ghost use Rattle.tks_bind.specs.History as history;
-ghost use Rattle.tks_bind.specs.VirtualEvents.{is_of_name, added, deleted, deleted_sequence};
-ghost use Rattle.tks_event.specs.Legality.{is_event};
-ghost use Rattle.tks_event.specs.Sequences.{is_name};
+ghost use Rattle.tks_bind.specs.VirtualEvents.{added, deleted, deleted_sequence};
 ghost use Rattle.tks_state.specs.Events.{max_faults, first_events, with_fault, is_held, held};
 ghost use Rattle.tks_state.specs.WellFormed.{WellFormedEvents};
 
@@ -13,8 +11,8 @@ use crate::class_bindings::first_bindings;
 use crate::faults::Faults;
 use std::alloc::{AllocError, AllocFailed, Global};
 use std::marker::Model;
-use tks_bind::{BindFault, Binding, Bindings, History, Virtuals};
-use tks_event::{Event, Sequence};
+use tks_bind::{BindFault, Binding, Bindings, History, PhysicalSequence, Virtuals};
+use tks_event::{Event, Sequence, VirtualName};
 use tks_share::Shared;
 use tks_text::{Txt, begins_dot};
 use tks_tree::Tree;
@@ -95,14 +93,20 @@ impl Events {
         &self.bindings
     }
 
-    /// The texts of the last errors, the oldest first.
-    pub fn faults(&self) -> &[Txt]
-        ensures value { result.now ≡ self.now.faults }
-        ensures formed { WellFormedEvents self.now }
+    /// What holds of all that scripts bound to events rest on.
+    pub fn stands(&self)
+        ensures { WellFormedEvents self.now }
     {
         let _ = self.bindings.next();
         let _ = self.virtuals.events();
         let _ = self.history.get().events();
+        let _ = self.faults.get().texts();
+    }
+
+    /// The texts of the last errors, the oldest first.
+    pub fn faults(&self) -> &[Txt]
+        ensures { result.now ≡ self.now.faults }
+    {
         self.faults.get().texts()
     }
 
@@ -138,9 +142,11 @@ impl Events {
     }
 
     /// Adds a sequence of physical events to a virtual event. One that is there stays where it is.
-    pub fn add_virtual(&mut self, name: &Txt, sequence: &Sequence) -> Result<(), AllocError>
-        requires name { is_name name.now ≡ true }
-        requires physical { is_of_name sequence.now ≡ false }
+    pub fn add_virtual(
+        &mut self,
+        name: &VirtualName,
+        sequence: &PhysicalSequence,
+    ) -> Result<(), AllocError>
         ensures ok { OnOk result (self.new ≡ record self.old { virtuals = added name.now sequence.now self.old.virtuals }) }
         ensures err { OnErr result (self.new ≡ self.old) }
     {
@@ -176,9 +182,8 @@ impl Events {
         Ok(left)
     }
 
-    /// Adds an event to the history. Where memory is refused, it hands the event back.
+    /// Adds an event to the history; a virtual one is passed over. Where memory is refused, it hands the event back.
     pub fn add_event(&mut self, event: Event) -> Result<(), AllocFailed<Event>>
-        requires { is_event event ≡ true }
         ensures ok { OnOk result (self.new ≡ record self.old { history = history.with_event event self.old.history }) }
         ensures err { OnErr result (self.new ≡ self.old) }
         ensures handed_back { IfErr result (λ refused. refused.value ≡ event) }

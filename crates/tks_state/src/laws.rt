@@ -1,11 +1,13 @@
 //! Laws of worlds.
-ghost use Rattle.std.specs.Prelude.{◌≡◌, ℕ, List, Some, true};
+ghost use Rattle.std.specs.Prelude.{◌≡◌, ℕ, List, Option, Some, true, length};
+ghost use Rattle.tks_text.specs.Size.{Extent};
 ghost use Rattle.tks_vars.specs.Variables.{Variables};
-ghost use Rattle.tks_state.specs.Laws.{has_text, Shows};
+ghost use Rattle.tks_state.specs.FirstTable.{AreOf, first_table};
+ghost use Rattle.tks_state.specs.Laws.{has_text, other_windows, Shows};
 ghost use Rattle.tks_state.specs.Links.{link_of, seen, text_of};
 ghost use Rattle.tks_state.specs.Standing.{LaysOut, StaysWithin};
 ghost use Rattle.tks_state.specs.WellFormed.{WellFormed};
-ghost use Rattle.tks_state.specs.World.{World};
+ghost use Rattle.tks_state.specs.World.{World, first_world, tagged};
 ghost use Rattle.tks_state.specs.declared.widget.Widget.{Widget};
 
 /// A widget with a text that is linked to a global shows the global's value of the moment, whatever came before.
@@ -23,4 +25,17 @@ pub fn widgets_of_one_variable_show_one_text()
 pub fn windows_are_shown_where_they_stand()
     ensures cells { (w : World) → WellFormed w → LaysOut w }
     ensures within { (w : World) → StaysWithin w }
+{}
+
+/// Before any input there are just the twenty-five bindings of the table, in its order, each of the sequence that its text is
+/// read as: none is lost to a fault, and none takes the place of another.
+pub fn the_first_bindings_are_the_table()
+    ensures bindings { (grid : Extent) (names : List (List ℕ)) → AreOf first_table (first_world grid names).bindings.bindings }
+    ensures count { length first_table ≡ 25 }
+{}
+
+/// Other tags of a window leave all that is kept of other windows, in its order.
+#[tactic(auto, using(crate::proofs::Tagging::tagged_stays))]
+pub fn tags_are_of_one_window()
+    ensures { (w : World) (number : ℕ) (tags : Option (List (List ℕ))) → other_windows number (tagged w number tags).kept ≡ other_windows number w.kept }
 {}

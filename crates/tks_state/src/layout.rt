@@ -2,7 +2,7 @@
 ghost use Rattle.std.specs.Prelude.{◌≡◌, ◌+◌, ◌≤◌, ◌<◌, ◌^◌, ◌++◌, [], IfOk, IfSome, OnOk};
 ghost use Rattle.std.specs.List.{AllByRecursion};
 ghost use Rattle.tks_pack.specs.Laws.{LiesInside};
-ghost use Rattle.tks_state.specs.Layout.{size_of, sizes, on_grid, with_content, with_contents, with_contents_of, placed_in, with_area, extent_of, grid_area, shown_of, shown_windows, covers, last_over, topmost, LiesOn, AllInside, AllLieOn};
+ghost use Rattle.tks_state.specs.Layout.{size_of, sizes, on_grid, with_content, with_contents, with_contents_of, placed_in, with_area, extent_of, grid_area, shown_of, shown_windows, covers, last_over, topmost, LiesOn, IsShownOn, AllInside, AllShownOn};
 
 use crate::by_window::ByWindow;
 use crate::kept::Kept;
@@ -238,7 +238,7 @@ impl World {
     /// The window that is seen in a cell of the grid: the last in drawing order that covers it.
     pub fn topmost(&self, column: u32, row: u32) -> Result<Option<Placed>, AllocError>
         ensures value { IfOk result (λ seen. seen ≡ topmost self.now column row) }
-        ensures inside { IfOk result (λ seen. IfSome seen (λ p. LiesOn self.now.grid p.area)) }
+        ensures inside { IfOk result (λ seen. IfSome seen (IsShownOn self.now.grid)) }
     {
         let shown = self.shown_windows()?;
         Ok(last_over(&shown, column, row))
@@ -248,7 +248,7 @@ impl World {
     /// window before those in it, siblings in the order in which they were made.
     pub fn shown_windows(&self) -> Result<Vec<Placed>, AllocError>
         ensures value { IfOk result (λ shown. shown.items ≡ shown_windows self.now) }
-        ensures inside { IfOk result (λ shown. AllLieOn self.now.grid shown.items) }
+        ensures inside { IfOk result (λ shown. AllShownOn self.now.grid shown.items) }
     {
         let placed = place_all(self.alloc(), self.variables(), self.all_kept(), self.grid())?;
         let order = self.tree().preorder()?;

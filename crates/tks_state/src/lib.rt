@@ -17,8 +17,8 @@ mod world;
 
 pub use kept::Kept;
 pub use laws::{
-    linked_widget_shows_its_variable, widgets_of_one_variable_show_one_text,
-    windows_are_shown_where_they_stand,
+    linked_widget_shows_its_variable, tags_are_of_one_window, the_first_bindings_are_the_table,
+    widgets_of_one_variable_show_one_text, windows_are_shown_where_they_stand,
 };
 pub use layout::Placed;
 pub use restoring::{WindowParts, WorldParts};

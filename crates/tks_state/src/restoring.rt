@@ -1,5 +1,5 @@
 //! What a world is made again of, and which parts are those of a world.
-ghost use Rattle.std.specs.Prelude.{◌≡◌, ◌≤◌, ◌^◌, nat_le, length, map, Some, None, IfOk, if◌then◌else◌};
+ghost use Rattle.std.specs.Prelude.{◌≡◌, ◌<◌, ◌^◌, nat_le, length, map, Some, None, IfOk, if◌then◌else◌};
 ghost use Rattle.std.specs.List.{list_all};
 ghost use Rattle.tks_tree.specs.View.{window_seen};
 ghost use Rattle.tks_tree.specs.Windows.{parent};
@@ -119,7 +119,7 @@ impl Drop for LoopParts {
 impl LoopParts {
     /// The event loop.
     pub(crate) fn made(self) -> EventLoop
-        requires { self.clock ≤ 2 ^ 62 }
+        requires { self.clock < 2 ^ 62 }
         ensures { result ≡ record { clock = self.clock; queue = self.queue; timers = self.timers; focus = self.focus; held = self.held; pressed = self.pressed } }
     {
         let LoopParts {

@@ -1,16 +1,13 @@
 //! The world: what is kept between inputs, and its changes.
-ghost use Rattle.std.specs.Prelude.{◌≡◌, true, false, ◌≢◌, ◌↔◌, ◌≤◌, ◌+◌, ◌<◌, ◌^◌, [], Err, option_map, option_copied, IfOk, IfErr, IfSome, OnOk, OnErr};
+ghost use Rattle.std.specs.Prelude.{◌≡◌, true, ◌≢◌, ◌↔◌, ◌≤◌, ◌+◌, ◌<◌, ◌^◌, [], Err, option_map, option_copied, IfOk, IfErr, IfSome, OnOk, OnErr};
 ghost use Rattle.tks_text.specs.Fault.{Gives};
 ghost use Rattle.tks_bind.specs.Choosing.{chosen};
-ghost use Rattle.tks_bind.specs.VirtualEvents.{is_of_name};
-ghost use Rattle.tks_event.specs.Legality.{is_event};
-ghost use Rattle.tks_event.specs.Sequences.{is_name};
 ghost use Rattle.tks_tree.specs.Meets.{MakesSo};
 ghost use Rattle.tks_tree.specs.WellFormed as trees;
 ghost use Rattle.tks_tree.specs.WellFormed.{is_widget_class};
 ghost use Rattle.tks_state.specs.Widget.{class_of};
 ghost use Rattle.tks_state.specs.Windows.{kept_of};
-ghost use Rattle.tks_state.specs.EventLoop.{is_event_in_some_window, all_in};
+ghost use Rattle.tks_state.specs.EventLoop.{all_in};
 ghost use Rattle.tks_state.specs.WellFormed.{WellFormed};
 ghost use Rattle.tks_state.specs.Restoring.{counts_fit, restored};
 ghost use Rattle.tks_queue.specs.EventQueue.{first};
@@ -28,12 +25,12 @@ use std::alloc::{AllocError, AllocFailed, Global};
 use std::marker::Model;
 use std::mem;
 use tks_app::Memories;
-use tks_bind::{BindFault, Binding, Bindings, History, Virtuals};
-use tks_event::{Event, Held, Sequence};
+use tks_bind::{BindFault, Binding, Bindings, History, PhysicalSequence, Virtuals};
+use tks_event::{Event, Held, Sequence, VirtualName};
 use tks_parse_table::ParseTable;
 use tks_queue::{Place, Queue};
 use tks_share::{Shared, SharedList};
-use tks_text::{Failure, MAX_NUMBER, Seq, Size, Txt};
+use tks_text::{Failure, MAX_NUMBER, MAX_TIME, Seq, Size, Txt};
 use tks_timer::{AfterFault, Timers};
 use tks_tree::{CreateFault, Tree, WindowId};
 use tks_vars::Vars;
@@ -92,7 +89,7 @@ impl Model for World {
 fn counts_fit(accepted: u64, clock: u64) -> bool
     ensures { result ≡ counts_fit accepted clock }
 {
-    accepted <= MAX_NUMBER && clock <= MAX_NUMBER
+    accepted <= MAX_NUMBER && clock <= MAX_TIME
 }
 
 impl World {
@@ -130,7 +127,7 @@ impl World {
     // The same, where no number is too great.
     fn of_parts(alloc: Global, parts: WorldParts) -> Result<Option<World>, AllocError>
         requires counted { parts.accepted ≤ 2 ^ 62 }
-        requires clock { parts.clock ≤ 2 ^ 62 }
+        requires clock { parts.clock < 2 ^ 62 }
         ensures { IfOk result (λ world. world ≡ restored parts) }
     {
         let WorldParts {
@@ -184,7 +181,7 @@ impl World {
         grid: Size,
     ) -> Result<Option<World>, AllocError>
         requires counted { accepted ≤ 2 ^ 62 }
-        requires clock { event_loop.clock ≤ 2 ^ 62 }
+        requires clock { event_loop.clock < 2 ^ 62 }
         ensures { IfOk result (λ world. world ≡ restored (record { accepted = accepted; clock = event_loop.clock; tree = tree; windows = windows; variables = variables; bindings = events.bindings; virtuals = events.virtuals; history = events.history; queue = event_loop.queue; timers = event_loop.timers; focus = event_loop.focus; held = event_loop.held; pressed = event_loop.pressed; memories = memories; faults = events.faults; grid = grid })) }
     {
         // What holds of all histories is asked for here.
@@ -241,14 +238,20 @@ impl World {
         self.alloc
     }
 
+    /// What holds of all worlds.
+    pub fn stands(&self)
+        ensures { WellFormed self.now }
+    {
+        let _ = self.windows.get().tree();
+        self.events.stands();
+        self.event_loop.stands();
+    }
+
     /// How many inputs were accepted.
     pub fn accepted(&self) -> u64
         ensures value { result ≡ self.now.accepted }
-        ensures formed { WellFormed self.now }
+        ensures bound { self.now.accepted ≤ 2 ^ 62 }
     {
-        let _ = self.windows.get().tree();
-        let _ = self.events.faults();
-        let _ = self.event_loop.timers();
         self.accepted
     }
 
@@ -297,12 +300,12 @@ impl World {
         mem::replace(&mut self.variables, variables)
     }
 
-    /// Counts an input that was accepted.
-    pub fn count_input(&mut self)
-        requires { self.old.accepted < 2 ^ 62 }
-        ensures { self.new ≡ record self.old { accepted = self.old.accepted + 1 } }
+    /// Says how many inputs were accepted.
+    pub fn set_accepted(&mut self, count: u64)
+        requires { count ≤ 2 ^ 62 }
+        ensures { self.new ≡ record self.old { accepted = count } }
     {
-        self.accepted += 1;
+        self.accepted = count;
     }
 
     /// Makes a window other than `.`, which is this widget. The path has to be one that no window has, in a window that is there.
@@ -420,9 +423,11 @@ impl World {
     }
 
     /// Adds a sequence of physical events to a virtual event. One that is there stays where it is.
-    pub fn add_virtual(&mut self, name: &Txt, sequence: &Sequence) -> Result<(), AllocError>
-        requires name { is_name name.now ≡ true }
-        requires physical { is_of_name sequence.now ≡ false }
+    pub fn add_virtual(
+        &mut self,
+        name: &VirtualName,
+        sequence: &PhysicalSequence,
+    ) -> Result<(), AllocError>
         ensures ok { OnOk result (self.new ≡ with_virtual name.now sequence.now self.old) }
         ensures err { OnErr result (self.new ≡ self.old) }
     {
@@ -449,9 +454,9 @@ impl World {
         self.events.remove_virtual_sequence(name, sequence)
     }
 
-    /// Adds an event that is delivered to the history. Where memory is refused, it hands the event back.
+    /// Adds an event that is delivered to the history; a virtual one is passed over. Where memory is refused, it hands the event
+    /// back.
     pub fn add_event(&mut self, event: Event) -> Result<(), AllocFailed<Event>>
-        requires { is_event event ≡ true }
         ensures ok { OnOk result (self.new ≡ with_event event self.old) }
         ensures err { OnErr result (self.new ≡ self.old) }
         ensures handed_back { IfErr result (λ refused. refused.value ≡ event) }
@@ -470,14 +475,14 @@ impl World {
     /// The time, in milliseconds.
     pub fn clock(&self) -> u64
         ensures value { result ≡ self.now.clock }
-        ensures bound { self.now.clock ≤ 2 ^ 62 }
+        ensures bound { self.now.clock < 2 ^ 62 }
     {
         self.event_loop.clock()
     }
 
     /// Sets the clock.
     pub fn set_clock(&mut self, time: u64)
-        requires { time ≤ 2 ^ 62 }
+        requires { time < 2 ^ 62 }
         ensures { self.new ≡ with_clock time self.old }
     {
         self.event_loop.set_clock(time);
@@ -490,9 +495,8 @@ impl World {
         self.event_loop.queue()
     }
 
-    /// Puts an event into its place. Where no window has its number, nothing is done.
+    /// Puts an event into its place; one of a key waits under `.`. Where no window has its number, nothing is done.
     pub fn put_event(&mut self, place: Place, event: Event) -> Result<(), AllocError>
-        requires { is_event_in_some_window event ≡ true }
         ensures ok { OnOk result (self.new ≡ queued place event self.old) }
         ensures err { OnErr result (self.new ≡ self.old) }
     {
@@ -505,7 +509,6 @@ impl World {
     /// Takes out the event that is delivered next.
     pub fn take_event(&mut self) -> Result<Option<Event>, AllocError>
         ensures value { IfOk result (λ event. event ≡ first self.old.queue) }
-        ensures legal { IfOk result (λ o. IfSome o (λ event. is_event event ≡ true)) }
         ensures ok { OnOk result (self.new ≡ without_event self.old) }
         ensures err { OnErr result (self.new ≡ self.old) }
     {
@@ -599,8 +602,11 @@ impl World {
 
     /// The window that took the last press, if it is there.
     pub fn pressed(&self) -> Option<WindowId>
-        ensures { result ≡ self.now.pressed }
+        ensures value { result ≡ self.now.pressed }
+        ensures bound { IfSome result (λ window. window ≤ 2 ^ 62) }
     {
+        // What holds of all windows is asked for here.
+        let _ = self.windows.get().tree();
         self.event_loop.pressed()
     }
 

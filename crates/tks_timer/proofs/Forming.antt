@@ -8,8 +8,8 @@ use Rattle.std.proofs.lemmas.List.Folds.{list_all-append}
 use Rattle.tks_share.specs.Lists.{Rises}
 use Rattle.tks_timer.specs.declared.entry.Timer.{Timer}
 use Rattle.tks_timer.specs.declared.entry.Idle.{Idle}
-use Rattle.tks_timer.specs.After.{Content, no_later, with_timer, with_idle, without}
-use Rattle.tks_timer.specs.WellFormed.{rise_below, is_apart, are_apart, max_due, are_due, are_waiting, AreWaiting}
+use Rattle.tks_timer.specs.After.{Content, no_later, with_timer, with_idle, without, last_time}
+use Rattle.tks_timer.specs.WellFormed.{rise_below, is_apart, are_apart, are_due, are_waiting, AreWaiting}
 
 -- ---- tests of all members
 
@@ -144,7 +144,7 @@ timers_rise c h = rises (λ t. t.id) 0 c.next c.timers (parts_of c h.waiting).0.
 pub idles_rise : (c : Content) → AreWaiting c → Rises (λ (i : Idle). i.id) 0 c.idles
 idles_rise c h = rises (λ i. i.id) 0 c.next c.idles (parts_of c h.waiting).0.1
 
-due_in_time : (due : ℕ) → nat_le (no_later due) max_due ≡ true
+due_in_time : (due : ℕ) → nat_le (no_later due) last_time ≡ true
 due_in_time due = grind (arith, nat_tests)
 
 pub timer_kept : (due : ℕ) (script : List ℕ) (c : Content) → c.next < 2 ^ 62 → AreWaiting c → AreWaiting (with_timer due script c)
@@ -156,7 +156,7 @@ timer_kept due script c lt h =
       waiting =
           whole (with_timer due script c) (rise_pushed (λ t. t.id) 0 c.next c.timers t refl (omega arith) parts.0.0) (rise_further (λ i. i.id) 0 c.next c.idles parts.0.1)
           (all_pushed (λ t. is_apart t.id c.idles) c.timers t parts.1.0 (none_is_next (λ i. i.id) 0 c.next c.idles parts.0.1))
-          (all_pushed (λ t. nat_le t.due max_due) c.timers t parts.1.1 (due_in_time due));
+          (all_pushed (λ t. nat_le t.due last_time) c.timers t parts.1.1 (due_in_time due));
     }
 
 pub idle_kept : (script : List ℕ) (c : Content) → c.next < 2 ^ 62 → AreWaiting c → AreWaiting (with_idle script c)
@@ -180,5 +180,5 @@ fewer_kept id c h =
       waiting =
           whole (without id c) (rise_filtered (λ t. t.id) timers 0 c.next c.timers parts.0.0) (rise_filtered (λ i. i.id) idles 0 c.next c.idles parts.0.1)
           (all_filtered (λ t. is_apart t.id (filter idles c.idles)) timers c.timers (fewer_idles_apart idles c.idles c.timers parts.1.0))
-          (all_filtered (λ t. nat_le t.due max_due) timers c.timers parts.1.1);
+          (all_filtered (λ t. nat_le t.due last_time) timers c.timers parts.1.1);
     }

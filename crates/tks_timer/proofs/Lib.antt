@@ -1,3 +1,4 @@
 mod Rising
 mod Least
 mod Forming
+pub mod Firsts

@@ -1,5 +1,6 @@
 -- The definitions that contracts cite.
 pub mod After
+pub mod Firsts
 pub mod Ids
 pub mod Waits
 pub mod WellFormed

@@ -3,7 +3,7 @@ use Rattle.std.specs.Prelude.{ℕ, ◌≡◌, ◌+◌, ◌==◌, ◌≤◌, ◌^
 use Rattle.std.specs.List.{list_all}
 use Rattle.tks_timer.specs.declared.entry.Timer.{Timer}
 use Rattle.tks_timer.specs.declared.entry.Idle.{Idle}
-use Rattle.tks_timer.specs.After.{Content}
+use Rattle.tks_timer.specs.After.{Content, last_time}
 
 -- whether numbers rise, none less than the first and each below the next one
 abbrev pub rise_below : {T : Type 0} → (T → ℕ) → ℕ → ℕ → List T → Bool
@@ -19,13 +19,9 @@ is_apart id idles = list_all (λ i. not (i.id == id)) idles
 abbrev pub are_apart : List Idle → List Timer → Bool
 are_apart idles timers = list_all (λ t. is_apart t.id idles) timers
 
--- no timer is due later
-abbrev pub max_due : ℕ
-max_due = 2 ^ 62
-
--- whether each timer is due when there may be a time
+-- whether each timer is due when there is a time
 abbrev pub are_due : List Timer → Bool
-are_due timers = list_all (λ t. nat_le t.due max_due) timers
+are_due timers = list_all (λ t. nat_le t.due last_time) timers
 
 -- whether ids rise and differ, below the next one, and each timer is due when there is a time
 abbrev pub are_waiting : Content → Bool

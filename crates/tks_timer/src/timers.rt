@@ -4,6 +4,7 @@ ghost use Rattle.std.specs.List.Sorted.{IsSorted};
 ghost use Rattle.std.specs.Ordering.{nat_cmp};
 ghost use Rattle.tks_text.specs.Fault.{Gives};
 ghost use Rattle.tks_timer.specs.After.{Content, nothing, no_later, with_timer, with_idle, without, without_found, is_sooner, soonest, lesser, first_due, due_at, first_idle, timer_script, idle_script, kept_under, script_in, told_about, timer_with, idle_with, with_script, ids};
+ghost use Rattle.tks_timer.specs.Firsts.{CancelsLeast, RunsNext};
 ghost use Rattle.tks_timer.specs.Waits.{waiting_seen};
 ghost use Rattle.tks_timer.specs.WellFormed.{are_waiting, AreWaiting};
 
@@ -194,8 +195,10 @@ impl Timers {
     }
 
     /// The least id that has the script. It takes no memory.
+    #[tactic(auto, using(crate::proofs::Firsts::cancels_least))]
     pub fn find(&self, script: &Txt) -> Option<u64>
-        ensures { result ≡ with_script script.now self.now }
+        ensures value { result ≡ with_script script.now self.now }
+        ensures least { CancelsLeast script.now self.now result }
     {
         lesser(
             timer_with(&self.timers, script),
@@ -218,7 +221,8 @@ impl Timers {
     /// The id of the timer that is run at this time: of those that are due, the one that was due first, and of
     /// those that were due together the one with the least id. It takes no memory.
     pub fn due(&self, now: u64) -> Option<u64>
-        ensures { result ≡ due_at now self.now }
+        ensures value { result ≡ due_at now self.now }
+        ensures first { RunsNext now self.now.timers result }
     {
         let (_, id) = first_due(&self.timers, now)?;
         Some(id)

@@ -4,16 +4,13 @@ use Rattle.std.specs.Prelude.{◌-ℤ◌, nat_le, nat_lt, decimal, if◌then◌e
 use Rattle.std.specs.List.{find}
 use Rattle.std.proofs.lemmas.Bool.{and_from, and_parts, le-leb, lt-ltb, leb-true, ltb-true}
 use Rattle.tks_text.specs.Size.{Extent, IsGridSize}
-use Rattle.tks_event.specs.Kinds.{is_button}
+use Rattle.tks_event.specs.Kinds.{is_button, is_of_button, is_of_key}
 use Rattle.tks_event.specs.Keysyms.{is_keysym}
-use Rattle.tks_event.specs.Legality.{max_number, is_place, is_event}
+use Rattle.tks_event.specs.Legality.{max_number, max_time, is_place, is_event}
 use Rattle.tks_event.specs.declared.kind.Kind.{Kind}
 use Rattle.tks_event.specs.declared.kind.Kind.TheVariants as kind
-use Rattle.tks_bind.specs.Matching.{is_of_button}
-use Rattle.tks_bind.specs.Percents.{is_of_key}
 use Rattle.tks_cmd.proofs.Legal.{button_number_legal}
-use Rattle.tks_state.specs.EventLoop.{is_event_in_some_window}
-use Rattle.tks_state.specs.Layout.{LiesOn, AllLieOn}
+use Rattle.tks_state.specs.Layout.{IsShownOn, AllShownOn}
 use Rattle.tks_state.specs.World.{World}
 use Rattle.tks_state.specs.declared.layout.Placed.{Placed}
 use Rattle.tks_world.specs.Keys.{key_event}
@@ -22,10 +19,10 @@ use Rattle.tks_world.specs.declared.buttons.Target.{Target}
 
 -- ---- keys
 
-pub key_legal : (k : Kind) (key : List ℕ) (w : World) → is_of_key k ≡ true → w.clock ≤ 2 ^ 62 → is_keysym key ≡ true → is_event_in_some_window (key_event k key w) ≡ true
+pub key_legal : (k : Kind) (key : List ℕ) (w : World) → is_of_key k ≡ true → w.clock < 2 ^ 62 → is_keysym key ≡ true → is_event (key_event k key w) ≡ true
 unfolding is_event
-key_legal kind.KeyPress key w of early is = and_from (nat_le w.clock max_number) _ (le-leb w.clock max_number early) (and_from (is_keysym key) true is refl)
-key_legal kind.KeyRelease key w of early is = and_from (nat_le w.clock max_number) _ (le-leb w.clock max_number early) (and_from (is_keysym key) true is refl)
+key_legal kind.KeyPress key w of early is = and_from (nat_le w.clock max_time) _ (le-leb w.clock max_time (omega (arith, early))) (and_from (is_keysym key) true is refl)
+key_legal kind.KeyRelease key w of early is = and_from (nat_le w.clock max_time) _ (le-leb w.clock max_time (omega (arith, early))) (and_from (is_keysym key) true is refl)
 key_legal kind.ButtonPress key w of early is = absurd cc
 key_legal kind.ButtonRelease key w of early is = absurd cc
 key_legal kind.FocusIn key w of early is = absurd cc
@@ -50,8 +47,8 @@ module _ (button x y : ℕ) (t : Target) (w : World) where
   abbrev lies : Bool
   lies = is_place (pos x -ℤ pos t.column) && (is_place (pos y -ℤ pos t.row) && (is_place (pos x) && is_place (pos y)))
 
-  pub button_legal : (k : Kind) → is_of_button k ≡ true → is_button_number button ≡ true → on_grid w x y ≡ true → IsGridSize w.grid.width w.grid.height → IsNear t → w.clock ≤ 2 ^ 62
-      → is_event_in_some_window (button_event k button x y t w) ≡ true
+  pub button_legal : (k : Kind) → is_of_button k ≡ true → is_button_number button ≡ true → on_grid w x y ≡ true → IsGridSize w.grid.width w.grid.height → IsNear t → w.clock < 2 ^ 62
+      → is_event (button_event k button x y t w) ≡ true
   unfolding is_event
   button_legal k of number cell size near early =
       let a = and_parts (nat_le 1 button) (nat_le button 5) number in
@@ -59,13 +56,17 @@ module _ (button x y : ℕ) (t : Target) (w : World) where
       let left : x ≤ 100_000 = omega (arith, ltb-true x w.grid.width c.0, size.1) in
       let top : y ≤ 100_000 = omega (arith, ltb-true y w.grid.height c.1, size.3) in
       let somewhere =
-      places (is_place (pos x -ℤ pos t.column)) (is_place (pos y -ℤ pos t.row)) (is_place (pos x)) (is_place (pos y)) (place_between x t.column left (omega (arith, near.0)))
-      (place_between y t.row top (omega (arith, near.1))) (le-leb x 100_000 left) (le-leb y 100_000 top) in
-      by k of (le-leb w.clock max_number early) (button_number_legal button (leb-true 1 button a.0) (leb-true button 5 a.1)) somewhere
+      places (is_place (pos x -ℤ pos t.column)) (is_place (pos y -ℤ pos t.row)) (is_place (pos x)) (is_place (pos y)) (place_between x t.column left (omega (arith, near.1)))
+      (place_between y t.row top (omega (arith, near.2))) (le-leb x 100_000 left) (le-leb y 100_000 top) in
+      by k of (and_from (nat_le t.window max_number) (nat_le w.clock max_time) (le-leb t.window max_number near.0) (le-leb w.clock max_time (omega (arith, early)))) (button_number_legal button (leb-true 1 button a.0) (leb-true button 5 a.1)) somewhere
     where
-      by : (k : Kind) → is_of_button k ≡ true → nat_le w.clock max_number ≡ true → is_button (decimal button) ≡ true → lies ≡ true → is_event_in_some_window (button_event k button x y t w) ≡ true
-      by kind.ButtonPress of time is somewhere = and_from (nat_le w.clock max_number) _ time (and_from (is_button (decimal button)) _ is (and_from lies true somewhere refl))
-      by kind.ButtonRelease of time is somewhere = and_from (nat_le w.clock max_number) _ time (and_from (is_button (decimal button)) _ is (and_from lies true somewhere refl))
+      by : (k : Kind) → is_of_button k ≡ true → (nat_le t.window max_number && nat_le w.clock max_time) ≡ true → is_button (decimal button) ≡ true → lies ≡ true → is_event (button_event k button x y t w) ≡ true
+      by kind.ButtonPress of counts is somewhere =
+          let both = and_parts (nat_le t.window max_number) (nat_le w.clock max_time) counts in
+          and_from (nat_le t.window max_number) _ both.0 (and_from (nat_le w.clock max_time) _ both.1 (and_from (is_button (decimal button)) _ is (and_from lies true somewhere refl)))
+      by kind.ButtonRelease of counts is somewhere =
+          let both = and_parts (nat_le t.window max_number) (nat_le w.clock max_time) counts in
+          and_from (nat_le t.window max_number) _ both.0 (and_from (nat_le w.clock max_time) _ both.1 (and_from (is_button (decimal button)) _ is (and_from lies true somewhere refl)))
       by kind.KeyPress of time is somewhere = absurd cc
       by kind.KeyRelease of time is somewhere = absurd cc
       by kind.FocusIn of time is somewhere = absurd cc
@@ -75,17 +76,17 @@ module _ (button x y : ℕ) (t : Target) (w : World) where
 -- ---- where windows lie
 
 -- one of those that lie on a grid has its top left cell near
-pub lies_near : (g : Extent) (o : Option Placed) → IsGridSize g.width g.height → IfSome o (λ p. LiesOn g p.area) → IfSome o (λ p. (p.area.x ≤ 200) × (p.area.y ≤ 100))
+pub lies_near : (g : Extent) (o : Option Placed) → IsGridSize g.width g.height → IfSome o (IsShownOn g) → IfSome o (λ p. (p.area.x ≤ 200) × (p.area.y ≤ 100))
 lies_near g None size h = tt
-lies_near g (Some p) size h = (omega (arith, size.1, h.0), omega (arith, size.3, h.1))
+lies_near g (Some p) size h = (omega (arith, size.1, h.1.0), omega (arith, size.3, h.1.1))
 
-found_inside : (g : Extent) (window : ℕ) (ps : List Placed) → AllLieOn g ps → IfSome (find (λ p. p.window == window) ps) (λ p. LiesOn g p.area)
+found_inside : (g : Extent) (window : ℕ) (ps : List Placed) → AllShownOn g ps → IfSome (find (λ p. p.window == window) ps) (IsShownOn g)
 found_inside g window [] all = tt
 found_inside g window (p ∷ ps) all = by (p.window == window) (found_inside g window ps all.1)
   where
-    by : (b : Bool) → IfSome (find (λ p. p.window == window) ps) (λ p. LiesOn g p.area) → IfSome (if b then Some p else find (λ p. p.window == window) ps) (λ p. LiesOn g p.area)
+    by : (b : Bool) → IfSome (find (λ p. p.window == window) ps) (IsShownOn g) → IfSome (if b then Some p else find (λ p. p.window == window) ps) (IsShownOn g)
     by true rest = all.0
     by false rest = rest
 
-pub found_near : (g : Extent) (window : ℕ) (ps : List Placed) → IsGridSize g.width g.height → AllLieOn g ps → IfSome (find (λ p. p.window == window) ps) (λ p. (p.area.x ≤ 200) × (p.area.y ≤ 100))
+pub found_near : (g : Extent) (window : ℕ) (ps : List Placed) → IsGridSize g.width g.height → AllShownOn g ps → IfSome (find (λ p. p.window == window) ps) (λ p. (p.area.x ≤ 200) × (p.area.y ≤ 100))
 found_near g window ps size all = lies_near g (find (λ p. p.window == window) ps) size (found_inside g window ps all)

@@ -7,3 +7,4 @@ pub mod Stepping
 pub mod Words
 pub mod Resting
 pub mod Legal
+mod Quiet

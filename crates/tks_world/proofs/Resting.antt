@@ -10,7 +10,7 @@ use Rattle.tks_vars.specs.Variables.{Variables}
 use Rattle.tks_vars.proofs.Framing.{itself}
 use Rattle.tks_text.specs.Limits.{fits}
 use Rattle.tks_event.specs.Keysyms.{is_keysym}
-use Rattle.tks_event.specs.declared.event.Event.{Event}
+use Rattle.tks_event.specs.Event.{Event}
 use Rattle.tks_event.specs.declared.held.Held.{Held}
 use Rattle.tks_event.specs.declared.kind.Kind.{Kind}
 use Rattle.tks_event.specs.declared.kind.Kind.TheVariants as kind
@@ -66,11 +66,11 @@ one_of : (b : Bool) (s t : Stepped) → RestsAfter s → RestsAfter t → RestsA
 one_of true s t h k = h
 one_of false s t h k = k
 
-counted_rests : (w : World) (memories : Map (List ℕ)) (code : ℕ) (text : List ℕ) (v : Variables) → v.locals ≡ [] → RestsAfter (counted w memories code text v)
-counted_rests w memories code text v none = one_of (w.accepted == max_count) _ _ tt none
+counted_rests : (before : ℕ) (w : World) (memories : Map (List ℕ)) (code : ℕ) (text : List ℕ) (v : Variables) → v.locals ≡ [] → RestsAfter (counted before w memories code text v)
+counted_rests before w memories code text v none = one_of (before == max_count) _ _ tt none
 
 kept_rests : (w : World) → AtRest w → RestsAfter (kept w)
-kept_rests w rest = counted_rests w w.memories 0 [] w.variables rest
+kept_rests w rest = counted_rests w.accepted w w.memories 0 [] w.variables rest
 
 -- ---- keys, buttons, the clock
 
@@ -154,24 +154,24 @@ module _ (m : Meaning) where
     pub thing_rests : (t : Thing) → thing_does m limits t s v ≡ End code text s' u fuel → u.locals ≡ []
     thing_rests t e = none_left v u (subst (Leaves v) e (thing_leaves limits t s v)).leaves none
 
-  concluded_rests : (v : Variables) (o : Outcome Setting) → v.locals ≡ [] → Leaves v o → RestsAfter (concluded o)
-  concluded_rests v (Stopped why) none h = tt
-  concluded_rests v (End code text s u fuel) none h = counted_rests s.world s.memories code text u (none_left v u h.leaves none)
+  concluded_rests : (before : ℕ) (v : Variables) (o : Outcome Setting) → v.locals ≡ [] → Leaves v o → RestsAfter (concluded before o)
+  concluded_rests before v (Stopped why) none h = tt
+  concluded_rests before v (End code text s u fuel) none h = counted_rests before s.world s.memories code text u (none_left v u h.leaves none)
 
-  finished_rests : (text : List ℕ) (v : Variables) (o : Outcome Setting) → v.locals ≡ [] → Leaves v o → RestsAfter (finished text o)
-  finished_rests text v (Stopped why) none h = tt
-  finished_rests text v (End code other s u fuel) none h = counted_rests s.world s.memories 0 text u (none_left v u h.leaves none)
+  finished_rests : (before : ℕ) (text : List ℕ) (v : Variables) (o : Outcome Setting) → v.locals ≡ [] → Leaves v o → RestsAfter (finished before text o)
+  finished_rests before text v (Stopped why) none h = tt
+  finished_rests before text v (End code other s u fuel) none h = counted_rests before s.world s.memories 0 text u (none_left v u h.leaves none)
 
   turned_rests : (limits : Limits) (next : Next) (s : Setting) (v : Variables) → v.locals ≡ [] → RestsAfter (turned m limits next s v)
   turned_rests limits None s v none = tt
-  turned_rests limits (Some x) s v none = finished_rests (told x.1 x.0) v _ none (thing_leaves limits x.0 (record s { world = x.1 }) v)
+  turned_rests limits (Some x) s v none = finished_rests s.world.accepted (told x.1 x.0) v _ none (thing_leaves limits x.0 (record s { world = x.1 }) v)
 
 -- ---- all inputs
 
 step_rests : (app : Application) (w : World) (input : Input) (limits : Limits) → AtRest w → RestsAfter (step app w input limits)
 unfolding step
 step_rests app w (Script text) limits rest =
-    one_of (nat_lt limits.text (length text)) _ _ tt (concluded_rests app.meaning w.variables _ rest (script_leaves app.meaning limits (script_of text) (lent app.names limits w) w.variables))
+    one_of (nat_lt limits.text (length text)) _ _ tt (concluded_rests app.meaning w.accepted w.variables _ rest (script_leaves app.meaning limits (script_of text) (lent app.names limits w) w.variables))
 step_rests app w (KeyPress key) limits rest = key_rests limits kind.KeyPress key (pressed key w.held) w rest
 step_rests app w (KeyRelease key) limits rest = key_rests limits kind.KeyRelease key (released key w.held) w rest
 step_rests app w (Press button x y) limits rest =

@@ -22,11 +22,11 @@ use Rattle.tks_input.specs.declared.reply.Reply.{Reply}
 use Rattle.tks_input.specs.declared.reply.Refused.{Refused}
 
 -- a stop refuses the input
-pub refuses : (o : Outcome Setting) (why : Stop) → StopsSo o why → RefusedSo (refused_by why) (concluded o)
-refuses o stop.Budget h = ap concluded h
-refuses o stop.Depth h = ap concluded h
-refuses o stop.TooLarge h = ap concluded h
-refuses o stop.NoMemory h = tt
+pub refuses : (before : ℕ) (o : Outcome Setting) (why : Stop) → StopsSo o why → RefusedSo (refused_by why) (concluded before o)
+refuses before o stop.Budget h = ap (concluded before) h
+refuses before o stop.Depth h = ap (concluded before) h
+refuses before o stop.TooLarge h = ap (concluded before) h
+refuses before o stop.NoMemory h = tt
 
 not_over : (n limit : ℕ) → n ≤ limit → ltb limit n ≡ false
 not_over n limit le = by (ltb limit n) refl
@@ -38,17 +38,17 @@ not_over n limit le = by (ltb limit n) refl
 -- a script within the limit is run in the world that it is lent
 pub runs : (app : Application) (w : World) (text : List ℕ) (limits : Limits) (script : tree.Script) (setting : Setting) (variables : Variables) → length text ≤ limits.text
     → script ≡ script_of text → setting ≡ lent app.names limits w → variables ≡ w.variables
-    → script_step app w text limits ≡ concluded (script_ends app.meaning limits script setting variables)
+    → script_step app w text limits ≡ concluded setting.world.accepted (script_ends app.meaning limits script setting variables)
 runs app w text limits script setting variables short read same given =
-    rw (not_over (length text) limits.text short) (λ i. concluded (script_ends app.meaning limits (sym read i) (sym same i) (sym given i)))
+    rw (not_over (length text) limits.text short) (λ i. concluded (sym same i).world.accepted (script_ends app.meaning limits (sym read i) (sym same i) (sym given i)))
 
 -- what is taken out is done in the world without it, and what is told of it is told before
 pub does_next : (m : Meaning) (limits : Limits) (setting : Setting) (variables : Variables) (x : Thing) (left : World) (text : List ℕ) (result : Result Reply Refused) (new : World)
     → next_thing setting.world ≡ Some (x, left) → text ≡ told left x
-    → ReachesSo (finished text (thing_does m limits x (record setting { world = left }) variables)) result new → ReachesSo (turn_does m limits setting variables) result new
+    → ReachesSo (finished setting.world.accepted text (thing_does m limits x (record setting { world = left }) variables)) result new → ReachesSo (turn_does m limits setting variables) result new
 does_next m limits setting variables x left text result new next is h =
     subst (λ n. ReachesSo (turned m limits n setting variables) result new) (sym next)
-    (subst (λ t. ReachesSo (finished t (thing_does m limits x (record setting { world = left }) variables)) result new) is h)
+    (subst (λ t. ReachesSo (finished setting.world.accepted t (thing_does m limits x (record setting { world = left }) variables)) result new) is h)
 
 -- a turn is done in the world that it is lent
 pub turns_lent : (app : Application) (w : World) (limits : Limits) (setting : Setting) (variables : Variables) → setting ≡ lent app.names limits w → variables ≡ w.variables

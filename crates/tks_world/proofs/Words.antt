@@ -5,7 +5,7 @@ use Rattle.std.proofs.lemmas.Bool.{cond_both, eqb-true, false_from_ne_true}
 use Rattle.tks_text.specs.Backslash.{Escapes, has_meaning, n_newline, t_tab, control, itself}
 use Rattle.tks_text.specs.Text.{is_text_byte, BeginsNot}
 use Rattle.tks_text.proofs.Tests.{or_case, neither}
-use Rattle.tks_event.specs.declared.event.Event.{Event}
+use Rattle.tks_event.specs.Event.{Event}
 use Rattle.tks_bind.specs.Percents.{has_field, field_text, value}
 use Rattle.tks_bind.specs.declared.field.Field.{Field}
 use Rattle.tks_list.specs.Quoting.{is_sign, backslashed_char, backslashed_chars, backslashed}

@@ -1,11 +1,11 @@
 -- Buttons that go down and up over cells of the grid (bind(n), "Event types": what events of buttons carry; that a release
 -- goes to the window that took the last press, and that all of it is fixed when the input is accepted, are this project's
 -- own rules).
-use Rattle.std.specs.Prelude.{pos, ◌-ℤ◌, ℕ, ◌≤◌, Bool, true, false, ◌&&◌, ◌==◌, nat_le, nat_lt, if◌then◌else◌, [], Option, Some, None, decimal}
+use Rattle.std.specs.Prelude.{pos, ◌-ℤ◌, ℕ, ◌≤◌, ◌^◌, Bool, true, false, ◌&&◌, ◌==◌, nat_le, nat_lt, if◌then◌else◌, [], Option, Some, None, decimal}
 use Rattle.std.specs.List.{find}
 use Rattle.tks_text.specs.declared.limits.Limits.{Limits}
 use Rattle.tks_event.specs.Held.{state_of, with_button}
-use Rattle.tks_event.specs.declared.event.Event.{Event}
+use Rattle.tks_event.specs.Event.{Event}
 use Rattle.tks_event.specs.declared.kind.Kind.{Kind}
 use Rattle.tks_event.specs.declared.kind.Kind.TheVariants as kind
 use Rattle.tks_state.specs.World.{World}
@@ -31,9 +31,9 @@ abbrev pub target_placed : ℕ → Option Placed → Target
 target_placed window None = record { window = window; column = 0; row = 0 }
 target_placed window (Some p) = record { window = window; column = p.area.x; row = p.area.y }
 
--- its top left cell is one that some grid has
+-- its number is one that there is, and its top left cell is one that some grid has
 abbrev pub IsNear : Target → Type 0
-IsNear t = (t.column ≤ 200) × (t.row ≤ 100)
+IsNear t = (t.window ≤ 2 ^ 62) × (t.column ≤ 200) × (t.row ≤ 100)
 
 -- the topmost window of a cell; `.` has those that no other has
 abbrev pub seen_target : Option Placed → Target

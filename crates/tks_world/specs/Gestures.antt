@@ -3,7 +3,7 @@
 use Rattle.std.specs.Prelude.{ℕ, Bool, ◌&&◌, nat_lt, if◌then◌else◌, length, Option, Some, None}
 use Rattle.tks_text.specs.declared.limits.Limits.{Limits}
 use Rattle.tks_text.specs.Limits.{fits}
-use Rattle.tks_event.specs.declared.event.Event.{Event}
+use Rattle.tks_event.specs.Event.{Event}
 use Rattle.tks_queue.specs.declared.place.Place.TheVariants as place
 use Rattle.tks_state.specs.World.{World, queued, holding, pressed_in}
 use Rattle.tks_world.specs.Stepped.{Stepped, Refuses, kept}

@@ -4,7 +4,7 @@ use Rattle.std.specs.Prelude.{pos, ℕ, if◌then◌else◌, List, [], None}
 use Rattle.tks_text.specs.declared.limits.Limits.{Limits}
 use Rattle.tks_event.specs.Held.{state_of, pressed, released}
 use Rattle.tks_event.specs.Keysyms.{is_keysym}
-use Rattle.tks_event.specs.declared.event.Event.{Event}
+use Rattle.tks_event.specs.Event.{Event}
 use Rattle.tks_event.specs.declared.held.Held.{Held}
 use Rattle.tks_event.specs.declared.kind.Kind.{Kind}
 use Rattle.tks_event.specs.declared.kind.Kind.TheVariants as kind

@@ -1,11 +1,14 @@
 -- What holds of all steps, and of all runs (this project's own rule).
-use Rattle.std.specs.Prelude.{◌≡◌, ◌++◌, List, []}
+use Rattle.std.specs.Prelude.{◌≡◌, ◌↔◌, ◌<◌, ◌+◌, ◌++◌, List, [], ◌∷◌}
+use Rattle.std.specs.List.{AllByRecursion}
 use Rattle.tks_text.specs.declared.limits.Limits.{Limits}
 use Rattle.tks_app.specs.Applications.{Application}
 use Rattle.tks_state.specs.World.{World}
-use Rattle.tks_world.specs.Step.{step, Accepts}
+use Rattle.tks_world.specs.Step.{step, Accepts, Refuses}
 use Rattle.tks_world.specs.Run.{run_of, then_run, accepted_among}
 use Rattle.tks_input.specs.declared.input.Input.{Input}
+use Rattle.tks_input.specs.declared.input.Input.TheVariants.{Turn}
+use Rattle.tks_input.specs.declared.reply.Refused.TheVariants.{Quiet}
 use Rattle.tks_input.specs.declared.reply.Reply.{Reply}
 
 -- what is accepted within limits is accepted within wider ones, with the same world and reply
@@ -33,3 +36,31 @@ StepsRest app limits = (world : World) (input : Input) (world' : World) (reply :
 
 abbrev pub RunsRest : Application → Limits → Type 0
 RunsRest app limits = (world : World) (inputs : List Input) → AtRest world → AtRest (run_of app world inputs limits).0
+
+-- nothing is to be done: no event waits, no timer is due, and no idle script stands
+pub record NothingWaits (w : World) : Type 0 where
+  pub events : w.queue ≡ []
+  pub timers : AllByRecursion (λ t. w.clock < t.due) w.timers.timers
+  pub idles : w.timers.idles ≡ []
+
+-- a turn is quiet just there
+abbrev pub QuietSo : Application → Limits → Type 0
+QuietSo app limits = (world : World) → (step app world Turn limits ≡ Refuses Quiet) ↔ NothingWaits world
+
+-- an accepted input adds one to the count of the world, and its reply tells that count
+abbrev pub StepsCount : Application → Limits → Type 0
+StepsCount app limits = (world : World) (input : Input) (world' : World) (reply : Reply)
+    → step app world input limits ≡ Accepts world' reply → (world'.accepted ≡ world.accepted + 1) × (reply.number ≡ world.accepted + 1)
+
+-- these inputs, one after the other, are each accepted, with these replies, and lead from the one world to the other
+abbrev pub Accepted : Application → Limits → World → List Input → List Reply → World → Type 0
+Accepted app limits old [] [] new = old ≡ new
+Accepted app limits old [] (reply ∷ replies) new = ⊥
+Accepted app limits old (input ∷ inputs) [] new = ⊥
+Accepted app limits old (input ∷ inputs) (reply ∷ replies) new =
+    (mid : World) × (step app old input limits ≡ Accepts mid reply) × Accepted app limits mid inputs replies new
+
+-- inputs that are accepted within limits are accepted within wider ones, with the same replies, and lead to the same world
+abbrev pub RunsStay : Application → Limits → Limits → Type 0
+RunsStay app limits wider = (old : World) (inputs : List Input) (replies : List Reply) (new : World)
+    → Accepted app limits old inputs replies new → Accepted app wider old inputs replies new

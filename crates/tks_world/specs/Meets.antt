@@ -12,7 +12,7 @@ use Rattle.tks_vars.specs.Table.{Map}
 use Rattle.tks_eval.specs.declared.ended.Ended.{Ended}
 use Rattle.tks_eval.specs.declared.host.Plan.{Plan}
 use Rattle.tks_eval.specs.declared.host.Plan.TheVariants as plan
-use Rattle.tks_event.specs.declared.event.Event.{Event}
+use Rattle.tks_event.specs.Event.{Event}
 use Rattle.tks_queue.specs.declared.place.Place.TheVariants as place
 use Rattle.tks_state.specs.World.{World, queued}
 use Rattle.tks_world.specs.Stepped.{Stepped, Accepts, Refuses, max_count}

@@ -19,10 +19,10 @@ refusal_of OutOfSteps = Budget
 refusal_of TooDeep = Depth
 refusal_of outcome.TooLarge = TooLarge
 
--- a script's end accepts the input, a stop refuses it
-abbrev pub concluded : Outcome Setting → Stepped
-concluded (Stopped why) = Refuses (refusal_of why)
-concluded (End code text setting variables fuel) = counted setting.world setting.memories code text variables
+-- a script's end accepts the input, behind so many, a stop refuses it
+abbrev pub concluded : ℕ → Outcome Setting → Stepped
+concluded before (Stopped why) = Refuses (refusal_of why)
+concluded before (End code text setting variables fuel) = counted before setting.world setting.memories code text variables
 
 -- a script at top level, run to its end with all the steps that an input has
 abbrev pub script_ends : Meaning → Limits → tree.Script → Setting → Variables → Outcome Setting
@@ -36,4 +36,4 @@ lent names limits world = record { world = stripped world; memories = world.memo
 abbrev pub script_step : Application → World → List ℕ → Limits → Stepped
 script_step app world text limits =
     if nat_lt limits.text (length text) then Refuses BadInput
-    else concluded (script_ends app.meaning limits (script_of text) (lent app.names limits world) world.variables)
+    else concluded world.accepted (script_ends app.meaning limits (script_of text) (lent app.names limits world) world.variables)

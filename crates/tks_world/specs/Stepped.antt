@@ -16,12 +16,12 @@ pub data Stepped : Type 0 where
 abbrev pub max_count : ℕ
 max_count = 2 ^ 62
 
--- one input more, unless the count is at its greatest; variables and memories go back into the world
-abbrev pub counted : World → Map (List ℕ) → ℕ → List ℕ → Variables → Stepped
-counted world memories code text variables =
-    if world.accepted == max_count then Refuses TooLarge
-    else Accepts (record world { accepted = world.accepted + 1; variables = variables; memories = memories }) (record { number = world.accepted + 1; code = code; text = text })
+-- one input more than so many, unless these are all that there may be; variables and memories go back into the world
+abbrev pub counted : ℕ → World → Map (List ℕ) → ℕ → List ℕ → Variables → Stepped
+counted before world memories code text variables =
+    if before == max_count then Refuses TooLarge
+    else Accepts (record world { accepted = before + 1; variables = variables; memories = memories }) (record { number = before + 1; code = code; text = text })
 
 -- an input that runs no script, and leaves this world: there is nothing to say
 abbrev pub kept : World → Stepped
-kept world = counted world world.memories 0 [] world.variables
+kept world = counted world.accepted world world.memories 0 [] world.variables

@@ -1,8 +1,7 @@
 -- What is told of a thing that a turn does, before anything of it is done (this project's own rule).
 use Rattle.std.specs.Prelude.{ℕ, if◌then◌else◌, List, [], ◌∷◌, ◌++◌, codes, decimal}
-use Rattle.tks_event.specs.Kinds.{kind_name}
-use Rattle.tks_event.specs.declared.event.Event.{Event}
-use Rattle.tks_bind.specs.Percents.{is_virtual}
+use Rattle.tks_event.specs.Kinds.{kind_name, is_virtual}
+use Rattle.tks_event.specs.Event.{Event}
 use Rattle.tks_tree.specs.Windows.{of_number, on_window}
 use Rattle.tks_state.specs.World.{World}
 use Rattle.tks_cmd.specs.Dispatch.{delivered}

@@ -1,17 +1,11 @@
 -- Which of the things that wait is done next (event(n), after(n); their order is this project's own rule).
-use Rattle.std.specs.Prelude.{◌≡◌, ℕ, true, List, Option, Some, None, option_map}
-use Rattle.tks_event.specs.Legality.{is_event}
-use Rattle.tks_event.specs.declared.event.Event.{Event}
+use Rattle.std.specs.Prelude.{ℕ, List, Option, Some, None, option_map}
+use Rattle.tks_event.specs.Event.{Event}
 use Rattle.tks_queue.specs.EventQueue.{first}
 use Rattle.tks_timer.specs.After.{due_at, first_idle, kept_under, script_in}
 use Rattle.tks_state.specs.World.{World, without_event, without_id}
 use Rattle.tks_world.specs.declared.things.Thing.{Thing}
 use Rattle.tks_world.specs.declared.things.Thing.TheVariants as thing
-
--- the event of a thing, if it is one, is one that there is
-abbrev pub IsLegal : Thing → Type 0
-IsLegal (thing.Event e) = is_event e ≡ true
-IsLegal other = Unit {0}
 
 -- what is done next, and the world without it
 abbrev pub Next : Type 0

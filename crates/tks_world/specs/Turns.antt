@@ -4,7 +4,7 @@ use Rattle.tks_text.specs.declared.limits.Limits.{Limits}
 use Rattle.tks_parse.specs.Reading.{script_of}
 use Rattle.tks_vars.specs.Variables.{Variables}
 use Rattle.tks_app.specs.Applications.{Application, Meaning}
-use Rattle.tks_event.specs.declared.event.Event.{Event}
+use Rattle.tks_event.specs.Event.{Event}
 use Rattle.tks_state.specs.World.{World}
 use Rattle.tks_cmd.specs.Dispatch.{begun}
 use Rattle.tks_eval.specs.Outcome.{Outcome, End, Stopped, given}
@@ -27,10 +27,10 @@ noted m (Stopped why) = Stopped why
 noted m (End code text setting variables fuel) =
     if code == 0 then End 0 [] setting variables fuel else End 0 [] ((hosting m).faulted setting text) variables fuel
 
--- whatever a thing's scripts end with, the input is accepted with what is told of it; a stop refuses it
-abbrev pub finished : List ℕ → Outcome Setting → Stepped
-finished text (Stopped why) = Refuses (refusal_of why)
-finished text (End code other setting variables fuel) = counted setting.world setting.memories 0 text variables
+-- whatever a thing's scripts end with, the input is accepted, behind so many, with what is told of it; a stop refuses it
+abbrev pub finished : ℕ → List ℕ → Outcome Setting → Stepped
+finished before text (Stopped why) = Refuses (refusal_of why)
+finished before text (End code other setting variables fuel) = counted before setting.world setting.memories 0 text variables
 
 module _ (m : Meaning) (limits : Limits) where
   -- a script that was kept for later runs at top level
@@ -55,7 +55,7 @@ module _ (m : Meaning) (limits : Limits) where
   -- what is told is told of what is there before anything runs; with nothing to do the input is refused
   abbrev pub turned : Next → Setting → Variables → Stepped
   turned None setting variables = Refuses Quiet
-  turned (Some x) setting variables = finished (told x.1 x.0) (thing_does x.0 (record setting { world = x.1 }) variables)
+  turned (Some x) setting variables = finished setting.world.accepted (told x.1 x.0) (thing_does x.0 (record setting { world = x.1 }) variables)
 
   -- a turn in the world that is lent
   abbrev pub turn_does : Setting → Variables → Stepped

@@ -1,15 +1,15 @@
 //! Buttons that go down and up over cells of the grid.
-ghost use Rattle.std.specs.Prelude.{◌≡◌, ◌≤◌, ◌^◌, ◌==◌, true, option_copied, IfOk, IfErr, IfSome, OnErr};
+ghost use Rattle.std.specs.Prelude.{◌≡◌, ◌≤◌, ◌<◌, ◌^◌, ◌==◌, true, option_copied, IfOk, IfErr, IfSome, OnErr};
 ghost use Rattle.std.specs.List.{find};
 ghost use Rattle.tks_text.specs.Size.{IsGridSize};
-ghost use Rattle.tks_state.specs.EventLoop.{is_event_in_some_window};
+ghost use Rattle.tks_event.specs.Kinds.{is_of_button};
 ghost use Rattle.tks_world.specs.Meets.{RefusedSo};
 ghost use Rattle.tks_world.specs.Stepped.{Accepts};
 ghost use Rattle.tks_world.specs.Buttons.{is_button_number, on_grid, target_placed, target_at, target_of, release_target, IsNear, button_event, press_gesture, release_gesture, press_step, release_step};
 
 use crate::gestures::{Gesture, accept_gesture};
 use std::alloc::{AllocError, Global};
-use tks_event::{Event, Kind};
+use tks_event::{Event, EventFields, Kind};
 use tks_input::{Refused, Reply};
 use tks_state::{Placed, World};
 use tks_text::{Limits, Txt, decimal_of};
@@ -43,7 +43,7 @@ fn is_on_grid(world: &World, x: u16, y: u16) -> bool
 // What holds of the grid and the clock of each world.
 fn bounds(world: &World)
     ensures grid { IsGridSize world.now.grid.width world.now.grid.height }
-    ensures clock { world.now.clock ≤ 2 ^ 62 }
+    ensures clock { world.now.clock < 2 ^ 62 }
 {
     let _ = world.grid().width();
     let _ = world.clock();
@@ -51,7 +51,8 @@ fn bounds(world: &World)
 
 // A window with its top left cell, which counts as that of the grid where it is not shown.
 fn target_placed(window: WindowId, placed: Option<Placed>) -> Target
-    requires { IfSome placed (λ p. (p.area.x ≤ 200) × (p.area.y ≤ 100)) }
+    requires low { window ≤ 2 ^ 62 }
+    requires near { IfSome placed (λ p. (p.area.x ≤ 200) × (p.area.y ≤ 100)) }
     ensures value { result ≡ target_placed window placed }
     ensures near { IsNear result }
 {
@@ -95,6 +96,7 @@ fn placed(shown: &[Placed], window: WindowId) -> Option<Placed>
 
 // The window of a number.
 fn target_of(world: &World, window: WindowId) -> Result<Target, AllocError>
+    requires { window ≤ 2 ^ 62 }
     ensures value { IfOk result (λ t. t ≡ target_of world.now window) }
     ensures near { IfOk result IsNear }
 {
@@ -120,8 +122,8 @@ fn release_target(world: &World, x: u16, y: u16) -> Result<Target, AllocError>
     }
 }
 
-// The event of a button.
-fn button_event(
+// What the event of a button says.
+fn button_fields(
     alloc: Global,
     world: &World,
     kind: Kind,
@@ -129,10 +131,10 @@ fn button_event(
     x: u16,
     y: u16,
     target: &Target,
-) -> Result<Event, AllocError>
+) -> Result<EventFields, AllocError>
     ensures { IfOk result (λ e. e ≡ button_event kind button x y target.now world.now) }
 {
-    Ok(Event {
+    Ok(EventFields {
         window: target.window.number(),
         kind,
         detail: decimal_of(alloc, i64::from(button))?,
@@ -146,6 +148,27 @@ fn button_event(
     })
 }
 
+// The event of a button.
+fn button_event(
+    alloc: Global,
+    world: &World,
+    kind: Kind,
+    button: u8,
+    x: u16,
+    y: u16,
+    target: &Target,
+) -> Result<Event, AllocError>
+    requires kind { is_of_button kind ≡ true }
+    requires button { is_button_number button ≡ true }
+    requires cell { on_grid world.now x y ≡ true }
+    requires near { IsNear target.now }
+    ensures { IfOk result (λ e. e ≡ button_event kind button x y target.now world.now) }
+{
+    bounds(world);
+    let fields = button_fields(alloc, world, kind, button, x, y, target)?;
+    Ok(Event::new(fields))
+}
+
 // A button goes down over a cell. The window that is seen there takes the press.
 fn press_gesture(
     alloc: Global,
@@ -156,12 +179,10 @@ fn press_gesture(
 ) -> Result<Gesture, AllocError>
     requires button { is_button_number button ≡ true }
     requires cell { on_grid world.now x y ≡ true }
-    ensures value { IfOk result (λ g. g ≡ press_gesture button x y (target_at world.now x y) world.now) }
-    ensures legal { IfOk result (λ g. is_event_in_some_window g.event ≡ true) }
+    ensures { IfOk result (λ g. g ≡ press_gesture button x y (target_at world.now x y) world.now) }
 {
     let target = target_at(world, x, y)?;
     let event = button_event(alloc, world, Kind::ButtonPress, button, x, y, &target)?;
-    bounds(world);
     let mut held = world.held();
     held.set_button(button, true);
     Ok(Gesture {
@@ -181,12 +202,10 @@ fn release_gesture(
 ) -> Result<Gesture, AllocError>
     requires button { is_button_number button ≡ true }
     requires cell { on_grid world.now x y ≡ true }
-    ensures value { IfOk result (λ g. g ≡ release_gesture button x y (release_target world.now x y) world.now) }
-    ensures legal { IfOk result (λ g. is_event_in_some_window g.event ≡ true) }
+    ensures { IfOk result (λ g. g ≡ release_gesture button x y (release_target world.now x y) world.now) }
 {
     let target = release_target(world, x, y)?;
     let event = button_event(alloc, world, Kind::ButtonRelease, button, x, y, &target)?;
-    bounds(world);
     let mut held = world.held();
     held.set_button(button, false);
     Ok(Gesture {

@@ -1,5 +1,5 @@
 //! Inputs that are accepted, counted.
-ghost use Rattle.std.specs.Prelude.{◌≡◌, [], ◌==◌, ◌<◌, false};
+ghost use Rattle.std.specs.Prelude.{◌≡◌, [], ◌==◌, ◌<◌, ◌≤◌, false};
 ghost use Rattle.tks_world.specs.Meets.{ReachesSo};
 ghost use Rattle.tks_world.specs.Stepped.{max_count, counted, kept, Accepts};
 
@@ -19,35 +19,27 @@ pub fn is_full(world: &World) -> bool
     world.accepted() == MAX_NUMBER
 }
 
-// The reply to the input that was counted last.
-fn reply_of(world: &World, code: u8, text: Txt) -> Reply
-    ensures { result ≡ record { number = world.now.accepted; code = code; text = text } }
-{
-    Reply {
-        number: world.accepted(),
-        code,
-        text,
-    }
-}
-
-/// Counts an input whose scripts ended, in the world that they left, and puts memories and variables back into it.
+/// Counts an input behind so many, whose scripts ended in this world, and puts memories and variables back into it.
 pub fn accept(
     world: &mut World,
+    before: u64,
     memories: Memories,
     variables: Shared<Vars>,
     code: u8,
     text: Txt,
 ) -> Result<Reply, Refused>
-    requires { variables.locals ≡ [] }
-    ensures { ReachesSo (counted world.old memories code text variables) result world.new }
+    requires rests { variables.locals ≡ [] }
+    requires bound { before ≤ max_count }
+    ensures { ReachesSo (counted before world.old memories code text variables) result world.new }
 {
-    if is_full(world) {
+    if before == MAX_NUMBER {
         return Err(Refused::TooLarge);
     }
-    world.count_input();
+    let number = before + 1;
+    world.set_accepted(number);
     world.replace_memories(memories);
     world.replace_variables(variables);
-    Ok(reply_of(world, code, text))
+    Ok(Reply { number, code, text })
 }
 
 /// Counts an input that runs no script.
@@ -56,6 +48,11 @@ pub fn keep(alloc: Global, world: &mut World) -> Reply
     requires { world.old.accepted < max_count }
     ensures { kept world.old ≡ Accepts world.new result }
 {
-    world.count_input();
-    reply_of(world, 0, Txt::new(alloc))
+    let number = world.accepted() + 1;
+    world.set_accepted(number);
+    Reply {
+        number,
+        code: 0,
+        text: Txt::new(alloc),
+    }
 }

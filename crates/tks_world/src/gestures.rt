@@ -1,6 +1,5 @@
 //! What a key or a button that goes down or up does at once.
-ghost use Rattle.std.specs.Prelude.{◌≡◌, true, IfOk, IfErr, OnErr};
-ghost use Rattle.tks_state.specs.EventLoop.{is_event_in_some_window};
+ghost use Rattle.std.specs.Prelude.{◌≡◌, IfOk, IfErr, OnErr};
 ghost use Rattle.tks_world.specs.Meets.{RefusedSo, JoinsSo};
 ghost use Rattle.tks_world.specs.Stepped.{Accepts};
 ghost use Rattle.tks_world.specs.Gestures.{has_room, remembering, gesture_step};
@@ -34,7 +33,6 @@ fn has_room(world: &World, event: &Event, limits: &Limits) -> bool
 
 // Puts an event behind all that wait, where there is room for it and for one input more.
 fn join_queue(world: &mut World, event: Event, limits: &Limits) -> Result<(), Refused>
-    requires { is_event_in_some_window event ≡ true }
     ensures joins { JoinsSo limits.now event result world.old world.new }
     ensures unchanged { OnErr result (world.new ≡ world.old) }
 {
@@ -62,7 +60,6 @@ pub fn accept_gesture(
     gesture: Gesture,
     limits: &Limits,
 ) -> Result<Reply, Refused>
-    requires { is_event_in_some_window gesture.event ≡ true }
     ensures accepted { IfOk result (λ reply. gesture_step limits.now gesture world.old ≡ Accepts world.new reply) }
     ensures refused { IfErr result (λ why. RefusedSo why (gesture_step limits.now gesture world.old)) }
     ensures unchanged { OnErr result (world.new ≡ world.old) }

@@ -1,15 +1,14 @@
 //! Keys that go down and up.
 ghost use Rattle.std.specs.Prelude.{◌≡◌, true, IfOk, IfErr, OnErr};
-ghost use Rattle.tks_bind.specs.Percents.{is_of_key};
+ghost use Rattle.tks_event.specs.Kinds.{is_of_key};
 ghost use Rattle.tks_event.specs.Keysyms.{is_keysym};
-ghost use Rattle.tks_state.specs.EventLoop.{is_event_in_some_window};
 ghost use Rattle.tks_world.specs.Meets.{RefusedSo};
 ghost use Rattle.tks_world.specs.Stepped.{Accepts};
 ghost use Rattle.tks_world.specs.Keys.{key_event, key_step, key_press_step, key_release_step};
 
 use crate::gestures::{Gesture, accept_gesture};
 use std::alloc::{AllocError, Global};
-use tks_event::{Event, Held, Kind, is_keysym};
+use tks_event::{Event, EventFields, Held, Kind, is_keysym};
 use tks_input::{Refused, Reply};
 use tks_state::World;
 use tks_text::{Limits, Txt};
@@ -20,10 +19,9 @@ use tks_tree::WindowId;
 fn key_event(alloc: Global, world: &World, kind: Kind, key: &Txt) -> Result<Event, AllocError>
     requires kind { is_of_key kind ≡ true }
     requires key { is_keysym key.now ≡ true }
-    ensures value { IfOk result (λ e. e ≡ key_event kind key.now world.now) }
-    ensures legal { IfOk result (λ e. is_event_in_some_window e ≡ true) }
+    ensures { IfOk result (λ e. e ≡ key_event kind key.now world.now) }
 {
-    Ok(Event {
+    Ok(Event::new(EventFields {
         window: WindowId::root().number(),
         kind,
         detail: key.try_clone()?,
@@ -34,7 +32,7 @@ fn key_event(alloc: Global, world: &World, kind: Kind, key: &Txt) -> Result<Even
         root_x: 0,
         root_y: 0,
         payload: Txt::new(alloc),
-    })
+    }))
 }
 
 // A key does this, and then so much is held.

@@ -5,10 +5,10 @@ ghost use Rattle.tks_text.specs.declared.limits.Limits.{Limits};
 ghost use Rattle.tks_text.specs.Size.{Extent};
 ghost use Rattle.tks_app.specs.Applications.{Application};
 ghost use Rattle.tks_state.specs.World.{first_world};
-ghost use Rattle.tks_event.specs.declared.event.Event.{Event};
+ghost use Rattle.tks_event.specs.Event.{Event};
 ghost use Rattle.tks_bind.specs.Percents.{has_field, field_text, value};
 ghost use Rattle.tks_bind.specs.declared.field.Field.{Field};
-ghost use Rattle.tks_world.specs.Laws.{AcceptsStay, AtRest, RunsJoin, RefusedLeaveOut, RunsRest, StepsRest};
+ghost use Rattle.tks_world.specs.Laws.{AcceptsStay, AtRest, QuietSo, RunsJoin, RunsStay, RefusedLeaveOut, RunsRest, StepsCount, StepsRest};
 ghost use Rattle.tks_world.specs.OneWord.{IsOneWord, SpellsOneWord};
 
 /// What is accepted within limits is accepted within wider ones, with the same world and reply.
@@ -40,4 +40,23 @@ pub fn no_frame_stands_between_inputs()
     ensures first { (grid : Extent) (names : List (List ℕ)) → AtRest (first_world grid names) }
     ensures step { (app : Application) (limits : Limits) → StepsRest app limits }
     ensures run { (app : Application) (limits : Limits) → RunsRest app limits }
+{}
+
+/// A turn is refused as quiet just where no event waits, no timer is due and no idle script stands.
+#[tactic(auto, using(crate::proofs::Quiet::quiet_so))]
+pub fn a_turn_is_quiet_where_nothing_waits()
+    ensures { (app : Application) (limits : Limits) → QuietSo app limits }
+{}
+
+/// An accepted input adds one to the count of the world, and its reply tells that count.
+#[tactic(auto, using(crate::proofs::Counts::steps_count))]
+pub fn accepted_inputs_are_counted()
+    ensures { (app : Application) (limits : Limits) → StepsCount app limits }
+{}
+
+/// A list of inputs that are each accepted within limits is accepted within wider ones, with the same replies, and leads to the
+/// same world.
+#[tactic(auto, using(crate::proofs::Wider::runs_stay))]
+pub fn wider_limits_keep_runs()
+    ensures { (app : Application) (limits wider : Limits) → Wider limits wider → RunsStay app limits wider }
 {}

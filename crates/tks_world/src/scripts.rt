@@ -1,9 +1,9 @@
 //! What the script of an input does.
-ghost use Rattle.std.specs.Prelude.{◌≡◌, [], IfOk, IfErr, OnErr};
+ghost use Rattle.std.specs.Prelude.{◌≡◌, ◌≤◌, [], IfOk, IfErr, OnErr};
 ghost use Rattle.tks_text.specs.declared.fault.ErrorNumber.TheVariants.{OutsideLoop};
 ghost use Rattle.tks_tcl.specs.Cause.{bare};
 ghost use Rattle.tks_eval.specs.Meets.{EndsSo};
-ghost use Rattle.tks_world.specs.Stepped.{Accepts, counted};
+ghost use Rattle.tks_world.specs.Stepped.{Accepts, counted, max_count};
 ghost use Rattle.tks_world.specs.Scripts.{script_ends, concluded, lent, script_step};
 ghost use Rattle.tks_world.specs.Meets.{FailsSo, RefusedSo, ReachesSo};
 
@@ -32,7 +32,7 @@ pub fn lend<'a, T: AppMeaning, B: AppBody>(
     ensures { IfOk result (λ x. (x.0 ≡ lent apps.now limits.now world.now) × (x.1 ≡ world.now.variables) × (x.1.locals ≡ [])) }
 {
     // That no frame stands is asked for here.
-    let _ = world.accepted();
+    world.stands();
     let variables = world.variables().try_clone()?;
     let mut copy = world.try_clone()?;
     copy.replace_variables(Shared::new(alloc, Vars::new(alloc))?);
@@ -47,19 +47,21 @@ pub fn lend<'a, T: AppMeaning, B: AppBody>(
     Ok((host, variables))
 }
 
-/// Counts an input whose scripts ended, in the world that they left.
+/// Counts an input behind so many, whose scripts ended, in the world that they left.
 pub fn conclude<T: AppMeaning, B: AppBody>(
     host: &mut WorldHost<T, B>,
+    before: u64,
     variables: Vars,
     code: u8,
     text: Txt,
 ) -> Result<Reply, Refused>
-    requires { variables.locals ≡ [] }
-    ensures { ReachesSo (counted host.old.world host.old.memories code text variables) result host.new.world }
+    requires rests { variables.locals ≡ [] }
+    requires bound { before ≤ max_count }
+    ensures { ReachesSo (counted before host.old.world host.old.memories code text variables) result host.new.world }
 {
     let memories = host.memories.share()?;
     let variables = Shared::new(host.alloc, variables)?;
-    accept(&mut host.world, memories, variables, code, text)
+    accept(&mut host.world, before, memories, variables, code, text)
 }
 
 // What the script of an input comes to in the world that it was lent: a reply, and the world that it leaves.
@@ -73,12 +75,13 @@ fn run_lent<T: AppMeaning, B: AppBody>(
     limits: &Limits,
 ) -> Result<Reply, Refused>
     requires { variables.locals ≡ [] }
-    ensures { ReachesSo (concluded (script_ends T.meaning limits.now script host.old variables)) result host.new.world }
+    ensures { ReachesSo (concluded host.old.world.accepted (script_ends T.meaning limits.now script host.old variables)) result host.new.world }
 {
+    let before = host.world.accepted();
     let mut variables = variables;
     match run_script(alloc, host, &mut variables, parsed, script, limits) {
         Ok(ended) => {
-            let reply = conclude(host, variables, ended.code, ended.text)?;
+            let reply = conclude(host, before, variables, ended.code, ended.text)?;
             Ok(reply)
         }
         Err(stop) => Err(refused_by(stop)),

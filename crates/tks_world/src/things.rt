@@ -1,8 +1,8 @@
 //! Which of the things that wait is done next.
-ghost use Rattle.std.specs.Prelude.{◌≡◌, true, None, IfOk, IfSome};
+ghost use Rattle.std.specs.Prelude.{◌≡◌, true, None, IfOk};
 ghost use Rattle.tks_timer.specs.After.{due_at, first_idle};
 ghost use Rattle.tks_world.specs.Hosting.{stripped};
-ghost use Rattle.tks_world.specs.Things.{IsLegal, timer_or_idle, idle_or_none, next_thing};
+ghost use Rattle.tks_world.specs.Things.{timer_or_idle, idle_or_none, next_thing};
 ghost use Rattle.tks_world.specs.Meets.{TakenSo};
 
 use std::alloc::AllocError;
@@ -32,8 +32,7 @@ pub fn is_quiet(world: &World) -> bool
 
 // Takes out the oldest idle script, if there is one.
 fn take_idle(world: &mut World) -> Result<Option<Thing>, AllocError>
-    ensures value { IfOk result (λ thing. TakenSo (idle_or_none (first_idle world.old.timers.idles) world.old) thing world.new) }
-    ensures legal { IfOk result (λ thing. IfSome thing IsLegal) }
+    ensures { IfOk result (λ thing. TakenSo (idle_or_none (first_idle world.old.timers.idles) world.old) thing world.new) }
 {
     let Some(id) = world.timers().oldest_idle() else {
         return Ok(None);
@@ -46,8 +45,7 @@ fn take_idle(world: &mut World) -> Result<Option<Thing>, AllocError>
 
 // Takes out the script that is due first, or else the oldest idle script.
 fn take_script(world: &mut World) -> Result<Option<Thing>, AllocError>
-    ensures value { IfOk result (λ thing. TakenSo (timer_or_idle (due_at world.old.clock world.old.timers) world.old) thing world.new) }
-    ensures legal { IfOk result (λ thing. IfSome thing IsLegal) }
+    ensures { IfOk result (λ thing. TakenSo (timer_or_idle (due_at world.old.clock world.old.timers) world.old) thing world.new) }
 {
     let Some(id) = world.timers().due(world.clock()) else {
         let idle = take_idle(world)?;
@@ -61,8 +59,7 @@ fn take_script(world: &mut World) -> Result<Option<Thing>, AllocError>
 
 /// Takes out what is done next, if there is anything to do.
 pub fn take_thing(world: &mut World) -> Result<Option<Thing>, AllocError>
-    ensures value { IfOk result (λ thing. TakenSo (next_thing world.old) thing world.new) }
-    ensures legal { IfOk result (λ thing. IfSome thing IsLegal) }
+    ensures { IfOk result (λ thing. TakenSo (next_thing world.old) thing world.new) }
 {
     match world.take_event()? {
         Some(event) => Ok(Some(Thing::Event(event))),

@@ -1,9 +1,7 @@
 //! A turn: one thing that waits is done.
-ghost use Rattle.std.specs.Prelude.{◌≡◌, true, [], IfOk, IfErr, OnErr};
+ghost use Rattle.std.specs.Prelude.{◌≡◌, ◌≤◌, [], IfOk, IfErr, OnErr};
 ghost use Rattle.tks_eval.specs.Meets.{EndsSo};
-ghost use Rattle.tks_event.specs.Legality.{is_event};
-ghost use Rattle.tks_world.specs.Stepped.{Accepts};
-ghost use Rattle.tks_world.specs.Things.{IsLegal};
+ghost use Rattle.tks_world.specs.Stepped.{Accepts, max_count};
 ghost use Rattle.tks_world.specs.Turns.{script_runs, event_runs, thing_does, finished, turn_does, turn_step};
 ghost use Rattle.tks_world.specs.Meets.{RefusedSo, ReachesSo};
 
@@ -56,7 +54,6 @@ fn run_event<T: AppMeaning, B: AppBody>(
     event: Event,
     limits: &Limits,
 ) -> Result<Ended, Stop>
-    requires { is_event event ≡ true }
     ensures { EndsSo (event_runs T.meaning limits.now event host.old variables.old) result host.new variables.new }
 {
     let plan = begin(alloc, &mut host.world, event, limits)?;
@@ -73,7 +70,6 @@ fn run_thing<T: AppMeaning, B: AppBody>(
     thing: Thing,
     limits: &Limits,
 ) -> Result<Ended, Stop>
-    requires { IsLegal thing }
     ensures { EndsSo (thing_does T.meaning limits.now thing host.old variables.old) result host.new variables.new }
 {
     match thing {
@@ -88,24 +84,25 @@ fn run_thing<T: AppMeaning, B: AppBody>(
     }
 }
 
-// Does one thing, and tells of it what is to be told.
+// Does one thing behind so many inputs, and tells of it what is to be told.
 fn finish<T: AppMeaning, B: AppBody>(
     alloc: Global,
     host: &mut WorldHost<T, B>,
     variables: Vars,
     parsed: &mut ParseTable,
+    before: u64,
     thing: Thing,
     text: Txt,
     limits: &Limits,
 ) -> Result<Reply, Refused>
     requires rests { variables.locals ≡ [] }
-    requires legal { IsLegal thing }
-    ensures { ReachesSo (finished text (thing_does T.meaning limits.now thing host.old variables)) result host.new.world }
+    requires bound { before ≤ max_count }
+    ensures { ReachesSo (finished before text (thing_does T.meaning limits.now thing host.old variables)) result host.new.world }
 {
     let mut variables = variables;
     match run_thing(alloc, host, &mut variables, parsed, thing, limits) {
         Ok(_) => {
-            let reply = conclude(host, variables, 0, text)?;
+            let reply = conclude(host, before, variables, 0, text)?;
             Ok(reply)
         }
         Err(stop) => Err(refused_by(stop)),
@@ -124,11 +121,12 @@ fn turn_lent<T: AppMeaning, B: AppBody>(
     requires { variables.locals ≡ [] }
     ensures { ReachesSo (turn_does T.meaning limits.now host.old variables) result host.new.world }
 {
+    let before = host.world.accepted();
     let Some(thing) = take_thing(&mut host.world)? else {
         return Err(Refused::Quiet);
     };
     let text = told(alloc, &host.world, &thing)?;
-    finish(alloc, host, variables, parsed, thing, text, limits)
+    finish(alloc, host, variables, parsed, before, thing, text, limits)
 }
 
 /// Does what comes next, in a copy of the world.

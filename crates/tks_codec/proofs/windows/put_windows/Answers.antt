@@ -23,7 +23,7 @@ returns-clause-puts c =
     let new = c.put_each.new.out.items in
     let lines = lines_of (windows_of w) in
     let kept = c.all_kept-kept.ensures in
-    let count = c.len.ensures.value ∙ ap (λ (ks : List Kept). length ks) kept ∙ sym (lines_count (packings_of w.kept) w.tree.windows w.kept c.accepted.ensures.formed.windows.in_step) in
+    let count = c.len.ensures.value ∙ ap (λ (ks : List Kept). length ks) kept ∙ sym (lines_count (packings_of w.kept) w.tree.windows w.kept c.stands.ensures.windows.in_step) in
     let same =
     ap (λ (ks : List Kept). lines_from (packings_of ks) c.tree.result.now.windows ks) kept
     ∙ ap (λ (t : tree.Windows). lines_from (packings_of w.kept) t.windows w.kept) c.tree.ensures.value in
@@ -34,7 +34,7 @@ pub returns-clause-legal : goal.returns-clause-legal
 returns-clause-legal c =
     let w = c.args.world.now in
     let lines = lines_of (windows_of w) in
-    let formed = c.accepted.ensures.formed.windows in
+    let formed = c.stands.ensures.windows in
     let kept = c.all_kept-kept.ensures in
     let same =
     ap (λ (ks : List Kept). lines_from (packings_of ks) c.tree.result.now.windows ks) kept

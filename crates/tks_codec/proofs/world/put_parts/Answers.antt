@@ -48,4 +48,4 @@ pub returns-clause-legal : goal.returns-clause-legal
 returns-clause-legal c =
     let w = c.args.world.now in
     let vs = subst (λ v. v.locals ≡ [] → variables.Legal v) c.variables.ensures c.in_ok-put_variables.ensures.legal in
-    where_put c.put_waits.result (λ h. fields_legal w c.accepted.ensures.formed c.in_ok-put_windows.ensures.legal vs c.in_ok-put_happenings.ensures.legal h) c.put_waits.ensures.legal
+    where_put c.put_waits.result (λ h. fields_legal w c.stands.ensures c.in_ok-put_windows.ensures.legal vs c.in_ok-put_happenings.ensures.legal h) c.put_waits.ensures.legal

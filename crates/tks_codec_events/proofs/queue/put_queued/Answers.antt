@@ -11,4 +11,4 @@ returns-clause-puts c =
     put_behind c.put_flag.result c.args.out.now.items (event.write q.event) c.put_event.new.out.items (flag.write q.with_mark) c.put_flag.new.out.items c.in_ok-put_event.ensures.puts c.put_flag.ensures
 
 pub returns-clause-legal : goal.returns-clause-legal
-returns-clause-legal c = anyway c.put_flag.result (c.in_ok-put_event.ensures.legal c.requires, (flag_legal c.args.queued.now.with_mark, refl))
+returns-clause-legal c = anyway c.put_flag.result ((c.in_ok-put_event.ensures.legal, (flag_legal c.args.queued.now.with_mark, refl)), c.requires)

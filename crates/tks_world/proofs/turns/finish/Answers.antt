@@ -1,7 +1,7 @@
 use Rattle.tks_world.proofs.Resting.{thing_rests}
 use Rattle.tks_world.proofs.turns.finish.Goals as goal
 
-pub conclude-requires : goal.conclude-requires
-conclude-requires g c =
+pub conclude-requires-clause-rests : goal.conclude-requires-clause-rests
+conclude-requires-clause-rests g c =
     let ended = c.in-Ok.field-0 in
     thing_rests g.T.AppMeaning.meaning c.args.limits.now c.args.host.now c.run_thing.new.host c.args.variables c.run_thing.new.variables ended.code ended.text ended.fuel c.requires.rests c.args.thing c.in-Ok.ensures

@@ -2,10 +2,13 @@ use Rattle.std.proofs.Common.{◌≡◌, ◌<◌, ◌≤◌, ◌++◌, ◌+◌, 
 use Rattle.std.specs.Prelude.{length}
 use Rattle.tks_input.specs.declared.input.Input.{Input}
 use Rattle.tks_journal.specs.Journal.{room_for}
+use Rattle.tks_journal.specs.Moments.{LeavesOnly}
+use Rattle.tks_durable.specs.Crash.{OpensToPrefix}
 use Rattle.tks_durable.specs.Inputs.{inputs_in}
 use Rattle.tks_durable.specs.Opening.{opens}
 use Rattle.tks_durable.specs.Refusing.{PostRefused}
 use Rattle.tks_durable.specs.Durable.{IsPending, is_full, or_none}
+use Rattle.tks_durable.proofs.Crashes.{idle_moments}
 use Rattle.tks_durable.proofs.Pending.{one_more, waiting_more}
 use Rattle.tks_durable.proofs.Rooms.{full_by_count, full_by_room, post_refused, stands_on}
 use Rattle.tks_durable.proofs.durable.Durable.post.Goals as goal
@@ -62,3 +65,19 @@ returns-in-Err-clause-refused g c =
     let full = full_by_room m.pending s.journal s.body.items s.waiting c.self.invariant.0 c.args.input.now few c.write_input.new.out.items c.len.result (room_for s.journal c.len.result) c.in_ok-write_input.ensures.ok size refl in
     subst (λ t. PostRefused (g.M.Machine.meaning t.machine) t c.args.input.now c.in-Err.refused) c.self.view_is
     (post_refused m (record { journal = s.journal; machine = s.machine; world = s.world; waiting = or_none (inputs_in s.body.items); acknowledged = s.acknowledged }) c.args.input.now c.in-Err.refused (room_for s.journal c.len.result) working full c.in-Err.ensures.refused)
+
+pub returns-in-Ok-clause-any_moment : goal.returns-in-Ok-clause-any_moment
+returns-in-Ok-clause-any_moment g c =
+    let s = c.self.inside in
+    let m = g.M.Machine.meaning s.machine in
+    let v = g.D.Disk.view s.journal.disk in
+    subst (λ t. t.journal.failed ≡ false → g.D.Disk.honest t.journal.disk → LeavesOnly (g.D.Disk.view t.journal.disk) v (OpensToPrefix (g.M.Machine.meaning t.machine) (opens (g.M.Machine.meaning t.machine) (g.D.Disk.view t.journal.disk).reads) t.waiting)) c.self.view_is
+    (λ works h. idle_moments m v (c.stands.ensures works h).0 (λ i left. g.met.D.Disk.only_now s.journal.disk i h left) (or_none (inputs_in s.body.items)))
+
+pub returns-in-Err-clause-any_moment : goal.returns-in-Err-clause-any_moment
+returns-in-Err-clause-any_moment g c =
+    let s = c.self.inside in
+    let m = g.M.Machine.meaning s.machine in
+    let v = g.D.Disk.view s.journal.disk in
+    subst (λ t. t.journal.failed ≡ false → g.D.Disk.honest t.journal.disk → LeavesOnly (g.D.Disk.view t.journal.disk) v (OpensToPrefix (g.M.Machine.meaning t.machine) (opens (g.M.Machine.meaning t.machine) (g.D.Disk.view t.journal.disk).reads) t.waiting)) c.self.view_is
+    (λ works h. idle_moments m v (c.stands.ensures works h).0 (λ i left. g.met.D.Disk.only_now s.journal.disk i h left) (or_none (inputs_in s.body.items)))

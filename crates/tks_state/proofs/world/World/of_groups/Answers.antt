@@ -1,6 +1,6 @@
 use Rattle.std.proofs.Common.{rules, ◌≡◌, ◌≤◌, ◌^◌, Some, None, length, if◌then◌else◌, true, false, sym, ap, ◌∙◌, arith}
-use Rattle.std.specs.Prelude.{nat_le}
-use Rattle.std.proofs.lemmas.Bool.{and_from, le-leb}
+use Rattle.std.specs.Prelude.{nat_le, nat_lt}
+use Rattle.std.proofs.lemmas.Bool.{and_from, le-leb, lt-ltb}
 use Rattle.std.proofs.lemmas.List.{nil_from_length}
 use Rattle.tks_bind.specs.History.{max_history}
 use Rattle.tks_vars.specs.Variables.{Variables}
@@ -29,7 +29,7 @@ of-requires-clause-rests c =
 pub returns : goal.returns
 returns c =
     let p : WorldParts = record { accepted = c.args.accepted; clock = c.args.event_loop.clock; tree = c.args.tree; windows = c.args.windows; variables = c.args.variables; bindings = c.args.events.bindings; virtuals = c.args.events.virtuals; history = c.args.events.history; queue = c.args.event_loop.queue; timers = c.args.event_loop.timers; focus = c.args.event_loop.focus; held = c.args.event_loop.held; pressed = c.args.event_loop.pressed; memories = c.args.memories; faults = c.args.events.faults; grid = c.args.grid } in
-    let counts = and_from (nat_le p.accepted (2 ^ 62)) (nat_le p.clock (2 ^ 62)) (le-leb p.accepted (2 ^ 62) c.requires.counted) (le-leb p.clock (2 ^ 62) c.requires.clock) in
+    let counts = and_from (nat_le p.accepted (2 ^ 62)) (nat_lt p.clock (2 ^ 62)) (le-leb p.accepted (2 ^ 62) c.requires.counted) (lt-ltb p.clock (2 ^ 62) c.requires.clock) in
     let frames = c.depth.ensures ∙ ap (λ (v : Variables). length v.locals) (c.get.ensures ∙ c.in_ok-variables.ensures) in
     let none : length p.variables.locals ≡ 0 = omega (arith, c.if-depth-gt0.false, frames) in
     let there : all_in p.tree.windows c.made-event_loop.result ≡ true = search rules in

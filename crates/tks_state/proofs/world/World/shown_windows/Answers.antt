@@ -1,7 +1,8 @@
-use Rattle.std.proofs.Common.{subst, sym, ap, ◌∙◌}
-use Rattle.tks_tree.specs.Windows.{preorder}
-use Rattle.tks_state.specs.Layout.{placed_in, shown_of, AllInside, AllLieOn}
-use Rattle.tks_state.proofs.Layouts.{shown_lie}
+use Rattle.std.proofs.Common.{◌≤◌, subst, sym, ap, ◌∙◌}
+use Rattle.std.specs.List.{AllByRecursion}
+use Rattle.tks_tree.specs.Windows.{max_number, preorder}
+use Rattle.tks_state.specs.Layout.{placed_in, shown_of, AllInside, AllShownOn}
+use Rattle.tks_state.proofs.Layouts.{preorder_low, shown_lie}
 use Rattle.tks_state.proofs.world.World.shown_windows.Goals as goal
 
 pub returns-clause-value : goal.returns-clause-value
@@ -13,4 +14,6 @@ returns-clause-value c =
 pub returns-clause-inside : goal.returns-clause-inside
 returns-clause-inside c =
     let lie = subst (λ g. AllInside g c.in_ok-placed.placed) c.grid.ensures c.in_ok-placed.ensures.inside in
-    subst (AllLieOn c.args.self.now.grid) (sym c.in_ok-shown.ensures) (shown_lie c.args.self.now.grid c.in_ok-placed.placed c.deref.result.now lie)
+    let order = c.deref.ensures.value ∙ c.in_ok-order.ensures ∙ ap preorder c.tree.ensures.value in
+    let low = subst (AllByRecursion (λ n. n ≤ max_number)) (sym order) (preorder_low c.args.self.now.tree c.tree.ensures.formed) in
+    subst (AllShownOn c.args.self.now.grid) (sym c.in_ok-shown.ensures) (shown_lie c.args.self.now.grid c.in_ok-placed.placed c.deref.result.now low lie)

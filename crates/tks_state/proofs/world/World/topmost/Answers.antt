@@ -1,5 +1,5 @@
 use Rattle.std.proofs.Common.{rules, ◌≡◌, IfSome, sym, subst}
-use Rattle.tks_state.specs.Layout.{last_over, LiesOn, AllLieOn}
+use Rattle.tks_state.specs.Layout.{last_over, IsShownOn, AllShownOn}
 use Rattle.tks_state.proofs.Layouts.{last_inside}
 use Rattle.tks_state.proofs.world.World.topmost.Goals as goal
 
@@ -11,5 +11,5 @@ returns-clause-inside c =
     let g = c.args.self.now.grid in
     let shown = c.in_ok-shown.shown.items in
     let seen : c.last_over.result ≡ last_over shown c.args.column c.args.row = search rules in
-    let inside : AllLieOn g shown = search rules in
-    subst (λ o. IfSome o (λ p. LiesOn g p.area)) (sym seen) (last_inside g shown c.args.column c.args.row inside)
+    let inside : AllShownOn g shown = search rules in
+    subst (λ o. IfSome o (IsShownOn g)) (sym seen) (last_inside g shown c.args.column c.args.row inside)

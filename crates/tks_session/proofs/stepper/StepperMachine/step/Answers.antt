@@ -1,0 +1,5 @@
+use Rattle.tks_session.proofs.Steps.{counted}
+use Rattle.tks_session.proofs.stepper.StepperMachine.step.Goals as goal
+
+pub returns-in-Ok-clause-counted : goal.returns-in-Ok-clause-counted
+returns-in-Ok-clause-counted g c = counted _ _ _ _ _ _ c.in-Ok.ensures.accepted
