@@ -14,8 +14,7 @@ use tks_desk::{
     swap_word,
 };
 use tks_disk::{Disk, FileDisk, FileDiskFault};
-use tks_durable::{Durable, SessionFault};
-use tks_session::Stepper;
+use tks_session::{Session, SessionFault};
 use tks_text::{Limits, Size, Txt};
 
 /// The status where reading or writing a standard stream failed.
@@ -95,12 +94,7 @@ fn serve_on<R: BufRead, W: Write, D: Disk + Drop, B: AppBody>(
     let Ok(apps) = own_apps(alloc, next, swap) else {
         return ended_by(writer, &SessionFault::NoMemory);
     };
-    let terminal = Stepper {
-        limits: Limits::format1(),
-        grid,
-        apps,
-    };
-    match Durable::open(alloc, disk, terminal) {
+    match Session::open(alloc, disk, apps, grid, Limits::format1()) {
         Ok(mut session) => {
             let end = run(alloc, reader, writer, &mut session);
             status_behind(writer, &end)

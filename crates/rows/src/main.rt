@@ -25,8 +25,7 @@ use std::process::ExitCode;
 use tks_app::{AppAnswer, AppBody, AppClosure};
 use tks_desk::{Own, next_number, own_apps, run, swap_word};
 use tks_disk::{Disk, MemoryDisk};
-use tks_durable::Durable;
-use tks_session::Stepper;
+use tks_session::Session;
 use tks_text::{Limits, Size, Txt};
 use worlds::{Task, put_world};
 
@@ -106,15 +105,13 @@ fn put_session<D: Disk + Drop, B: AppBody>(
     let (heading, lines) = session.split_once('\n').unwrap_or((session, ""));
     put_heading(heading, written)?;
     let of_world = heading.strip_prefix("world ");
-    let terminal = Stepper {
-        limits: Limits {
-            pending: PENDING,
-            ..Limits::format1()
-        },
-        grid: grid_of(of_world.unwrap_or(heading))?,
-        apps: own_apps(alloc, next, swap).ok()?,
+    let limits = Limits {
+        pending: PENDING,
+        ..Limits::format1()
     };
-    match Durable::open(alloc, disk, terminal) {
+    let grid = grid_of(of_world.unwrap_or(heading))?;
+    let apps = own_apps(alloc, next, swap).ok()?;
+    match Session::open(alloc, disk, apps, grid, limits) {
         Ok(mut session) if of_world.is_some() => {
             put_world_left(alloc, &mut session, lines, task, written)
         }
@@ -141,7 +138,7 @@ fn grid_of(heading: &str) -> Option<Size> {
 // Adds what a session answers to lines.
 fn put_answers<D: Disk, B: AppBody>(
     alloc: Global,
-    session: &mut Durable<D, Stepper<Own, B>>,
+    session: &mut Session<D, Own, B>,
     lines: &str,
     written: &mut Vec<u8>,
 ) -> Option<()> {
@@ -153,7 +150,7 @@ fn put_answers<D: Disk, B: AppBody>(
 // Adds the bytes of the world that lines leave, and what is told of them.
 fn put_world_left<D: Disk, B: AppBody>(
     alloc: Global,
-    session: &mut Durable<D, Stepper<Own, B>>,
+    session: &mut Session<D, Own, B>,
     lines: &str,
     task: &Option<Task>,
     written: &mut Vec<u8>,

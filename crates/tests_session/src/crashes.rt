@@ -1,12 +1,9 @@
-//! What a commit writes, and what a crash leaves of it.
+//! What commits and checkpoints write, and what a crash leaves of them.
 
-use crate::own::{bytes_of, crash_tells, left_by, terminal, told};
+use crate::own::{Setup, answered_on, bytes_of, crash_tells, left_by, told, with_both};
 use std::alloc::Global;
 use tks_app::AppBody;
-use tks_desk::Own;
 use tks_disk::{Disk, Fuse, Left, MemoryDisk, Side};
-use tks_durable::Durable;
-use tks_session::Stepper;
 use tks_text::Limits;
 
 // An open gate, the frame's length, the input, and the next gate, closed.
@@ -34,12 +31,8 @@ fn a_commit_writes_a_frame(rt: HostRuntime) {
 }
 
 // Whether the commit of `set a 2` is told on a disk, and the disk behind it.
-fn commit_on<D: Disk + Drop, B: AppBody>(
-    alloc: Global,
-    disk: D,
-    terminal: Stepper<Own, B>,
-) -> (bool, D) {
-    match Durable::open(alloc, disk, terminal) {
+fn commit_on<D: Disk + Drop, B: AppBody>(alloc: Global, disk: D, setup: Setup<B>) -> (bool, D) {
+    match setup.open(alloc, disk) {
         Ok(mut session) => {
             let is_posted = told(alloc, &mut session, b"cmd set a 2\n").is_some();
             let is_told = is_posted && session.commit().is_ok();
@@ -52,9 +45,9 @@ fn commit_on<D: Disk + Drop, B: AppBody>(
 // A store with `set a 1`, on which `set a 2` is posted and committed, stopped after so many calls of the disk: whether the
 // commit was told, and the disk.
 fn second_commit(alloc: Global, calls: u64) -> Option<(bool, MemoryDisk)> {
-    let terminal = terminal(alloc, 3, Limits::format1())?;
+    let setup = with_both(alloc, 3, Limits::format1())?;
     let disk = left_by(alloc, b"cmd set a 1\ncommit\n")?;
-    let (is_told, fuse) = commit_on(alloc, Fuse::new(disk, calls), terminal);
+    let (is_told, fuse) = commit_on(alloc, Fuse::new(disk, calls), setup);
     Some((is_told, fuse.into_inner()))
 }
 
@@ -111,6 +104,29 @@ fn torn(alloc: Global) -> Option<bool> {
 #[test]
 fn a_commit_that_is_torn(rt: HostRuntime) {
     assert_eq!(rt; torn(rt.alloc()), Some(true));
+}
+
+// Two checkpoints, of which the second goes back to the first side, and a commit behind them.
+const CHECKPOINTS: &[u8] = b"cmd set a 1\ncheckpoint\ncheckpoint\ncmd set a 2\ncommit\nquit\n";
+
+const CHECKPOINTED: &[u8] = b"ok 1 1\ncheckpointed 1\ncheckpointed 1\nok 2 2\ncommitted 2\nbye\n";
+
+// Whether each checkpoint begins the other side, of the next generation, and all of it is there behind a restart.
+fn checkpoints(alloc: Global) -> Option<bool> {
+    let setup = with_both(alloc, 3, Limits::format1())?;
+    let disk = MemoryDisk::new(alloc);
+    let mut disk = answered_on(alloc, disk, setup, CHECKPOINTS, CHECKPOINTED)?;
+    let a = bytes_of(alloc, &mut disk, Side::A)?;
+    let b = bytes_of(alloc, &mut disk, Side::B)?;
+    let is_begun = a.as_slice().starts_with(b"\x01\x01\0\0\0\0\0\0\0\x03")
+        && b.as_slice().starts_with(b"\x01\x01\0\0\0\0\0\0\0\x02");
+    let is_kept = crash_tells(alloc, &disk, Left::Old, b"cmd set a\n", b"ok 3 2\n")?;
+    Some(is_begun && is_kept)
+}
+
+#[test]
+fn a_checkpoint_begins_the_other_side(rt: HostRuntime) {
+    assert_eq!(rt; checkpoints(rt.alloc()), Some(true));
 }
 
 // Whether an application's counter and the word that it keeps go on behind a restart where they were committed.

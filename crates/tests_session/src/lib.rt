@@ -1,9 +1,11 @@
-//! Tests of terminals on a disk: what a store is opened for, what a crash leaves of a commit, runs over readers and writers
-//! that break, and a command that is refused memory.
+//! Tests of sessions on a disk: their calls, what a store is opened for, what a crash leaves of a commit, runs over readers
+//! and writers that break, and a command that is refused memory.
 #![tactic(auto)]
 
 #[cfg(test)]
 mod applications;
+#[cfg(test)]
+mod calls;
 #[cfg(test)]
 mod crashes;
 #[cfg(test)]

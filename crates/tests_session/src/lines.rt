@@ -1,14 +1,13 @@
 //! Runs over readers and writers that a row has not: such as break, are narrow, or hold long lines.
 
-use crate::own::{crash_tells, left_by, terminal};
+use crate::own::{Setup, crash_tells, left_by, with_both};
 use std::alloc::Global;
 use std::io;
 use std::io::{BufRead, ErrorKind, Read, Write};
 use tks_app::AppBody;
 use tks_desk::{Own, RunEnd, RunFault, run};
 use tks_disk::{Disk, Left, MemoryDisk};
-use tks_durable::Durable;
-use tks_session::Stepper;
+use tks_session::Session;
 use tks_text::Limits;
 
 // Shows its text three bytes at a time, interrupts every other try, and fails in place of the end.
@@ -92,10 +91,10 @@ fn told(end: &Result<RunEnd, RunFault>) -> &'static str {
 fn talk_on<D: Disk + Drop, B: AppBody, R: BufRead>(
     alloc: Global,
     disk: D,
-    terminal: Stepper<Own, B>,
+    setup: Setup<B>,
     reader: &mut R,
 ) -> Option<Vec<u8>> {
-    let mut session = Durable::open(alloc, disk, terminal).ok()?;
+    let mut session = setup.open(alloc, disk).ok()?;
     let mut written = Vec::new(alloc);
     let end = run(alloc, reader, &mut written, &mut session);
     written.extend_from_slice(told(&end).as_bytes()).ok()?;
@@ -104,8 +103,8 @@ fn talk_on<D: Disk + Drop, B: AppBody, R: BufRead>(
 
 // The same of one with a grid of 20 by 3.
 fn talk<R: BufRead>(alloc: Global, reader: &mut R) -> Option<Vec<u8>> {
-    let terminal = terminal(alloc, 3, Limits::format1())?;
-    talk_on(alloc, MemoryDisk::new(alloc), terminal, reader)
+    let setup = with_both(alloc, 3, Limits::format1())?;
+    talk_on(alloc, MemoryDisk::new(alloc), setup, reader)
 }
 
 // Whether a reader is answered so.
@@ -233,7 +232,7 @@ fn a_reader_that_breaks(rt: HostRuntime) {
 // whether this is what it took by then.
 fn ends_with_its_writer<D: Disk, B: AppBody>(
     alloc: Global,
-    session: &mut Durable<D, Stepper<Own, B>>,
+    session: &mut Session<D, Own, B>,
     lines: &[u8],
     most: usize,
     flushes: bool,
@@ -254,20 +253,20 @@ fn ends_with_its_writer<D: Disk, B: AppBody>(
 fn breaks_on<D: Disk + Drop, B: AppBody>(
     alloc: Global,
     disk: D,
-    terminal: Stepper<Own, B>,
+    setup: Setup<B>,
     most: usize,
     flushes: bool,
     want: &[u8],
 ) -> Option<bool> {
-    let mut session = Durable::open(alloc, disk, terminal).ok()?;
+    let mut session = setup.open(alloc, disk).ok()?;
     let lines = b"cmd set x 5\ncmd set x 6\ncmd set x 7\n";
     Some(ends_with_its_writer(alloc, &mut session, lines, most, flushes, want))
 }
 
 // The same of one with a grid of 20 by 3.
 fn breaks(alloc: Global, most: usize, flushes: bool, want: &[u8]) -> Option<bool> {
-    let terminal = terminal(alloc, 3, Limits::format1())?;
-    breaks_on(alloc, MemoryDisk::new(alloc), terminal, most, flushes, want)
+    let setup = with_both(alloc, 3, Limits::format1())?;
+    breaks_on(alloc, MemoryDisk::new(alloc), setup, most, flushes, want)
 }
 
 #[test]
@@ -297,10 +296,7 @@ const DRAINED: &[u8] =
     b"ok 1 after#2\nok 2 timer after#0\nok 3 timer after#1\nok 4 timer after#2\ndrained 3\n";
 
 // Whether a session that goes on behind such a run answers a line as behind all three turns.
-fn has_drained<D: Disk, B: AppBody>(
-    alloc: Global,
-    session: &mut Durable<D, Stepper<Own, B>>,
-) -> bool {
+fn has_drained<D: Disk, B: AppBody>(alloc: Global, session: &mut Session<D, Own, B>) -> bool {
     let mut reader: &[u8] = b"cmd set r\n";
     let mut written = Vec::new(alloc);
     let end = run(alloc, &mut reader, &mut written, session);
@@ -312,11 +308,11 @@ fn has_drained<D: Disk, B: AppBody>(
 fn drains_on<D: Disk + Drop, B: AppBody>(
     alloc: Global,
     disk: D,
-    terminal: Stepper<Own, B>,
+    setup: Setup<B>,
     most: usize,
 ) -> Option<bool> {
     let (front, _) = DRAINED.split_at_checked(most)?;
-    let mut session = Durable::open(alloc, disk, terminal).ok()?;
+    let mut session = setup.open(alloc, disk).ok()?;
     Some(
         ends_with_its_writer(alloc, &mut session, DRAINING, most, true, front)
             && has_drained(alloc, &mut session),
@@ -325,8 +321,8 @@ fn drains_on<D: Disk + Drop, B: AppBody>(
 
 // The same of one with a grid of 20 by 3.
 fn drains(alloc: Global, most: usize) -> Option<bool> {
-    let terminal = terminal(alloc, 3, Limits::format1())?;
-    drains_on(alloc, MemoryDisk::new(alloc), terminal, most)
+    let setup = with_both(alloc, 3, Limits::format1())?;
+    drains_on(alloc, MemoryDisk::new(alloc), setup, most)
 }
 
 #[test]

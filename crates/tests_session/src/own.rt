@@ -1,4 +1,4 @@
-//! The program's commands, terminals over them, and what sessions answer.
+//! The program's commands, what sessions with them are opened with, and what they answer.
 ghost use Rattle.std.specs.Prelude.{◌≡◌, if◌then◌else◌};
 ghost use Rattle.std.proofs.Props.{props};
 ghost use Rattle.tks_desk.specs.Own.{next_of, swap_of};
@@ -7,8 +7,7 @@ use std::alloc::{AllocError, Global};
 use tks_app::{AppAnswer, AppBody, AppCommand, Apps};
 use tks_desk::{Own, next_number, own_apps, run, swap_word};
 use tks_disk::{Disk, Left, MemoryDisk, Side};
-use tks_durable::{Durable, SessionFault};
-use tks_session::Stepper;
+use tks_session::{OpenFault, Session, SessionFault};
 use tks_text::{Limits, Size, Txt};
 
 /// What `app.swap` or `app.next` runs.
@@ -34,22 +33,42 @@ impl AppBody for Body {
     }
 }
 
-/// A terminal with both commands, on a grid of 20 by so many cells.
-pub fn terminal(alloc: Global, height: u16, limits: Limits) -> Option<Stepper<Own, Body>> {
+/// What a session is opened with, beside its disk.
+#[derive(Drop)]
+pub struct Setup<B: AppBody> {
+    pub apps: Apps<Own, B>,
+    pub grid: Size,
+    pub limits: Limits,
+}
+
+impl<B: AppBody> Setup<B> {
+    /// Opens a session on this disk.
+    pub fn open<D: Disk>(
+        self,
+        alloc: Global,
+        disk: D,
+    ) -> Result<Session<D, Own, B>, OpenFault<D, Own, B>> {
+        let Setup { apps, grid, limits } = self;
+        Session::open(alloc, disk, apps, grid, limits)
+    }
+}
+
+/// One with both commands, on a grid of 20 by so many cells.
+pub fn with_both(alloc: Global, height: u16, limits: Limits) -> Option<Setup<Body>> {
     let next = Body {
         alloc,
         swaps: false,
     };
     let swap = Body { alloc, swaps: true };
-    Some(Stepper {
+    Some(Setup {
         limits,
         grid: Size::new(20, height)?,
         apps: own_apps(alloc, next, swap).ok()?,
     })
 }
 
-/// A terminal with `app.next` alone, on a grid of 20 by 3 cells.
-pub fn counting(alloc: Global) -> Option<Stepper<Own, Body>> {
+/// One with `app.next` alone, on a grid of 20 by 3 cells.
+pub fn counting(alloc: Global) -> Option<Setup<Body>> {
     let next = Body {
         alloc,
         swaps: false,
@@ -59,7 +78,7 @@ pub fn counting(alloc: Global) -> Option<Stepper<Own, Body>> {
     if apps.add(command).is_err() {
         return None;
     }
-    Some(Stepper {
+    Some(Setup {
         limits: Limits::format1(),
         grid: Size::new(20, 3)?,
         apps,
@@ -69,7 +88,7 @@ pub fn counting(alloc: Global) -> Option<Stepper<Own, Body>> {
 /// What a session answers to lines.
 pub fn told<D: Disk, B: AppBody>(
     alloc: Global,
-    session: &mut Durable<D, Stepper<Own, B>>,
+    session: &mut Session<D, Own, B>,
     lines: &[u8],
 ) -> Option<Vec<u8>> {
     let mut lines = lines;
@@ -81,22 +100,40 @@ pub fn told<D: Disk, B: AppBody>(
 /// Whether a session answers lines so.
 pub fn tells<D: Disk, B: AppBody>(
     alloc: Global,
-    session: &mut Durable<D, Stepper<Own, B>>,
+    session: &mut Session<D, Own, B>,
     lines: &[u8],
     want: &[u8],
 ) -> Option<bool> {
     Some(told(alloc, session, lines)?.as_slice() == want)
 }
 
+/// The disk of a session that is opened on it and answers lines so.
+pub fn answered_on<D: Disk + Drop, B: AppBody>(
+    alloc: Global,
+    disk: D,
+    setup: Setup<B>,
+    lines: &[u8],
+    want: &[u8],
+) -> Option<D> {
+    match setup.open(alloc, disk) {
+        Ok(mut session) => {
+            let is_told = tells(alloc, &mut session, lines, want)?;
+            let disk = session.close().0;
+            if is_told { Some(disk) } else { None }
+        }
+        Err(_) => None,
+    }
+}
+
 /// Whether a disk opens to a session that answers lines so.
 pub fn opens_and_tells<D: Disk + Drop, B: AppBody>(
     alloc: Global,
     disk: D,
-    terminal: Stepper<Own, B>,
+    setup: Setup<B>,
     lines: &[u8],
     want: &[u8],
 ) -> Option<bool> {
-    match Durable::open(alloc, disk, terminal) {
+    match setup.open(alloc, disk) {
         Ok(mut session) => tells(alloc, &mut session, lines, want),
         Err(_) => Some(false),
     }
@@ -106,10 +143,10 @@ pub fn opens_and_tells<D: Disk + Drop, B: AppBody>(
 fn left_on<D: Disk + Drop, B: AppBody>(
     alloc: Global,
     disk: D,
-    terminal: Stepper<Own, B>,
+    setup: Setup<B>,
     lines: &[u8],
 ) -> Option<D> {
-    match Durable::open(alloc, disk, terminal) {
+    match setup.open(alloc, disk) {
         Ok(mut session) => {
             let is_told = told(alloc, &mut session, lines).is_some();
             let disk = session.close().0;
@@ -121,8 +158,8 @@ fn left_on<D: Disk + Drop, B: AppBody>(
 
 /// The disk that such lines leave, of a fresh session with both commands on a grid of 20 by 3 cells.
 pub fn left_by(alloc: Global, lines: &[u8]) -> Option<MemoryDisk> {
-    let terminal = terminal(alloc, 3, Limits::format1())?;
-    left_on(alloc, MemoryDisk::new(alloc), terminal, lines)
+    let setup = with_both(alloc, 3, Limits::format1())?;
+    left_on(alloc, MemoryDisk::new(alloc), setup, lines)
 }
 
 /// Whether what a crash leaves of a disk opens to a session of this kind that answers lines so.
@@ -133,9 +170,9 @@ pub fn crash_tells(
     lines: &[u8],
     want: &[u8],
 ) -> Option<bool> {
-    let terminal = terminal(alloc, 3, Limits::format1())?;
+    let setup = with_both(alloc, 3, Limits::format1())?;
     match disk.crash(alloc, left, Left::Old) {
-        Ok(crashed) => opens_and_tells(alloc, crashed, terminal, lines, want),
+        Ok(crashed) => opens_and_tells(alloc, crashed, setup, lines, want),
         Err(_) => None,
     }
 }
@@ -144,9 +181,9 @@ pub fn crash_tells(
 pub fn fault_of<D: Disk + Drop, B: AppBody>(
     alloc: Global,
     disk: D,
-    terminal: Stepper<Own, B>,
+    setup: Setup<B>,
 ) -> Option<(SessionFault, D)> {
-    match Durable::open(alloc, disk, terminal) {
+    match setup.open(alloc, disk) {
         Ok(_) => None,
         Err(refused) => Some((refused.fault, refused.disk)),
     }

@@ -1,22 +1,23 @@
 //! Stores that were made for other commands, grids or limits, or are damaged; and what the faults are called.
 
-use crate::own::{bytes_of, counting, fault_of, left_by, opens_and_tells, tells, terminal};
+use crate::own::{
+    Setup, answered_on, bytes_of, counting, fault_of, left_by, opens_and_tells, with_both,
+};
 use std::alloc::Global;
 use tks_app::AppBody;
 use tks_desk::{Own, name_of, status_of};
 use tks_disk::{Disk, MemoryDisk, Side};
-use tks_durable::{Durable, SessionFault};
-use tks_session::Stepper;
+use tks_session::SessionFault;
 use tks_text::Limits;
 
 // The disk, where this fault is why it isn't opened.
 fn refused_for<D: Disk + Drop, B: AppBody>(
     alloc: Global,
     disk: D,
-    terminal: Stepper<Own, B>,
+    setup: Setup<B>,
     fault: SessionFault,
 ) -> Option<D> {
-    match fault_of(alloc, disk, terminal) {
+    match fault_of(alloc, disk, setup) {
         Some((found, disk)) if found == fault => Some(disk),
         _ => None,
     }
@@ -26,11 +27,11 @@ fn refused_for<D: Disk + Drop, B: AppBody>(
 fn refused_as_it_was<D: Disk + Drop, B: AppBody>(
     alloc: Global,
     disk: D,
-    terminal: Stepper<Own, B>,
+    setup: Setup<B>,
     fault: SessionFault,
     a: &[u8],
 ) -> Option<bool> {
-    let mut disk = refused_for(alloc, disk, terminal, fault)?;
+    let mut disk = refused_for(alloc, disk, setup, fault)?;
     let is_a = bytes_of(alloc, &mut disk, Side::A)?.as_slice() == a;
     Some(is_a && bytes_of(alloc, &mut disk, Side::B)?.is_empty())
 }
@@ -41,9 +42,9 @@ fn few_items(alloc: Global) -> Option<bool> {
         items: 8,
         ..Limits::format1()
     };
-    let terminal = terminal(alloc, 3, limits)?;
+    let setup = with_both(alloc, 3, limits)?;
     let disk = MemoryDisk::new(alloc);
-    refused_as_it_was(alloc, disk, terminal, SessionFault::SmallerLimits, b"")
+    refused_as_it_was(alloc, disk, setup, SessionFault::SmallerLimits, b"")
 }
 
 #[test]
@@ -58,8 +59,8 @@ const LONG: &[u8] = b"cmd for {set i 0} {$i < 4998} {incr i} {}; set i\ncommit\n
 fn opens_for_others<D: Disk + Drop, B: AppBody>(
     alloc: Global,
     disk: D,
-    small: Stepper<Own, B>,
-    others: Stepper<Own, B>,
+    small: Setup<B>,
+    others: Setup<B>,
     lines: &[u8],
     want: &[u8],
 ) -> Option<bool> {
@@ -73,8 +74,8 @@ fn few_steps(alloc: Global) -> Option<bool> {
         fuel: 9_999,
         ..Limits::format1()
     };
-    let fewer = terminal(alloc, 3, fewer)?;
-    let enough = terminal(alloc, 3, Limits::format1())?;
+    let fewer = with_both(alloc, 3, fewer)?;
+    let enough = with_both(alloc, 3, Limits::format1())?;
     let disk = left_by(alloc, LONG)?;
     opens_for_others(alloc, disk, fewer, enough, b"cmd set i\n", b"ok 2 4998\n")
 }
@@ -89,29 +90,13 @@ const COUNTS: &[u8] = b"cmd app.next\ncmd app.next\ncommit\ncmd app.next; while 
 
 const COUNTED: &[u8] = b"ok 1 1\nok 2 2\ncommitted 2\nrefused budget\nbye\n";
 
-// The disk of a session that is opened on it and answers so.
-fn counted_on<D: Disk + Drop, B: AppBody>(
-    alloc: Global,
-    disk: D,
-    terminal: Stepper<Own, B>,
-) -> Option<D> {
-    match Durable::open(alloc, disk, terminal) {
-        Ok(mut session) => {
-            let is_told = tells(alloc, &mut session, COUNTS, COUNTED) == Some(true);
-            let disk = session.close().0;
-            if is_told { Some(disk) } else { None }
-        }
-        Err(_) => None,
-    }
-}
-
 // Whether this store is none for other commands, nor for another grid, and then goes on for the same ones.
 fn opens_for_the_same<D: Disk + Drop, B: AppBody>(
     alloc: Global,
     disk: D,
-    commands: Stepper<Own, B>,
-    grid: Stepper<Own, B>,
-    same: Stepper<Own, B>,
+    commands: Setup<B>,
+    grid: Setup<B>,
+    same: Setup<B>,
 ) -> Option<bool> {
     let disk = refused_for(alloc, disk, commands, SessionFault::OtherCommands)?;
     let disk = refused_for(alloc, disk, grid, SessionFault::OtherGrid)?;
@@ -121,10 +106,10 @@ fn opens_for_the_same<D: Disk + Drop, B: AppBody>(
 // Whether a store of both commands is none for one of them, or for another height.
 fn other_stores(alloc: Global) -> Option<bool> {
     let one = counting(alloc)?;
-    let higher = terminal(alloc, 4, Limits::format1())?;
-    let same = terminal(alloc, 3, Limits::format1())?;
-    let both = terminal(alloc, 3, Limits::format1())?;
-    let disk = counted_on(alloc, MemoryDisk::new(alloc), both)?;
+    let higher = with_both(alloc, 4, Limits::format1())?;
+    let same = with_both(alloc, 3, Limits::format1())?;
+    let both = with_both(alloc, 3, Limits::format1())?;
+    let disk = answered_on(alloc, MemoryDisk::new(alloc), both, COUNTS, COUNTED)?;
     opens_for_the_same(alloc, disk, one, higher, same)
 }
 
@@ -137,21 +122,17 @@ fn a_store_of_other_commands_or_another_grid(rt: HostRuntime) {
 const CUT: &[u8] = b"\x01\x01\0\0\0";
 
 // Whether such a side of an empty disk is damage, and stays as it is.
-fn cut_side<D: Disk + Drop, B: AppBody>(
-    alloc: Global,
-    disk: D,
-    terminal: Stepper<Own, B>,
-) -> Option<bool> {
+fn cut_side<D: Disk + Drop, B: AppBody>(alloc: Global, disk: D, setup: Setup<B>) -> Option<bool> {
     let mut disk = disk;
     disk.write_at(Side::A, 0, CUT).ok()?;
     disk.sync(Side::A).ok()?;
-    refused_as_it_was(alloc, disk, terminal, SessionFault::Damaged, CUT)
+    refused_as_it_was(alloc, disk, setup, SessionFault::Damaged, CUT)
 }
 
 // The same of a disk in memory.
 fn cut_side_in_memory(alloc: Global) -> Option<bool> {
-    let terminal = terminal(alloc, 3, Limits::format1())?;
-    cut_side(alloc, MemoryDisk::new(alloc), terminal)
+    let setup = with_both(alloc, 3, Limits::format1())?;
+    cut_side(alloc, MemoryDisk::new(alloc), setup)
 }
 
 #[test]

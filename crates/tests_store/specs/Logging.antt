@@ -34,9 +34,10 @@ abbrev pub logging : ℕ → ℕ → Meaning (List ℕ)
 logging limit pending = record {
   step = logged limit;
   first = [];
-  first_bytes = [];
+  bytes = λ text. text;
   stored = stored_text;
   within = λ text. nat_le (length text) limit;
+  own = λ text. nat_le (length text) limit;
   count = λ text. length text;
   grid = record { width = 20; height = 3 };
   names = [];

@@ -72,8 +72,10 @@ impl Machine for Log {
         Ok(Some(text))
     }
 
-    fn first_bytes(&self, alloc: Global) -> Result<Vec<u8>, AllocError> {
-        Ok(Vec::new(alloc))
+    fn bytes(&self, alloc: Global, world: &Txt) -> Result<Vec<u8>, AllocError> {
+        let mut bytes = Vec::new(alloc);
+        bytes.extend_from_slice(world.as_bytes())?;
+        Ok(bytes)
     }
 
     fn header(

@@ -12,18 +12,21 @@ fn script(alloc: Global, bytes: &[u8]) -> Option<Input> {
     Some(Input::Script(Txt::from_bytes(alloc, bytes).ok()?))
 }
 
-// Posts letters, and commits at each dot, until a call fails. How many were acknowledged last.
+// Posts letters, commits at each dot, and makes a checkpoint at each `!`, until a call fails. How many were acknowledged last.
 fn lives<D: Disk>(alloc: Global, session: &mut Durable<D, Log>, acts: &[u8]) -> Option<u64> {
     let mut told = session.acknowledged();
     for act in acts {
-        if *act == b'.' {
-            match session.commit() {
-                Ok(count) => told = count,
-                Err(_) => return Some(told),
+        let acknowledged = match *act {
+            b'.' => session.commit(),
+            b'!' => session.checkpoint(),
+            _ => {
+                session.post(&script(alloc, &[*act])?).ok()?;
+                Ok(told)
             }
-        } else {
-            let input = script(alloc, &[*act])?;
-            session.post(&input).ok()?;
+        };
+        match acknowledged {
+            Ok(count) => told = count,
+            Err(_) => return Some(told),
         }
     }
     Some(told)
@@ -125,8 +128,8 @@ fn each_stop_leaves_a_prefix_with_all_that_was_acknowledged(rt: HostRuntime) {
     assert_eq!(rt; last, 5);
 }
 
-// Thirty inputs with twelve commits; the last one isn't committed.
-const ACTS: &[u8] = b"a.bc.d.efg.hijk.l.mnopq.rs.t.uvw.xy.zABC.D";
+// Thirty inputs with twelve commits and three checkpoints; the last one isn't committed.
+const ACTS: &[u8] = b"a.bc.d.efg!hijk.l.mnopq.!rs.t.uvw.xy.zABC!.D";
 
 const LETTERS: &[u8] = b"abcdefghijklmnopqrstuvwxyzABCD";
 
@@ -138,7 +141,7 @@ fn each_stop_of_a_long_session_leaves_a_prefix_too(rt: HostRuntime) {
         pending: 5,
     };
     let mut last = 0;
-    for calls in 0..110 {
+    for calls in 0..160 {
         let told = stopped(alloc, calls, log, ACTS, LETTERS);
         assert!(rt; told.is_some(), "after {calls} calls");
         last = told.unwrap_or(0);
@@ -281,6 +284,29 @@ fn faults_come_in_their_order(rt: HostRuntime) {
         side_fails(alloc, 27, both, SessionFault::Damaged),
         "a later frame that is no list of inputs"
     );
+}
+
+// The last generation, 20 by 3, no names, a world of one byte `a`.
+const LAST: &[u8] = b"\x01\x01\x40\0\0\0\0\0\0\0\0\x14\0\x03\0\0\0\0\0\0\0\0\0\0\0\x01a\0";
+
+// Whether a session on a side of the last generation makes no checkpoint, and goes on.
+fn no_more_sides<D: Disk + Drop>(alloc: Global, disk: D) -> Option<bool> {
+    let mut disk = disk;
+    disk.write_at(Side::A, 0, LAST).ok()?;
+    match Durable::open(alloc, disk, LOG) {
+        Ok(mut session) => {
+            let is_refused = session.checkpoint() == Err(SessionFault::TooLarge);
+            let is_posted = posts(alloc, &mut session, b"b")? == Ok(2);
+            Some(is_refused && is_posted && session.commit() == Ok(2))
+        }
+        Err(_) => None,
+    }
+}
+
+#[test]
+fn the_last_generation_has_no_next(rt: HostRuntime) {
+    let alloc = rt.alloc();
+    assert!(rt; no_more_sides(alloc, MemoryDisk::new(alloc)) == Some(true));
 }
 
 // What a session says of one input more.

@@ -6,6 +6,8 @@ mod counting;
 #[cfg(test)]
 mod events;
 #[cfg(test)]
+mod lengths;
+#[cfg(test)]
 mod nothing;
 #[cfg(test)]
 mod places;

@@ -88,8 +88,8 @@ fn differing<'a>(alloc: Global, rows: &[(&'a str, &str)]) -> &'a str {
     }
 }
 
-// The first world for an application.
-fn world_for<T: AppMeaning, B: AppBody>(alloc: Global, apps: &Apps<T, B>) -> Option<World> {
+/// The first world for an application.
+pub fn world_for<T: AppMeaning, B: AppBody>(alloc: Global, apps: &Apps<T, B>) -> Option<World> {
     let names = apps.names(alloc).ok()?;
     World::first(alloc, Size::new(20, 3)?, names.as_slice()).ok()
 }

@@ -155,13 +155,44 @@ const HELD: [(&str, &str); 18] = [
     (".t tag add x 1.0", "large"),
 ];
 
-// The first row that isn't answered as it says, of rows for one world, under limits of three items and of seven bytes.
-fn differing_command<'a>(alloc: Global, world: &mut World, rows: &[(&'a str, &str)]) -> &'a str {
-    let limits = Limits {
-        items: 3,
-        text: 7,
+// What details of more bytes than their patterns have pass, and what options and marks are at first.
+const LONGER: [(&str, &str); 10] = [
+    ("bind . ^ x", "large"),
+    ("bind . ^ ", "0 0 "),
+    ("bind . a x", "0 0 "),
+    ("bind . <<V>> x", "0 0 "),
+    ("event add <<V>> a ^", "large"),
+    ("event info", "0 0 "),
+    ("event add <<V>> a", "0 0 "),
+    ("event generate . ^", "large"),
+    ("event generate . ^ -when tail", "large"),
+    ("label .l", "0 0 .l"),
+];
+
+// The same under a limit of five bytes.
+const AT_FIRST: [(&str, &str); 4] = [
+    ("frame .f", "0 0 .f"),
+    ("label .l", "large"),
+    ("text .t", "large"),
+    ("destroy .f", "0 0 "),
+];
+
+// Limits of so many items, and of so many bytes.
+fn limits_of(items: u32, text: u32) -> Limits {
+    Limits {
+        items,
+        text,
         ..Limits::format1()
-    };
+    }
+}
+
+// The first row that isn't answered as it says, of rows for one world.
+fn differing_command<'a>(
+    alloc: Global,
+    world: &mut World,
+    limits: Limits,
+    rows: &[(&'a str, &str)],
+) -> &'a str {
     for (row, want) in rows {
         match command_answer(alloc, world, &limits, row) {
             Some(told) if told.as_slice() == want.as_bytes() => {}
@@ -172,21 +203,33 @@ fn differing_command<'a>(alloc: Global, world: &mut World, rows: &[(&'a str, &st
 }
 
 // The same of the first world.
-fn differing_row<'a>(alloc: Global, rows: &[(&'a str, &str)]) -> &'a str {
+fn differing_row<'a>(alloc: Global, limits: Limits, rows: &[(&'a str, &str)]) -> &'a str {
     match first_world(alloc, 20, 3) {
-        Some(mut world) => differing_command(alloc, &mut world, rows),
+        Some(mut world) => differing_command(alloc, &mut world, limits, rows),
         None => "no world",
     }
 }
 
 #[test]
 fn limits_of_windows_are_kept(rt: HostRuntime) {
-    assert_eq!(rt; differing_row(rt.alloc(), &ROWS), "none");
+    assert_eq!(rt; differing_row(rt.alloc(), limits_of(3, 7), &ROWS), "none");
 }
 
 #[test]
 fn limits_of_what_widgets_hold_are_kept(rt: HostRuntime) {
-    assert_eq!(rt; differing_row(rt.alloc(), &HELD), "none");
+    assert_eq!(rt; differing_row(rt.alloc(), limits_of(3, 7), &HELD), "none");
+}
+
+#[test]
+fn what_is_made_keeps_the_limits(rt: HostRuntime) {
+    assert_eq!(rt;
+        differing_row(rt.alloc(), limits_of(40, 10), &LONGER),
+        "none"
+    );
+    assert_eq!(rt;
+        differing_row(rt.alloc(), limits_of(40, 5), &AT_FIRST),
+        "none"
+    );
 }
 
 // Whether a world and its copy, in which `x` is 5, change each for itself.

@@ -21,7 +21,7 @@ use Rattle.tks_cmd.specs.Commands.{command_named, command_does, named_does, word
 use Rattle.tks_cmd.specs.EventCommands.{event_command_does, planned}
 use Rattle.tks_cmd.specs.Packing.{pack_does}
 use Rattle.tks_cmd.specs.Widgets.{window_does, called}
-use Rattle.tks_cmd.specs.Windows.{are_paired, new_widget, added, room, made, make_does, destroy_does}
+use Rattle.tks_cmd.specs.Windows.{are_paired, new_widget, placed, made, make_does, destroy_does}
 use Rattle.tks_cmd.proofs.EventLaws.{NoError, PlansWell, event_command_well}
 use Rattle.tks_cmd.specs.declared.commands.Command.{Command}
 use Rattle.tks_cmd.specs.declared.commands.Command.TheVariants as command
@@ -56,8 +56,7 @@ module _ (limits : Limits) where
       by true =
           after_well (creation (free_path w.tree.windows path)) _ (λ _.
           after_well (new_widget limits kind path options variables) _ (λ x.
-          after_well (room limits w) _ (λ _.
-          after_well (added w path x.0) _ (λ u. refl))))
+          after_well (placed limits w path x.0) _ (λ u. refl)))
       by false = tt
 
   command_well : (c : Command) (name : List ℕ) (words : List (List ℕ)) (w : World) (variables : Variables) → Well (command_does limits c name words w variables)

@@ -1,13 +1,13 @@
 -- What holds of the commands on bindings and events: what comes of them is no error that is told as one, and wider limits
 -- keep it, where it passed none.
-use Rattle.std.proofs.Common.{◌+◌, ◌≡◌, ℕ, ◌++◌, ◌^◌, ◌==◌, nat_lt, Bool, true, false, if◌then◌else◌, List, [], ◌∷◌, length, codes, Option, Some, None, Result, Ok, Err, refl}
+use Rattle.std.proofs.Common.{◌+◌, ◌≡◌, ℕ, ◌++◌, ◌^◌, ◌==◌, not, ◌||◌, nat_lt, Bool, true, false, if◌then◌else◌, List, [], ◌∷◌, length, codes, Option, Some, None, Result, Ok, Err, refl}
 use Rattle.tks_text.specs.Text.{same_text}
 use Rattle.tks_text.specs.Limits.{Wider}
 use Rattle.tks_text.specs.declared.limits.Limits.{Limits}
 use Rattle.tks_tcl.specs.Cause.{Cause, OverLimit, after, wrong_words}
 use Rattle.tks_tcl.specs.Lists.{concatenated}
 use Rattle.tks_tcl.specs.Words.{list_in}
-use Rattle.tks_tcl.proofs.Limits.{Keeps, itself, after_keeps, if_keeps, room_keeps, at_most_holds, both_hold, fits_wider, within_keeps}
+use Rattle.tks_tcl.proofs.Limits.{Keeps, Holds, itself, after_keeps, if_keeps, room_keeps, at_most_holds, both_hold, fits_wider, within_keeps}
 use Rattle.tks_list.specs.Quoting.{joined}
 use Rattle.tks_event.specs.Sequences.{is_some_text}
 use Rattle.tks_event.specs.Event.{Event}
@@ -21,6 +21,7 @@ use Rattle.tks_bind.specs.declared.binding.Binding.{Binding}
 use Rattle.tks_queue.specs.declared.place.Place.{Place}
 use Rattle.tks_queue.specs.declared.place.Place.TheVariants as place
 use Rattle.tks_tree.specs.Windows.{Window, of_number, on_window}
+use Rattle.tks_limits.proofs.Wider.{sequence_wider, sequences_wider}
 use Rattle.tks_state.specs.World.{World, bound_to, tagged, scene, with_event, queued, focused, with_timer, with_idle}
 use Rattle.tks_eval.specs.declared.host.Plan.{Plan}
 use Rattle.tks_eval.specs.declared.host.Plan.TheVariants as plan
@@ -28,9 +29,9 @@ use Rattle.tks_cmd.specs.Changes.{Changed, silent}
 use Rattle.tks_cmd.specs.Windows.{are_paired}
 use Rattle.tks_cmd.specs.Packing.{window_of}
 use Rattle.tks_cmd.specs.Dispatch.{delivered, tags_of, is_passed, script_of, tag_script, tag_scripts, event_scripts, prepared, begun}
-use Rattle.tks_cmd.specs.Bindings.{tag_read, sequence_read, or_empty, bindings_within, bound_within, bind_does, tags_at, given_tags, tags_within, tags_read, bindtags_does}
+use Rattle.tks_cmd.specs.Bindings.{tag_read, sequence_read, or_empty, bindings_within, details_fit, bound_within, bind_does, tags_at, given_tags, tags_within, tags_read, bindtags_does}
 use Rattle.tks_cmd.specs.Queue.{queue_within, put_within}
-use Rattle.tks_cmd.specs.Events.{event_read, sent, generated, generate_does}
+use Rattle.tks_cmd.specs.Events.{event_read, sent, within_text, generated, generate_does}
 use Rattle.tks_cmd.specs.VirtualEvents as virtuals
 use Rattle.tks_cmd.specs.VirtualEvents.{name_read, all_read, with_all, virtuals_within, added, add_does, delete_does}
 use Rattle.tks_cmd.specs.Focus.{path_at, focus_event, focus_moved, focus_given, focus_on, focus_does, focus_next_does, focus_previous_does}
@@ -74,7 +75,10 @@ module _ (limits : Limits) where
   generate_well name (path ∷ text ∷ options) w = by (are_paired options)
     where
       by : (b : Bool) → PlansWell (if b then generated limits path text options w else wrong_words name)
-      by true = after_well (window_of w path) _ (λ n. after_well (event_read w.clock n text options) _ (λ x. sent_well w x.1 x.0))
+      by true =
+          after_well (window_of w path) _ (λ n.
+          after_well (event_read w.clock n text options) _ (λ x.
+          after_well (within_text limits x.0) _ (sent_well w x.1)))
       by false = tt
 
   one_of_well : (b : Bool) (r other : Result (Plan × World) Cause) → PlansWell r → PlansWell other → PlansWell (if b then r else other)
@@ -136,8 +140,16 @@ module _ (limits wider : Limits) (wide : Wider limits wider) where
 
   bound_keeps : (tag : List ℕ) (sequence : List Pattern) (script : List ℕ) (w : World) → Keeps (bound_within limits tag sequence script w) (bound_within wider tag sequence script w)
   bound_keeps tag sequence script w =
-      room_keeps _ _ (both_hold _ _ _ _ (fits_wider limits wider wide (made (script_for tag sequence w.bindings.bindings) script)) (λ h. h))
+      room_keeps _ _
+      (both_hold _ _ _ _ (details_hold sequence script) (both_hold _ _ _ _ (fits_wider limits wider wide (made (script_for tag sequence w.bindings.bindings) script)) (λ h. h)))
       (bindings_keep (bound_to tag sequence script w))
+    where
+      or_hold : (b a a' : Bool) → Holds a a' → Holds (b || a) (b || a')
+      or_hold true a a' h k = refl
+      or_hold false a a' h k = h k
+
+      details_hold : (sequence : List Pattern) (script : List ℕ) → Holds (details_fit limits sequence script) (details_fit wider sequence script)
+      details_hold sequence script = or_hold (not (is_some_text script)) _ _ (sequence_wider limits wider wide sequence)
 
   bind_keeps : (name : List ℕ) (words : List (List ℕ)) (w : World) → Keeps (bind_does limits name words w) (bind_does wider name words w)
   bind_keeps name [] w = itself (wrong_words name)
@@ -177,7 +189,9 @@ module _ (limits wider : Limits) (wide : Wider limits wider) where
 
   generated_keeps : (path text : List ℕ) (options : List (List ℕ)) (w : World) → Keeps (generated limits path text options w) (generated wider path text options w)
   generated_keeps path text options w =
-      after_keeps (itself (window_of w path)) (λ n. after_keeps (itself (event_read w.clock n text options)) (λ x. sent_keeps w x.1 x.0))
+      after_keeps (itself (window_of w path)) (λ n.
+      after_keeps (itself (event_read w.clock n text options)) (λ x.
+      after_keeps (room_keeps _ _ (fits_wider limits wider wide x.0.detail) (itself (Ok x.0))) (sent_keeps w x.1)))
 
   generate_keeps : (name : List ℕ) (words : List (List ℕ)) (w : World) → Keeps (generate_does limits name words w) (generate_does wider name words w)
   generate_keeps name [] w = itself (wrong_words name)
@@ -193,7 +207,10 @@ module _ (limits wider : Limits) (wide : Wider limits wider) where
       (at_most_holds (length (sequences_of name w.virtuals)) limits.items wider.items wide.items)) (itself (Ok w))
 
   added_keeps : (name : List ℕ) (texts : List (List ℕ)) (w : World) → Keeps (added limits name texts w) (added wider name texts w)
-  added_keeps name texts w = after_keeps (itself (name_read name)) (λ n. after_keeps (itself (all_read texts)) (λ ss. virtuals_keep n (with_all n ss w)))
+  added_keeps name texts w =
+      after_keeps (itself (name_read name)) (λ n.
+      after_keeps (itself (all_read texts)) (λ ss.
+      room_keeps _ _ (sequences_wider limits wider wide ss) (virtuals_keep n (with_all n ss w))))
 
   add_keeps : (name : List ℕ) (words : List (List ℕ)) (w : World) → Keeps (add_does limits name words w) (add_does wider name words w)
   add_keeps name [] w = itself (wrong_words name)

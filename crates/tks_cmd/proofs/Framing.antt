@@ -29,7 +29,7 @@ use Rattle.tks_cmd.specs.EventCommands.{event_command_does}
 use Rattle.tks_cmd.specs.Links.{Linked, is_lacking, global_set, made_global, told, stored, settled, assigned_to, first_assigned_to, first_value}
 use Rattle.tks_cmd.specs.Packing.{pack_does}
 use Rattle.tks_cmd.specs.Widgets.{window_does, sets_link, configured_pair, configured, told_words, action_does, configure_does, called}
-use Rattle.tks_cmd.specs.Windows.{are_paired, new_widget, added, room, made, make_does, destroy_does, first_widget}
+use Rattle.tks_cmd.specs.Windows.{are_paired, new_widget, placed, made, make_does, destroy_does, first_widget}
 use Rattle.tks_cmd.specs.Laws.{LeavesFrames}
 use Rattle.tks_cmd.specs.declared.commands.Command.{Command}
 use Rattle.tks_cmd.specs.declared.commands.Command.TheVariants as command
@@ -137,8 +137,7 @@ module _ (limits : Limits) where
   made_window_stays kind path options w v =
       follows (OutcomeLeft v) (creation (free_path w.tree.windows path)) _ (λ _.
       follows_on (Beside v) (OutcomeLeft v) (new_widget limits kind path options v) _ (new_stays kind path options v) (λ x k.
-      follows (OutcomeLeft v) (room limits w) _ (λ _.
-      follows (OutcomeLeft v) (added w path x.0) _ (λ u. k))))
+      follows (OutcomeLeft v) (placed limits w path x.0) _ (λ u. k)))
 
   make_stays : (kind : WindowKind) (name : List ℕ) (words : List (List ℕ)) (w : World) (v : Variables) → IfOk (make_does limits kind name words w v) (OutcomeLeft v)
   make_stays kind name [] w v = tt

@@ -11,6 +11,7 @@ use Rattle.tks_event.specs.declared.pattern.Pattern.{Pattern}
 use Rattle.tks_bind.specs.Binding.{Content, script_for, made, spelled}
 use Rattle.tks_text.specs.Text.{begins_dot}
 use Rattle.tks_tree.specs.Windows.{of_number, on_window}
+use Rattle.tks_limits.specs.Within.{sequence_fits}
 use Rattle.tks_state.specs.World.{World, bound_to, tagged}
 use Rattle.tks_cmd.specs.Changes.{Changed, silent}
 use Rattle.tks_cmd.specs.Packing.{window_of}
@@ -42,10 +43,14 @@ module _ (limits : Limits) where
   abbrev pub script_fits : List ℕ → List Pattern → List ℕ → Content → Bool
   script_fits tag sequence script c = fits limits (made (script_for tag sequence c.bindings) script)
 
+  -- whether the details of the sequence to which it is set pass none; what is taken away is kept no more
+  abbrev pub details_fit : List Pattern → List ℕ → Bool
+  details_fit sequence script = not (is_some_text script) || sequence_fits limits sequence
+
   -- a script bound to a sequence; an empty one is taken away
   abbrev pub bound_within : List ℕ → List Pattern → List ℕ → World → Result World Cause
   bound_within tag sequence script w =
-      if script_fits tag sequence script w.bindings && has_number script w.bindings then bindings_within (bound_to tag sequence script w) else Err OverLimit
+      if details_fit sequence script && (script_fits tag sequence script w.bindings && has_number script w.bindings) then bindings_within (bound_to tag sequence script w) else Err OverLimit
 
   abbrev pub bind_does : List ℕ → List (List ℕ) → World → Result Changed Cause
   bind_does command (tag ∷ []) w = after (tag_read w tag) (λ _. Ok (joined (spelled tag w.bindings.bindings), w))

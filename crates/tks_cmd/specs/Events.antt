@@ -6,7 +6,8 @@ use Rattle.tks_text.specs.Integer.{integer_of}
 use Rattle.tks_text.specs.declared.integer.Range.{Range}
 use Rattle.tks_text.specs.declared.fault.ErrorNumber.TheVariants.{UnknownOption, BadValue, CannotBeGenerated}
 use Rattle.tks_text.specs.declared.limits.Limits.{Limits}
-use Rattle.tks_tcl.specs.Cause.{Cause, Fault, after, value_or_fault, about, wrong_words}
+use Rattle.tks_text.specs.Limits.{fits}
+use Rattle.tks_tcl.specs.Cause.{Cause, Fault, OverLimit, after, value_or_fault, about, wrong_words}
 use Rattle.tks_opt.specs.Values.{number_within}
 use Rattle.tks_event.specs.Kinds.{is_of_button, is_of_key}
 use Rattle.tks_event.specs.Keysyms.{named_in, is_keysym}
@@ -188,8 +189,13 @@ module _ (limits : Limits) where
   sent w when.Now e = begun limits w e
   sent w (when.Queued p) e = after (put_within limits p e w) (λ u. Ok (plan.Answer 0 [], u))
 
+  -- an event whose detail passes no limit; a pattern of one character may have a longer one
+  abbrev pub within_text : Event → Result Event Cause
+  within_text e = if fits limits e.detail then Ok e else Err OverLimit
+
   abbrev pub generated : List ℕ → List ℕ → List (List ℕ) → World → Result (Plan × World) Cause
-  generated path text options w = after (window_of w path) (λ n. after (event_read w.clock n text options) (λ x. sent w x.1 x.0))
+  generated path text options w =
+      after (window_of w path) (λ n. after (event_read w.clock n text options) (λ x. after (within_text x.0) (sent w x.1)))
 
   abbrev pub generate_does : List ℕ → List (List ℕ) → World → Result (Plan × World) Cause
   generate_does command (path ∷ text ∷ options) w = if are_paired options then generated path text options w else wrong_words command

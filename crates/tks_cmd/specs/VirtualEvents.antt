@@ -12,6 +12,7 @@ use Rattle.tks_event.specs.declared.pattern.Pattern.{Pattern}
 use Rattle.tks_event.specs.declared.pattern.Repeated.{Repeated}
 use Rattle.tks_bind.specs.VirtualEvents.{is_of_name, sequences_of}
 use Rattle.tks_bind.specs.declared.virtual_event.VirtualEvent.{VirtualEvent}
+use Rattle.tks_limits.specs.Within.{sequences_fit}
 use Rattle.tks_state.specs.World.{World, with_virtual, without_virtual, without_virtual_sequence}
 use Rattle.tks_cmd.specs.Changes.{Changed, silent, each}
 
@@ -53,9 +54,13 @@ module _ (limits : Limits) where
   virtuals_within name w =
       if nat_le (length w.virtuals) limits.items && nat_le (length (sequences_of name w.virtuals)) limits.items then Ok w else Err OverLimit
 
+  -- sequences whose details pass no limit added to a virtual event
+  abbrev pub added_all : List ℕ → List (List Pattern) → World → Result World Cause
+  added_all name ss w = if sequences_fit limits ss then virtuals_within name (with_all name ss w) else Err OverLimit
+
   -- all words are read before the first sequence is added
   abbrev pub added : List ℕ → List (List ℕ) → World → Result World Cause
-  added name texts w = after (name_read name) (λ n. after (all_read texts) (λ ss. virtuals_within n (with_all n ss w)))
+  added name texts w = after (name_read name) (λ n. after (all_read texts) (λ ss. added_all n ss w))
 
   abbrev pub add_does : List ℕ → List (List ℕ) → World → Result Changed Cause
   add_does command (name ∷ text ∷ texts) w = after (added name (text ∷ texts) w) silent

@@ -1,6 +1,6 @@
 -- Making and destroying windows (frame(n), label(n), button(n), checkbutton(n), entry(n), listbox(n), text(n), destroy(n);
 -- which errors there are, their order and the limits are this project's own).
-use Rattle.std.specs.Prelude.{ℕ, Bool, not, ◌==◌, ◌%◌, nat_lt, if◌then◌else◌, codes, List, [], ◌∷◌, length, Option, Some, None, Result, Ok, Err}
+use Rattle.std.specs.Prelude.{ℕ, Bool, not, ◌&&◌, ◌==◌, ◌%◌, nat_lt, if◌then◌else◌, codes, List, [], ◌∷◌, length, Option, Some, None, Result, Ok, Err}
 use Rattle.std.specs.List.{list_all}
 use Rattle.tks_text.specs.Text.{same_text}
 use Rattle.tks_text.specs.declared.class.Class.TheVariants as class
@@ -13,6 +13,7 @@ use Rattle.tks_listbox.specs.Listbox.{first_listbox}
 use Rattle.tks_lines.specs.Lines.{first_lines}
 use Rattle.tks_tree.specs.Path.{root_path}
 use Rattle.tks_tree.specs.Windows.{of_path, on_window, free_path}
+use Rattle.tks_limits.specs.Within.{widget_fits}
 use Rattle.tks_state.specs.World.{World, with_window, without}
 use Rattle.tks_state.specs.declared.widget.Widget.{Widget}
 use Rattle.tks_state.specs.declared.widget.Widget.TheVariants as widget
@@ -60,17 +61,20 @@ module _ (limits : Limits) where
   unfoldable pub new_widget : WindowKind → List ℕ → List (List ℕ) → Variables → Result Linked Cause
   new_widget kind path options variables = after (configured limits options (first_widget kind path, variables)) (first_value limits)
 
-  -- a window more passes no limit
-  abbrev pub room : World → Result (Unit {0}) Cause
-  room w = if nat_lt (length w.tree.windows) limits.items then Ok tt else Err OverLimit
+  -- a window more passes no limit, and neither do the values that its options have at first
+  abbrev pub room : World → Widget → Result (Unit {0}) Cause
+  room w v = if nat_lt (length w.tree.windows) limits.items && widget_fits limits v then Ok tt else Err OverLimit
+
+  -- a window more under a path, where it passes none
+  unfoldable pub placed : World → List ℕ → Widget → Result World Cause
+  placed w path v = after (room w v) (λ _. added w path v)
 
   -- a window made under a path: the path is looked at first, then the options, then the limit; the answer is the path
   abbrev pub made : WindowKind → List ℕ → List (List ℕ) → World → Variables → Result Outcome Cause
   made kind path options w variables =
       after (creation (free_path w.tree.windows path)) (λ _.
       after (new_widget kind path options variables) (λ x.
-      after (room w) (λ _.
-      after (added w path x.0) (λ u. Ok (outcome (plan.Answer 0 path) u x.1)))))
+      after (placed w path x.0) (λ u. Ok (outcome (plan.Answer 0 path) u x.1))))
 
   -- the command with the words behind its name
   abbrev pub make_does : WindowKind → List ℕ → List (List ℕ) → World → Variables → Result Outcome Cause

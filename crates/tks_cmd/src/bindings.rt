@@ -3,7 +3,7 @@ ghost use Rattle.std.specs.Prelude.{◌≡◌, IfOk};
 ghost use Rattle.tks_tcl.specs.Meets.{GivesSo};
 ghost use Rattle.tks_list.specs.Quoting.{joined};
 ghost use Rattle.tks_bind.specs.Binding.{script_for, spelled};
-ghost use Rattle.tks_cmd.specs.Bindings.{tag_read, sequence_read, or_empty, script_fits, bindings_within, bound_within, bind_does, tags_at, given_tags, tags_read, bindtags_does};
+ghost use Rattle.tks_cmd.specs.Bindings.{tag_read, sequence_read, or_empty, script_fits, details_fit, bindings_within, bound_within, bind_does, tags_at, given_tags, tags_read, bindtags_does};
 ghost use Rattle.tks_cmd.specs.Meets.{KeepsSo};
 
 use crate::dispatch::tags_of;
@@ -11,6 +11,7 @@ use crate::packing::window_of;
 use std::alloc::{AllocError, Global};
 use tks_bind::BindFault;
 use tks_event::{Sequence, parse_sequence};
+use tks_limits::patterns_fit;
 use tks_list::join;
 use tks_state::World;
 use tks_tcl::{Interrupt, list_in, wrong_words};
@@ -66,6 +67,13 @@ fn script_fits(world: &World, tag: &Txt, sequence: &Sequence, script: &Txt, limi
     world.bindings().script_len(tag, sequence, script) <= limits.text as usize
 }
 
+// Whether the details of the sequence to which a script is set pass no limit.
+fn details_fit(sequence: &Sequence, script: &Txt, limits: &Limits) -> bool
+    ensures { result ≡ details_fit limits.now sequence.now script.now }
+{
+    script.is_empty() || patterns_fit(sequence.patterns(), limits)
+}
+
 // Whether the list of bindings passes no limit.
 fn check_bindings(world: &World, limits: &Limits) -> Result<(), Interrupt>
     ensures { GivesSo (λ _. world.now) result (bindings_within limits.now world.now) }
@@ -88,7 +96,9 @@ fn bind(
     ensures value { GivesSo (λ _. world.new) result (bound_within limits.now tag.now sequence script.now world.old) }
     ensures kept { KeepsSo result world.old world.new }
 {
-    if !script_fits(world, tag, &sequence, script, limits) {
+    if !details_fit(&sequence, script, limits)
+        || !script_fits(world, tag, &sequence, script, limits)
+    {
         return Err(Interrupt::TooLarge);
     }
     match world.bind(tag.try_clone()?, sequence, script) {

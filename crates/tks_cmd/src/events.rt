@@ -3,7 +3,7 @@ ghost use Rattle.std.specs.Prelude.{◌≡◌, ◌≤◌, ◌<◌, ◌^◌, Some
 ghost use Rattle.tks_tcl.specs.Cause.{about};
 ghost use Rattle.tks_tcl.specs.Meets.{GivesSo, TellsSo};
 ghost use Rattle.tks_cmd.specs.Dispatch.{begun};
-ghost use Rattle.tks_cmd.specs.Events.{time_of, state_of, place_of, when_of, option_named, with_field, with_field_option, is_when, when_given, with_option, with_options, has_detail, first_state, first_time, first_event, is_incomplete, complete, event_of, event_read, sent, generated, generate_does};
+ghost use Rattle.tks_cmd.specs.Events.{time_of, state_of, place_of, when_of, option_named, with_field, with_field_option, is_when, when_given, with_option, with_options, has_detail, first_state, first_time, first_event, is_incomplete, complete, event_of, event_read, sent, within_text, generated, generate_does};
 ghost use Rattle.tks_cmd.specs.Meets.{KeepsSo};
 
 use crate::dispatch::begin;
@@ -376,6 +376,17 @@ fn send(
     }
 }
 
+// Whether the detail of an event passes no limit; a pattern of one character may have a longer one.
+fn check_detail(event: &Event, limits: &Limits) -> Result<(), Interrupt>
+    ensures { GivesSo (λ _. event.now) result (within_text limits.now event.now) }
+{
+    if event.detail.len() <= limits.text as usize {
+        Ok(())
+    } else {
+        Err(Interrupt::TooLarge)
+    }
+}
+
 // Makes an event for the window of a path, and delivers it or puts it into the queue.
 fn generate(
     alloc: Global,
@@ -390,6 +401,7 @@ fn generate(
 {
     let window = window_of(world, path)?;
     let (event, when) = event_read(alloc, world.clock(), window, text, options)?;
+    check_detail(&event, limits)?;
     let plan = send(alloc, world, when, event, limits)?;
     Ok(plan)
 }

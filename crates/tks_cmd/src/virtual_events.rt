@@ -5,10 +5,12 @@ ghost use Rattle.tks_tcl.specs.Meets.{GivesSo, TellsSo};
 ghost use Rattle.tks_event.specs.Canonical.{virtual_text};
 ghost use Rattle.tks_cmd.specs.VirtualEvents.{name_in, name_read, physical_in, physical_read, all_read, with_all, virtuals_within, added, add_does, without_all, deleted, delete_does, names, spelled, names_text, sequences_text, info_does};
 ghost use Rattle.tks_cmd.specs.Meets.{KeepsSo};
+ghost use Rattle.tks_limits.specs.Within.{sequences_fit};
 
 use std::alloc::{AllocError, Global};
 use tks_bind::{PhysicalSequence, Virtuals};
 use tks_event::{Repeated, Sequence, VirtualName, is_virtual, parse_pattern, parse_sequence};
+use tks_limits::patterns_fit;
 use tks_list::join;
 use tks_state::World;
 use tks_tcl::{Interrupt, error_about, wrong_words};
@@ -80,6 +82,18 @@ fn add_all(
     Ok(())
 }
 
+// Whether the details of sequences pass no limit.
+fn details_fit(sequences: &[PhysicalSequence], limits: &Limits) -> bool
+    ensures { result ≡ sequences_fit limits.now sequences.now }
+{
+    for sequence in sequences {
+        if !patterns_fit(sequence.sequence().patterns(), limits) {
+            return false;
+        }
+    }
+    true
+}
+
 // Whether neither the list of virtual events nor that of the sequences of one passes a limit.
 fn check_virtuals(world: &World, name: &Txt, limits: &Limits) -> Result<(), Interrupt>
     ensures { GivesSo (λ _. world.now) result (virtuals_within limits.now name.now world.now) }
@@ -106,6 +120,9 @@ fn add(
 {
     let name = name_read(alloc, name)?;
     let sequences = all_read(alloc, texts)?;
+    if !details_fit(sequences.as_slice(), limits) {
+        return Err(Interrupt::TooLarge);
+    }
     add_all(world, &name, sequences.as_slice())?;
     check_virtuals(world, name.text(), limits)
 }

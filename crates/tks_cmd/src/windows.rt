@@ -8,7 +8,7 @@ ghost use Rattle.tks_state.specs.Widget.{class_of};
 ghost use Rattle.tks_tree.specs.WellFormed.{is_widget_class};
 ghost use Rattle.tks_tree.specs.Windows.{free_path};
 ghost use Rattle.tks_cmd.specs.Changes.{creation, outcome};
-ghost use Rattle.tks_cmd.specs.Windows.{are_paired, kind_named, first_widget, new_widget, added, room, made, make_does, is_other, without_path, without_all, destroy_does};
+ghost use Rattle.tks_cmd.specs.Windows.{are_paired, kind_named, first_widget, new_widget, added, room, placed, made, make_does, is_other, without_path, without_all, destroy_does};
 ghost use Rattle.tks_cmd.specs.Meets.{KeepsSo, interrupt_of};
 
 use crate::links::set_first_value;
@@ -18,6 +18,7 @@ use std::mem;
 use tks_button::{Caption, Frame};
 use tks_entry::EntryWidget;
 use tks_eval::Plan;
+use tks_limits::widget_fits;
 use tks_lines::TextWidget;
 use tks_listbox::ListWidget;
 use tks_state::{Widget, World};
@@ -142,11 +143,11 @@ fn check_path(tree: &Tree, path: &Txt) -> Result<(), Interrupt>
     }
 }
 
-// Whether a window more passes no limit.
-fn check_room(world: &World, limits: &Limits) -> Result<(), Interrupt>
-    ensures { GivesSo (λ x. x) result (room limits.now world.now) }
+// Whether a window more passes no limit, and neither do the values that its options have at first.
+fn check_room(world: &World, widget: &Widget, limits: &Limits) -> Result<(), Interrupt>
+    ensures { GivesSo (λ x. x) result (room limits.now world.now widget.now) }
 {
-    if world.tree().len() < limits.items as usize {
+    if world.tree().len() < limits.items as usize && widget_fits(widget, limits) {
         Ok(())
     } else {
         Err(Interrupt::TooLarge)
@@ -154,6 +155,7 @@ fn check_room(world: &World, limits: &Limits) -> Result<(), Interrupt>
 }
 
 // Adds a window to the world, where it passes no limit.
+#[tactic(auto, unfolding(crate::specs::Windows::placed))]
 fn add_window(
     world: &mut World,
     path: &Txt,
@@ -161,10 +163,10 @@ fn add_window(
     limits: &Limits,
 ) -> Result<(), Interrupt>
     requires { is_widget_class (class_of widget) ≡ true }
-    ensures value { GivesSo (λ _. world.new) result (after (room limits.now world.old) (λ _. added world.old path.now widget)) }
+    ensures value { GivesSo (λ _. world.new) result (placed limits.now world.old path.now widget) }
     ensures kept { KeepsSo result world.old world.new }
 {
-    check_room(world, limits)?;
+    check_room(world, &widget, limits)?;
     match world.add_window(path, widget) {
         Ok(_) => Ok(()),
         Err(fault) => Err(interrupt_of(fault)),

@@ -3,3 +3,4 @@ pub mod OfLines
 pub mod OfWindows
 pub mod OfParts
 pub mod OfWorlds
+pub mod Packed

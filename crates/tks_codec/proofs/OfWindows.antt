@@ -31,7 +31,7 @@ or_this : {X : Type 0} → X → Option X → X
 or_this d None = d
 or_this d (Some x) = x
 
-some_same : {X : Type 0} (x y : X) → Some x ≡ Some y → x ≡ y
+pub some_same : {X : Type 0} (x y : X) → Some x ≡ Some y → x ≡ y
 unfolding or_this
 some_same x y e = ap (or_this x) e
 
@@ -138,7 +138,7 @@ elsewhere : (cs : List Content) (n : ℕ) → AllByRecursion (λ c. (c.window ==
 elsewhere [] n h = refl
 elsewhere (c ∷ cs) n h = ap (λ (b : Bool). if b then Some c.settings else settings_in cs n) h.0 ∙ elsewhere cs n h.1
 
-ne : (n m : ℕ) → (n == m) ≡ false → (m == n) ≡ false
+pub ne : (n m : ℕ) → (n == m) ≡ false → (m == n) ≡ false
 ne n m h = by (m == n) refl
   where
     by : (b : Bool) → (m == n) ≡ b → b ≡ false
@@ -206,7 +206,7 @@ module _ (t : tree.Windows) where
   )
 
   -- a window that has a parent is there
-  there : (n m : ℕ) → tree.parent t n ≡ Some m → is_some (tree.of_number t.windows n) ≡ true
+  pub there : (n m : ℕ) → tree.parent t n ≡ Some m → is_some (tree.of_number t.windows n) ≡ true
   there n m h = by (tree.of_number t.windows n) h
     where
       by : (o : Option tree.Window) → tree.on_window o None (λ w. tree.number_at t.windows (parent_of w.path)) ≡ Some m → is_some o ≡ true

@@ -1,5 +1,5 @@
 -- The windows as bytes (this project's own format): lines, in the order in which the windows were made.
-use Rattle.std.specs.Prelude.{ℕ, Bool, is_some, List, [], ◌∷◌, map, Option, Some, None}
+use Rattle.std.specs.Prelude.{ℕ, ◌+◌, Bool, is_some, List, [], ◌∷◌, length, map, Option, Some, None}
 use Rattle.tks_tree.specs.Windows as tree
 use Rattle.tks_pack.specs.Packing.{Packed}
 use Rattle.tks_spelling.specs.Spelling.{Read, Spelling, such_that, through, list}
@@ -30,6 +30,11 @@ lines_from packings (w ∷ windows) (k ∷ kept) = line_of packings w k ∷ line
 -- one for each window
 abbrev pub lines_of : Windows → List Line
 lines_of x = lines_from (packings_of x.kept) x.tree.windows x.kept
+
+-- how many windows are packed in windows
+abbrev pub packed_count : List Kept → ℕ
+packed_count [] = 0
+packed_count (k ∷ kept) = length k.packing.contents + packed_count kept
 
 -- ---- windows of lines
 

@@ -1,10 +1,11 @@
 //! What a window holds besides its options.
-ghost use Rattle.std.specs.Prelude.{◌≡◌, true, Ok, OnOk};
+ghost use Rattle.std.specs.Prelude.{◌≡◌, length, true, Ok, OnOk};
 ghost use Rattle.tks_text.specs.declared.class.Class.TheVariants as class;
 ghost use Rattle.tks_button.specs.Caption.{has_caption};
 ghost use Rattle.tks_button.specs.Frame.{is_frame};
 ghost use Rattle.tks_spelling.specs.Reading.{Gives};
 ghost use Rattle.tks_spelling.specs.Writing.{PutsSo};
+ghost use Rattle.tks_spelling.specs.Lengths.{counted};
 ghost use Rattle.tks_codec.specs.Content as kinds;
 ghost use Rattle.tks_codec.specs.Content.{content, content_by, content_at};
 ghost use Rattle.tks_state.specs.Widget.{options_of};
@@ -12,7 +13,10 @@ ghost use Rattle.tks_state.specs.declared.widget.Widget.TheVariants as widget;
 
 use std::alloc::{AllocError, Global};
 use tks_button::{Caption, Frame};
-use tks_codec_windows::{entry_of, lines_of, listbox_of, put_entry, put_lines, put_listbox};
+use tks_codec_windows::{
+    entry_length, entry_of, lines_length, lines_of, listbox_length, listbox_of, put_entry,
+    put_lines, put_listbox,
+};
 use tks_opt::Options;
 use tks_spelling::Unread;
 use tks_state::Widget;
@@ -106,6 +110,34 @@ pub fn put_content(alloc: Global, out: &mut Vec<u8>, widget: &Widget) -> Result<
         Widget::Text(text) => {
             let _ = text.options();
             put_lines(alloc, out, text)
+        }
+    }
+}
+
+/// The length of the spelling of what a widget holds besides its options, in bytes.
+pub fn content_length(widget: &Widget) -> u64
+    ensures { result ≡ counted (length ((content (options_of widget.now)).write widget.now)) }
+{
+    match widget {
+        Widget::Frame(frame) => {
+            let _ = frame.options();
+            0
+        }
+        Widget::Caption(caption) => {
+            let _ = caption.options();
+            0
+        }
+        Widget::Entry(entry) => {
+            let _ = entry.options();
+            entry_length(entry)
+        }
+        Widget::Listbox(listbox) => {
+            let _ = listbox.options();
+            listbox_length(listbox)
+        }
+        Widget::Text(text) => {
+            let _ = text.options();
+            lines_length(text)
         }
     }
 }

@@ -1,7 +1,8 @@
 //! What stands at the end of a world.
-ghost use Rattle.std.specs.Prelude.{◌≡◌, OnOk};
+ghost use Rattle.std.specs.Prelude.{◌≡◌, length, OnOk};
 ghost use Rattle.tks_spelling.specs.Reading.{Gives};
 ghost use Rattle.tks_spelling.specs.Writing.{PutsSo, flattened};
+ghost use Rattle.tks_spelling.specs.Lengths.{counted};
 ghost use Rattle.tks_codec.specs.Ends as kinds;
 ghost use Rattle.tks_codec.specs.Ends.{ends_at, ends_parts, ends_seen, these_rules};
 ghost use Rattle.tks_codec.specs.World.{ends_of};
@@ -9,11 +10,11 @@ ghost use Rattle.tks_codec.specs.World.{ends_of};
 use std::alloc::{AllocError, Global};
 use tks_app::Memories;
 use tks_codec_events::{held_of, put_held};
-use tks_codec_variables::{put_table, table_of};
+use tks_codec_variables::{put_table, table_length, table_of};
 use tks_event::Held;
 use tks_spelling::reading::{presence_of, u8_of, u64_of};
 use tks_spelling::writing::{put_presence, put_u8, put_u64};
-use tks_spelling::{Texts, Unread, list_of, put_list};
+use tks_spelling::{Texts, Unread, list_length, list_of, put_list};
 use tks_state::World;
 use tks_text::{Seq, Txt};
 use tks_tree::WindowId;
@@ -121,4 +122,25 @@ pub fn put_ends(out: &mut Vec<u8>, world: &World) -> Result<(), AllocError>
     ensures legal { OnOk result (kinds.ends.Legal (ends_of world.now)) }
 {
     put_parts(out, world)
+}
+
+// The length of the number of the window that took the last press, if there is one.
+fn press_length(pressed: Option<WindowId>) -> u64
+    ensures { result ≡ counted (length (kinds.press.write pressed)) }
+{
+    match pressed {
+        None => 1,
+        Some(_) => 9,
+    }
+}
+
+/// The length of the spelling of what stands at the end of a world, in bytes.
+#[tactic(auto, using(tks_spelling::proofs::Counting::lengths))]
+pub fn ends_length(world: &World) -> u64
+    ensures { result ≡ counted (length (kinds.ends.write (ends_of world.now))) }
+{
+    press_length(world.pressed())
+        .saturating_add(table_length(&Texts, world.memories().texts()))
+        .saturating_add(list_length(&Texts, world.faults()))
+        .saturating_add(11)
 }

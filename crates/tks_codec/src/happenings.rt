@@ -1,7 +1,8 @@
 //! What scripts bound to events rest on.
-ghost use Rattle.std.specs.Prelude.{◌≤◌, ◌^◌, OnOk};
+ghost use Rattle.std.specs.Prelude.{◌≡◌, ◌≤◌, ◌^◌, length, OnOk};
 ghost use Rattle.tks_spelling.specs.Reading.{Gives};
 ghost use Rattle.tks_spelling.specs.Writing.{PutsSo, flattened};
+ghost use Rattle.tks_spelling.specs.Lengths.{counted};
 ghost use Rattle.tks_codec.specs.Happenings as kinds;
 ghost use Rattle.tks_codec.specs.Happenings.{happenings_at, happenings_parts, happenings_seen};
 ghost use Rattle.tks_codec.specs.World.{happenings_of};
@@ -9,7 +10,8 @@ ghost use Rattle.tks_codec.specs.World.{happenings_of};
 use std::alloc::{AllocError, Global};
 use tks_bind::{Bindings, History, Virtuals};
 use tks_codec_events::{
-    bindings_of, history_of, put_bindings, put_history, put_virtuals, virtuals_of,
+    bindings_length, bindings_of, history_length, history_of, put_bindings, put_history,
+    put_virtuals, virtuals_length, virtuals_of,
 };
 use tks_spelling::Unread;
 use tks_state::World;
@@ -57,4 +59,14 @@ pub fn put_happenings(out: &mut Vec<u8>, world: &World) -> Result<(), AllocError
     ensures legal { OnOk result ((kinds.happenings world.now.bindings.next).Legal (happenings_of world.now)) }
 {
     put_parts(out, world)
+}
+
+/// The length of the spelling of what a world's scripts bound to events rest on, in bytes.
+#[tactic(auto, using(tks_spelling::proofs::Counting::lengths))]
+pub fn happenings_length(world: &World) -> u64
+    ensures { result ≡ counted (length ((kinds.happenings world.now.bindings.next).write (happenings_of world.now))) }
+{
+    bindings_length(world.bindings())
+        .saturating_add(virtuals_length(world.virtuals()))
+        .saturating_add(history_length(world.history()))
 }

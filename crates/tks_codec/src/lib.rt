@@ -13,4 +13,4 @@ mod world;
 
 pub use laws::one_world;
 pub use tks_spelling::{CodecFault, Header, read_header, read_input, write_header, write_input};
-pub use world::{read_world, write_world};
+pub use world::{read_world, world_length, write_world};

@@ -1,22 +1,24 @@
 //! Windows, each a line of its fields.
-ghost use Rattle.std.specs.Prelude.{◌≡◌, OnOk};
+ghost use Rattle.std.specs.Prelude.{◌≡◌, length, OnOk};
 ghost use Rattle.tks_spelling.specs.Reading.{Gives};
 ghost use Rattle.tks_spelling.specs.Writing.{PutsSo, flattened};
+ghost use Rattle.tks_spelling.specs.Lengths.{counted};
 ghost use Rattle.tks_codec.specs.Line as kinds;
 ghost use Rattle.tks_codec.specs.Line.{line_at, line_parts, rest_parts, RestIsLegal, line_with};
 ghost use Rattle.tks_state.specs.Widget.{class_of};
 ghost use Rattle.tks_tree.specs.View.{window_seen};
 
 use crate::class::{class_of, put_class};
-use crate::content::{content_of, put_content};
+use crate::content::{content_length, content_of, put_content};
 use std::alloc::{AllocError, Global};
 use tks_codec_windows::{
-    Place, options_of, packing_of, put_contents, put_options, put_packing, put_tags, tags_of,
+    Place, contents_length, options_length, options_of, packing_length, packing_of, put_contents,
+    put_options, put_packing, put_tags, tags_length, tags_of,
 };
 use tks_pack::Settings;
 use tks_spelling::reading::{flag_of, text_of, u64_of};
 use tks_spelling::writing::{put_flag, put_text, put_u64};
-use tks_spelling::{Following, Numbers, Unread, list_of};
+use tks_spelling::{Following, Numbers, Unread, list_of, text_length};
 use tks_state::{Kept, Widget};
 use tks_text::{Seq, Txt};
 use tks_tree::{Window, WindowId};
@@ -134,4 +136,27 @@ pub fn put_line(
     ensures legal { OnOk result (kinds.line.Legal (line_with (window_seen window.now) kept.now packing)) }
 {
     put_parts(alloc, out, window, kept, packing)
+}
+
+// The length of what stands behind the options of a window.
+#[tactic(auto, unfolding(tks_spelling::specs::Writing::flattened), using(tks_spelling::proofs::Counting::lengths))]
+fn rest_length(kept: &Kept, packing: Option<Settings>) -> u64
+    ensures { result ≡ counted (length (flattened (rest_parts kept.now packing))) }
+{
+    tags_length(kept.tags.as_ref())
+        .saturating_add(contents_length(&kept.packing))
+        .saturating_add(packing_length(packing))
+        .saturating_add(content_length(kept.widget.get()))
+        .saturating_add(1)
+}
+
+/// The length of the spelling of a window that is packed so, if it is, in bytes.
+#[tactic(auto, unfolding(tks_spelling::specs::Writing::flattened), using(tks_spelling::proofs::Counting::lengths))]
+pub fn line_length(window: &Window<'_>, kept: &Kept, packing: Option<Settings>) -> u64
+    ensures { result ≡ counted (length (kinds.line.write (line_with (window_seen window.now) kept.now packing))) }
+{
+    text_length(window.path)
+        .saturating_add(options_length(kept.widget.get().options()))
+        .saturating_add(rest_length(kept, packing))
+        .saturating_add(9)
 }

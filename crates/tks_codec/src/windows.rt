@@ -1,17 +1,18 @@
 //! The windows.
-ghost use Rattle.std.specs.Prelude.{◌≡◌, ◌++◌, [], ◌∷◌, map, None, option_map, IfOk, OnOk};
+ghost use Rattle.std.specs.Prelude.{◌≡◌, ◌++◌, [], ◌∷◌, length, map, None, option_map, IfOk, OnOk};
 ghost use Rattle.std.specs.List.{AllByRecursion};
 ghost use Rattle.tks_spelling.specs.Spelling.{members};
 ghost use Rattle.tks_spelling.specs.Reading.{Gives};
 ghost use Rattle.tks_spelling.specs.Writing.{PutsSo};
+ghost use Rattle.tks_spelling.specs.Lengths.{counted};
 ghost use Rattle.tks_codec_windows.specs.Places.{packed_as};
 ghost use Rattle.tks_codec.specs.Line.{line};
 ghost use Rattle.tks_codec.specs.Windows as kinds;
-ghost use Rattle.tks_codec.specs.Windows.{packings_of, lines_from, held_of, part_of, parts_from, windows_seen, windows_at};
+ghost use Rattle.tks_codec.specs.Windows.{packings_of, lines_from, packed_count, held_of, part_of, parts_from, windows_seen, windows_at};
 ghost use Rattle.tks_state.specs.WellFormed.{InStep};
 ghost use Rattle.tks_state.specs.World.{windows_of};
 
-use crate::line::{Line, Lines, put_line};
+use crate::line::{Line, Lines, line_length, put_line};
 use std::alloc::{AllocError, Global};
 use tks_codec_windows::{Place, placed, settings_in};
 use tks_pack::{Packing, Settings};
@@ -169,4 +170,45 @@ pub fn put_windows(alloc: Global, out: &mut Vec<u8>, world: &World) -> Result<()
     let kept = world.all_kept();
     put_u32(out, kept.len() as u32)?;
     put_each(alloc, out, world.tree(), kept)
+}
+
+// The length of a line for each window, were none packed, one behind the other.
+fn each_length(tree: &Tree, kept: &SharedList<Kept>) -> u64
+    requires { InStep tree.now.windows kept.now }
+    ensures { result ≡ counted (length (members (λ before. line) None (lines_from [] tree.now.windows kept.now))) }
+{
+    let mut sum: u64 = 0;
+    for index in 0..kept.len() {
+        let Some(window) = tree.nth(index) else {
+            unreachable!()
+        };
+        let Some(one) = kept.get(index) else {
+            unreachable!()
+        };
+        sum = sum.saturating_add(line_length(&window, one, None));
+    }
+    sum
+}
+
+// How many windows are packed in windows.
+fn packed_count(kept: &SharedList<Kept>) -> u64
+    ensures { result ≡ counted (packed_count kept.now) }
+{
+    let mut sum: u64 = 0;
+    for one in kept.iter() {
+        sum = sum.saturating_add(one.packing.len() as u64);
+    }
+    sum
+}
+
+/// The length of the spelling of the windows of a world, in bytes. A window that is packed takes 12 bytes more than one that
+/// isn't, and each is packed once at most.
+pub fn windows_length(world: &World) -> u64
+    ensures { result ≡ counted (length ((kinds.windows world.now.tree.next).write (windows_of world.now))) }
+{
+    world.stands();
+    let kept = world.all_kept();
+    each_length(world.tree(), kept)
+        .saturating_add(packed_count(kept).saturating_mul(12))
+        .saturating_add(4)
 }

@@ -1,7 +1,8 @@
 //! Worlds.
-ghost use Rattle.std.specs.Prelude.{◌≡◌, ◌++◌, ℕ, List, take, Ok, Err, IfOk, OnOk, OnErr};
+ghost use Rattle.std.specs.Prelude.{◌≡◌, ◌++◌, ℕ, List, length, take, Ok, Err, IfOk, OnOk, OnErr};
 ghost use Rattle.tks_spelling.specs.Reading.{Gives, FindsSo, StopsAt};
 ghost use Rattle.tks_spelling.specs.Writing.{PutsSo, flattened};
+ghost use Rattle.tks_spelling.specs.Lengths.{counted, within_side};
 ghost use Rattle.tks_spelling.specs.declared.fault.CodecFault.TheVariants as CodecFault;
 ghost use Rattle.tks_codec.specs.World as kinds;
 ghost use Rattle.tks_codec.specs.World.{counts_of, fields_parts, waits_parts, WaitsAreLegal, fields_at, world_at};
@@ -9,13 +10,15 @@ ghost use Rattle.tks_state.specs.Restoring as restoring;
 ghost use Rattle.tks_state.specs.World.{World};
 
 use crate::counts::{Counts, counts_of, put_counts};
-use crate::ends::{ends_of, put_ends};
-use crate::happenings::{happenings_of, put_happenings};
-use crate::windows::{put_windows, windows_of};
+use crate::ends::{ends_length, ends_of, put_ends};
+use crate::happenings::{happenings_length, happenings_of, put_happenings};
+use crate::windows::{put_windows, windows_length, windows_of};
 use std::alloc::{AllocError, Global};
-use tks_codec_events::{put_queue, put_waiting, queue_of, waiting_of};
-use tks_codec_variables::{put_variables, variables_of};
-use tks_spelling::{CodecFault, Unread};
+use tks_codec_events::{
+    put_queue, put_waiting, queue_length, queue_of, waiting_length, waiting_of,
+};
+use tks_codec_variables::{put_variables, variables_length, variables_of};
+use tks_spelling::{CodecFault, Unread, within_side};
 use tks_state::{World, WorldParts};
 use tks_text::Size;
 
@@ -153,4 +156,33 @@ pub fn write_world(alloc: Global, world: &World, out: &mut Vec<u8>) -> Result<()
             Err(refused)
         }
     }
+}
+
+// The length of what waits, and of what stands at the end.
+#[tactic(auto, unfolding(tks_spelling::specs::Writing::flattened), using(tks_spelling::proofs::Counting::lengths))]
+fn waits_length(world: &World) -> u64
+    ensures { result ≡ counted (length (flattened (waits_parts world.now))) }
+{
+    queue_length(world.queue())
+        .saturating_add(waiting_length(world.timers()))
+        .saturating_add(ends_length(world))
+}
+
+// The length of a world.
+#[tactic(auto, unfolding(tks_spelling::specs::Writing::flattened), using(tks_spelling::proofs::Counting::lengths))]
+fn parts_length(world: &World) -> u64
+    ensures { result ≡ counted (length ((kinds.world world.now.grid).write world.now)) }
+{
+    windows_length(world)
+        .saturating_add(variables_length(world.variables()))
+        .saturating_add(happenings_length(world))
+        .saturating_add(waits_length(world))
+        .saturating_add(40)
+}
+
+/// The length of the world's spelling, in bytes, and none where it passes 2^40 (`MAX_SIDE`). It takes no memory.
+pub fn world_length(world: &World) -> Option<u64>
+    ensures { result ≡ within_side (length ((kinds.world world.now.grid).write world.now)) }
+{
+    within_side(parts_length(world))
 }

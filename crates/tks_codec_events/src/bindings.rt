@@ -1,21 +1,22 @@
 //! Bindings.
-ghost use Rattle.std.specs.Prelude.{◌≡◌, ◌≤◌, ◌^◌, nat_lt, None, IfOk, OnOk};
+ghost use Rattle.std.specs.Prelude.{◌≡◌, ◌≤◌, ◌^◌, length, nat_lt, None, IfOk, OnOk};
 ghost use Rattle.std.specs.List.{list_all};
 ghost use Rattle.tks_bind.specs.WellFormed.{are_bindings};
 ghost use Rattle.tks_spelling.specs.Reading.{Gives};
 ghost use Rattle.tks_spelling.specs.Writing.{PutsSo, flattened};
+ghost use Rattle.tks_spelling.specs.Lengths.{counted};
 ghost use Rattle.tks_codec_events.specs.Bindings as tables;
 ghost use Rattle.tks_codec_events.specs.Bindings.{binding_at, binding_parts, bindings_at};
 
 use crate::distinct::{Distinct, all_differ};
-use crate::items::put_items;
-use crate::sequence::{put_sequence, sequence_of};
+use crate::items::{items_length, put_items};
+use crate::sequence::{put_sequence, sequence_length, sequence_of};
 use std::alloc::{AllocError, Global};
 use tks_bind::{Binding, Bindings};
 use tks_event::are_equal;
 use tks_spelling::reading::{text_of, u64_of};
 use tks_spelling::writing::{put_text, put_u64};
-use tks_spelling::{Members, Unread, list_of};
+use tks_spelling::{Members, Unread, list_of, text_length};
 
 // A binding.
 #[tactic(auto, unfolding(crate::specs::Bindings::binding_at, crate::specs::Sequence::sequence_at))]
@@ -66,6 +67,14 @@ impl Members<Binding> for BindingMembers {
     #[tactic(auto, unfolding(tks_spelling::specs::Writing::flattened))]
     fn put(&self, out: &mut Vec<u8>, binding: &Binding) -> Result<(), AllocError> {
         put_parts(out, binding)
+    }
+
+    #[tactic(auto, using(tks_spelling::proofs::Counting::lengths))]
+    fn spelled_length(&self, binding: &Binding) -> u64 {
+        text_length(&binding.tag)
+            .saturating_add(sequence_length(&binding.sequence))
+            .saturating_add(text_length(&binding.script))
+            .saturating_add(8)
     }
 }
 
@@ -118,4 +127,11 @@ pub fn put_bindings(out: &mut Vec<u8>, bindings: &Bindings) -> Result<(), AllocE
     // What holds of all bindings is asked for here.
     let _ = bindings.next();
     put_items(out, BindingMembers, bindings.bindings(), bindings.len())
+}
+
+/// The length of the spelling of bindings, in bytes.
+pub fn bindings_length(bindings: &Bindings) -> u64
+    ensures { result ≡ counted (length ((tables.bindings bindings.now.next).write bindings.now.bindings)) }
+{
+    items_length(&BindingMembers, bindings.bindings())
 }

@@ -1,8 +1,9 @@
 //! Events.
-ghost use Rattle.std.specs.Prelude.{◌≡◌, ◌<◌, ◌^◌, OnOk};
+ghost use Rattle.std.specs.Prelude.{◌≡◌, ◌<◌, ◌^◌, length, OnOk};
 ghost use Rattle.tks_spelling.specs.Spelling as spellings;
 ghost use Rattle.tks_spelling.specs.Reading.{Gives};
 ghost use Rattle.tks_spelling.specs.Writing.{PutsSo, flattened};
+ghost use Rattle.tks_spelling.specs.Lengths.{counted};
 ghost use Rattle.tks_codec_events.specs.Event as events;
 ghost use Rattle.tks_codec_events.specs.Event.{fields_at, subject_parts, moment_parts, place_parts, event_parts, event_at, HasPlaces};
 
@@ -11,7 +12,7 @@ use std::alloc::{AllocError, Global};
 use tks_event::{Event, EventFields, Modifiers};
 use tks_spelling::reading::{i64_of, text_of, u16_of, u64_of};
 use tks_spelling::writing::{put_i64, put_text, put_u16, put_u64};
-use tks_spelling::{Members, Unread};
+use tks_spelling::{Members, Unread, text_length};
 
 // The fields of an event.
 #[tactic(auto, unfolding(crate::specs::Event::fields_at))]
@@ -113,6 +114,16 @@ pub fn put_event(out: &mut Vec<u8>, event: &Event) -> Result<(), AllocError>
     put_parts(out, event)
 }
 
+/// The length of an event's spelling, in bytes.
+#[tactic(auto, using(tks_spelling::proofs::Counting::lengths))]
+pub(crate) fn event_length(event: &Event) -> u64
+    ensures { result ≡ counted (length (events.event.write event.now)) }
+{
+    text_length(&event.detail)
+        .saturating_add(text_length(&event.payload))
+        .saturating_add(51)
+}
+
 /// Events.
 #[derive(Clone, Copy)]
 pub struct Events;
@@ -131,5 +142,9 @@ impl Members<Event> for Events {
 
     fn put(&self, out: &mut Vec<u8>, event: &Event) -> Result<(), AllocError> {
         put_event(out, event)
+    }
+
+    fn spelled_length(&self, event: &Event) -> u64 {
+        event_length(event)
     }
 }

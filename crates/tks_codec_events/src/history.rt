@@ -1,14 +1,15 @@
 //! Histories of events.
-ghost use Rattle.std.specs.Prelude.{◌≡◌, None, IfOk, OnOk};
+ghost use Rattle.std.specs.Prelude.{◌≡◌, length, None, IfOk, OnOk};
 ghost use Rattle.tks_spelling.specs.Reading.{Gives};
 ghost use Rattle.tks_spelling.specs.Writing.{PutsSo};
+ghost use Rattle.tks_spelling.specs.Lengths.{counted};
 ghost use Rattle.tks_codec_events.specs.History as histories;
 ghost use Rattle.tks_codec_events.specs.History.{history_at};
 
 use crate::event::Events;
 use std::alloc::{AllocError, Global};
 use tks_bind::{History, MAX_HISTORY, are_physical};
-use tks_spelling::{Unread, list_of, put_list};
+use tks_spelling::{Unread, list_length, list_of, put_list};
 
 /// A history.
 #[tactic(auto, unfolding(crate::specs::History::history_at), using(crate::proofs::Latest::all_latest))]
@@ -28,4 +29,11 @@ pub fn put_history(out: &mut Vec<u8>, history: &History) -> Result<(), AllocErro
     ensures legal { OnOk result (histories.history.Legal history.now) }
 {
     put_list(out, Events, history.events())
+}
+
+/// The length of a history's spelling, in bytes.
+pub fn history_length(history: &History) -> u64
+    ensures { result ≡ counted (length (histories.history.write history.now)) }
+{
+    list_length(&Events, history.events())
 }

@@ -5,6 +5,7 @@ ghost use Rattle.tks_text.specs.Short.{IsShort};
 ghost use Rattle.tks_spelling.specs.Spelling as spellings;
 ghost use Rattle.tks_spelling.specs.Spelling.{list};
 ghost use Rattle.tks_spelling.specs.Writing.{PutsSo};
+ghost use Rattle.tks_spelling.specs.Lengths.{counted};
 
 use std::alloc::AllocError;
 use tks_share::Items;
@@ -42,4 +43,22 @@ pub fn put_items<T: Drop, M: Members<T>>(
 {
     put_u32(out, count as u32)?;
     put_each_item(out, &members, items)
+}
+
+// The length of the items of a shared list, one behind the other.
+fn each_length<T: Drop, M: Members<T>>(members: &M, items: Items<'_, T>) -> u64
+    ensures { result ≡ counted (length (spellings.members (λ before. M.spelling members.now) None items.entry)) }
+{
+    let mut sum: u64 = 0;
+    for x in items {
+        sum = sum.saturating_add(members.spelled_length(x));
+    }
+    sum
+}
+
+/// The length of the spelling of a shared list's items, in bytes.
+pub fn items_length<T: Drop, M: Members<T>>(members: &M, items: Items<'_, T>) -> u64
+    ensures { result ≡ counted (length ((list (M.spelling members.now)).write items.entry)) }
+{
+    each_length(members, items).saturating_add(4)
 }

@@ -14,13 +14,13 @@ mod sequence;
 mod timers;
 mod virtuals;
 
-pub use bindings::{bindings_of, put_bindings};
+pub use bindings::{bindings_length, bindings_of, put_bindings};
 pub use event::{event_of, put_event};
 pub use held::{held_of, put_held};
-pub use history::{history_of, put_history};
+pub use history::{history_length, history_of, put_history};
 pub use kind::{kind_of, put_kind};
 pub use laws::{all_are_spelled, spellings_are_lawful};
-pub use queue::{put_queue, queue_of};
+pub use queue::{put_queue, queue_length, queue_of};
 pub use sequence::{put_sequence, sequence_of};
-pub use timers::{put_waiting, waiting_of};
-pub use virtuals::{put_virtuals, virtuals_of};
+pub use timers::{put_waiting, waiting_length, waiting_of};
+pub use virtuals::{put_virtuals, virtuals_length, virtuals_of};

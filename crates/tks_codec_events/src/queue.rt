@@ -1,13 +1,14 @@
 //! The queue of events.
-ghost use Rattle.std.specs.Prelude.{◌≡◌, true, OnOk};
+ghost use Rattle.std.specs.Prelude.{◌≡◌, length, true, OnOk};
 ghost use Rattle.tks_spelling.specs.Reading.{Gives};
 ghost use Rattle.tks_spelling.specs.Writing.{PutsSo};
+ghost use Rattle.tks_spelling.specs.Lengths.{counted};
 ghost use Rattle.tks_queue.specs.Legal.{may_wait};
 ghost use Rattle.tks_codec_events.specs.Queue as queues;
 ghost use Rattle.tks_codec_events.specs.Queue.{queued_at};
 
-use crate::event::{event_of, put_event};
-use crate::items::put_items;
+use crate::event::{event_length, event_of, put_event};
+use crate::items::{items_length, put_items};
 use std::alloc::{AllocError, Global};
 use tks_queue::{Queue, Queued, may_wait};
 use tks_spelling::reading::flag_of;
@@ -57,6 +58,11 @@ impl Members<Queued> for QueuedEvents {
     fn put(&self, out: &mut Vec<u8>, queued: &Queued) -> Result<(), AllocError> {
         put_queued(out, queued)
     }
+
+    #[tactic(auto, using(tks_spelling::proofs::Counting::lengths))]
+    fn spelled_length(&self, queued: &Queued) -> u64 {
+        event_length(&queued.event).saturating_add(1)
+    }
 }
 
 /// A queue.
@@ -74,4 +80,11 @@ pub fn put_queue(out: &mut Vec<u8>, queue: &Queue) -> Result<(), AllocError>
     ensures legal { OnOk result (queues.queue.Legal queue.now) }
 {
     put_items(out, QueuedEvents, queue.events(), queue.len())
+}
+
+/// The length of a queue's spelling, in bytes.
+pub fn queue_length(queue: &Queue) -> u64
+    ensures { result ≡ counted (length (queues.queue.write queue.now)) }
+{
+    items_length(&QueuedEvents, queue.events())
 }

@@ -1,7 +1,8 @@
 //! Patterns and sequences of events.
-ghost use Rattle.std.specs.Prelude.{OnOk};
+ghost use Rattle.std.specs.Prelude.{◌≡◌, length, OnOk};
 ghost use Rattle.tks_spelling.specs.Reading.{Gives};
 ghost use Rattle.tks_spelling.specs.Writing.{PutsSo, flattened};
+ghost use Rattle.tks_spelling.specs.Lengths.{counted};
 ghost use Rattle.tks_codec_events.specs.Sequence as sequences;
 ghost use Rattle.tks_codec_events.specs.Sequence.{pattern, pattern_at, pattern_parts, sequence_at};
 
@@ -10,7 +11,7 @@ use std::alloc::{AllocError, Global};
 use tks_event::{Modifiers, Pattern, Sequence};
 use tks_spelling::reading::{flag_of, text_of, u16_of};
 use tks_spelling::writing::{put_flag, put_text, put_u16};
-use tks_spelling::{Members, Unread, list_of, put_list};
+use tks_spelling::{Members, Unread, list_length, list_of, put_list, text_length};
 
 // A pattern.
 #[tactic(auto, unfolding(crate::specs::Sequence::pattern_at))]
@@ -77,6 +78,11 @@ impl Members<Pattern> for Patterns {
     fn put(&self, out: &mut Vec<u8>, pattern: &Pattern) -> Result<(), AllocError> {
         put_parts(out, pattern)
     }
+
+    #[tactic(auto, using(tks_spelling::proofs::Counting::lengths))]
+    fn spelled_length(&self, pattern: &Pattern) -> u64 {
+        text_length(&pattern.detail).saturating_add(4)
+    }
 }
 
 /// Adds a sequence.
@@ -85,6 +91,13 @@ pub fn put_sequence(out: &mut Vec<u8>, sequence: &Sequence) -> Result<(), AllocE
     ensures legal { OnOk result (sequences.sequence.Legal sequence.now) }
 {
     put_list(out, Patterns, sequence.patterns())
+}
+
+/// The length of a sequence's spelling, in bytes.
+pub(crate) fn sequence_length(sequence: &Sequence) -> u64
+    ensures { result ≡ counted (length (sequences.sequence.write sequence.now)) }
+{
+    list_length(&Patterns, sequence.patterns())
 }
 
 /// Sequences.
@@ -105,5 +118,9 @@ impl Members<Sequence> for Sequences {
 
     fn put(&self, out: &mut Vec<u8>, sequence: &Sequence) -> Result<(), AllocError> {
         put_sequence(out, sequence)
+    }
+
+    fn spelled_length(&self, sequence: &Sequence) -> u64 {
+        sequence_length(sequence)
     }
 }

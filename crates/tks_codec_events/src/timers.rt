@@ -1,17 +1,18 @@
 //! Timers and idle scripts.
-ghost use Rattle.std.specs.Prelude.{◌≡◌, ◌≤◌, ◌^◌, OnOk};
+ghost use Rattle.std.specs.Prelude.{◌≡◌, ◌≤◌, ◌^◌, length, OnOk};
 ghost use Rattle.tks_spelling.specs.Reading.{Gives};
 ghost use Rattle.tks_spelling.specs.Writing.{PutsSo, flattened};
+ghost use Rattle.tks_spelling.specs.Lengths.{counted};
 ghost use Rattle.tks_codec_events.specs.Timers as waits;
 ghost use Rattle.tks_codec_events.specs.Timers.{timer_at, timer_parts, idle_at, idle_parts, waiting, waiting_at};
 ghost use Rattle.tks_timer.specs.WellFormed.{rise_below, is_apart, are_apart, are_due, are_waiting};
 
-use crate::items::put_items;
+use crate::items::{items_length, put_items};
 use std::alloc::{AllocError, Global};
 use tks_share::Numbered;
 use tks_spelling::reading::{text_of, u64_of};
 use tks_spelling::writing::{put_text, put_u64};
-use tks_spelling::{Members, Unread, list_of};
+use tks_spelling::{Members, Unread, list_of, text_length};
 use tks_text::MAX_TIME;
 use tks_timer::{Idle, Timer, Timers};
 
@@ -77,6 +78,11 @@ impl Members<Timer> for TimerMembers {
     fn put(&self, out: &mut Vec<u8>, timer: &Timer) -> Result<(), AllocError> {
         put_timer_parts(out, timer)
     }
+
+    #[tactic(auto, using(tks_spelling::proofs::Counting::lengths))]
+    fn spelled_length(&self, timer: &Timer) -> u64 {
+        text_length(&timer.script).saturating_add(16)
+    }
 }
 
 /// Idle scripts.
@@ -98,6 +104,11 @@ impl Members<Idle> for IdleMembers {
     #[tactic(auto, unfolding(tks_spelling::specs::Writing::flattened))]
     fn put(&self, out: &mut Vec<u8>, idle: &Idle) -> Result<(), AllocError> {
         put_idle_parts(out, idle)
+    }
+
+    #[tactic(auto, using(tks_spelling::proofs::Counting::lengths))]
+    fn spelled_length(&self, idle: &Idle) -> u64 {
+        text_length(&idle.script).saturating_add(8)
     }
 }
 
@@ -176,4 +187,15 @@ pub fn put_waiting(out: &mut Vec<u8>, timers: &Timers) -> Result<(), AllocError>
     let _ = timers.next();
     put_items(out, TimerMembers, timers.timers(), timers.timer_count())?;
     put_items(out, IdleMembers, timers.idles(), timers.idle_count())
+}
+
+/// The length of the spelling of timers and idle scripts, in bytes.
+#[tactic(auto, using(tks_spelling::proofs::Counting::lengths))]
+pub fn waiting_length(timers: &Timers) -> u64
+    ensures { result ≡ counted (length ((waiting timers.now.next).write timers.now)) }
+{
+    items_length(&TimerMembers, timers.timers()).saturating_add(items_length(
+        &IdleMembers,
+        timers.idles(),
+    ))
 }

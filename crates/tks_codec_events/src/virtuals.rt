@@ -1,21 +1,22 @@
 //! Virtual events.
-ghost use Rattle.std.specs.Prelude.{◌≡◌, None, IfOk, OnOk};
+ghost use Rattle.std.specs.Prelude.{◌≡◌, length, None, IfOk, OnOk};
 ghost use Rattle.tks_spelling.specs.Reading.{Gives};
 ghost use Rattle.tks_spelling.specs.Writing.{PutsSo, flattened};
+ghost use Rattle.tks_spelling.specs.Lengths.{counted};
 ghost use Rattle.tks_bind.specs.WellFormed.{is_some, are_virtuals};
 ghost use Rattle.tks_codec_events.specs.Virtuals as tables;
 ghost use Rattle.tks_bind.specs.WellFormed.{are_physical, is_virtual_event};
 ghost use Rattle.tks_codec_events.specs.Virtuals.{named_parts, virtual_event_at, virtuals_at};
 
 use crate::distinct::{Distinct, all_differ};
-use crate::items::put_items;
+use crate::items::{items_length, put_items};
 use crate::sequence::Sequences;
 use std::alloc::{AllocError, Global};
 use tks_bind::{VirtualEvent, Virtuals, is_of_name};
 use tks_event::{Sequence, are_equal, is_name};
 use tks_spelling::reading::text_of;
 use tks_spelling::writing::put_text;
-use tks_spelling::{Members, Unread, list_of, put_list};
+use tks_spelling::{Members, Unread, list_length, list_of, put_list, text_length};
 use tks_text::Txt;
 
 impl Distinct for Sequence {
@@ -108,6 +109,11 @@ impl Members<VirtualEvent> for VirtualMembers {
     fn put(&self, out: &mut Vec<u8>, event: &VirtualEvent) -> Result<(), AllocError> {
         put_parts(out, event)
     }
+
+    #[tactic(auto, using(tks_spelling::proofs::Counting::lengths))]
+    fn spelled_length(&self, event: &VirtualEvent) -> u64 {
+        text_length(&event.name).saturating_add(list_length(&Sequences, event.sequences.as_slice()))
+    }
 }
 
 impl Distinct for VirtualEvent {
@@ -139,4 +145,11 @@ pub fn put_virtuals(out: &mut Vec<u8>, virtuals: &Virtuals) -> Result<(), AllocE
     ensures legal { OnOk result (tables.virtuals.Legal virtuals.now) }
 {
     put_items(out, VirtualMembers, virtuals.events(), virtuals.len())
+}
+
+/// The length of the spelling of virtual events, in bytes.
+pub fn virtuals_length(virtuals: &Virtuals) -> u64
+    ensures { result ≡ counted (length (tables.virtuals.write virtuals.now)) }
+{
+    items_length(&VirtualMembers, virtuals.events())
 }

@@ -1,12 +1,12 @@
 //! What stands under the names of globals: texts, scalars and arrays.
 ghost use Rattle.std.specs.Prelude.{◌≡◌};
 
-use crate::table::{Named, put_table, table_of};
+use crate::table::{Named, put_table, table_length, table_of};
 use std::alloc::{AllocError, Global};
 use tks_list::ListText;
 use tks_spelling::reading::{presence_of, text_of};
 use tks_spelling::writing::{put_presence, put_text};
-use tks_spelling::{Members, Unread};
+use tks_spelling::{Members, Unread, text_length};
 use tks_vars::Content;
 
 /// Texts that may be lists.
@@ -27,6 +27,10 @@ impl Members<ListText> for ListTexts {
 
     fn put(&self, out: &mut Vec<u8>, text: &ListText) -> Result<(), AllocError> {
         put_text(out, text.as_text())
+    }
+
+    fn spelled_length(&self, text: &ListText) -> u64 {
+        text_length(text.as_text())
     }
 }
 
@@ -67,6 +71,13 @@ impl Members<Content> for Contents {
                 put_presence(out, true)?;
                 put_table(out, ListTexts, elements)
             }
+        }
+    }
+
+    fn spelled_length(&self, content: &Content) -> u64 {
+        match content {
+            Content::Scalar(value) => ListTexts.spelled_length(value).saturating_add(1),
+            Content::Array(elements) => table_length(&ListTexts, elements).saturating_add(1),
         }
     }
 }

@@ -1,15 +1,16 @@
 //! Parameters of procedures.
-ghost use Rattle.std.specs.Prelude.{OnOk};
+ghost use Rattle.std.specs.Prelude.{◌≡◌, length, OnOk};
 ghost use Rattle.tks_spelling.specs.Spelling.{text, option};
 ghost use Rattle.tks_spelling.specs.Reading.{Gives};
 ghost use Rattle.tks_spelling.specs.Writing.{PutsSo, flattened};
+ghost use Rattle.tks_spelling.specs.Lengths.{counted};
 ghost use Rattle.tks_codec_variables.specs.Procedures as kinds;
 ghost use Rattle.tks_codec_variables.specs.Procedures.{parameter_at, parameter_parts};
 
 use std::alloc::{AllocError, Global};
 use tks_spelling::reading::{presence_of, text_of};
 use tks_spelling::writing::{put_presence, put_text};
-use tks_spelling::{Members, Unread};
+use tks_spelling::{Members, Unread, text_length};
 use tks_text::Txt;
 use tks_vars::Parameter;
 
@@ -50,6 +51,16 @@ fn put_default(out: &mut Vec<u8>, default: &Option<Txt>) -> Result<(), AllocErro
     }
 }
 
+// The length of a default, if there is one.
+fn default_length(default: &Option<Txt>) -> u64
+    ensures { result ≡ counted (length ((option text).write default.now)) }
+{
+    match default {
+        None => 1,
+        Some(value) => text_length(value).saturating_add(1),
+    }
+}
+
 // Adds the parts of a parameter.
 #[tactic(auto, using(tks_spelling::proofs::Puts::flattened_puts))]
 fn put_parts(out: &mut Vec<u8>, parameter: &Parameter) -> Result<(), AllocError>
@@ -79,5 +90,10 @@ impl Members<Parameter> for Parameters {
     #[tactic(auto, unfolding(tks_spelling::specs::Writing::flattened))]
     fn put(&self, out: &mut Vec<u8>, parameter: &Parameter) -> Result<(), AllocError> {
         put_parts(out, parameter)
+    }
+
+    #[tactic(auto, using(tks_spelling::proofs::Counting::lengths))]
+    fn spelled_length(&self, parameter: &Parameter) -> u64 {
+        text_length(parameter.name.get()).saturating_add(default_length(&parameter.default))
     }
 }

@@ -9,7 +9,7 @@ use crate::table::Named;
 use std::alloc::{AllocError, Global};
 use tks_spelling::reading::text_of;
 use tks_spelling::writing::put_text;
-use tks_spelling::{Members, Unread, list_of, put_list};
+use tks_spelling::{Members, Unread, list_length, list_of, put_list, text_length};
 use tks_vars::Procedure;
 
 // Adds the parts of a procedure.
@@ -42,6 +42,13 @@ impl Members<Procedure> for Procedures {
     #[tactic(auto, unfolding(tks_spelling::specs::Writing::flattened))]
     fn put(&self, out: &mut Vec<u8>, procedure: &Procedure) -> Result<(), AllocError> {
         put_parts(out, procedure)
+    }
+
+    #[tactic(auto, using(tks_spelling::proofs::Counting::lengths))]
+    fn spelled_length(&self, procedure: &Procedure) -> u64 {
+        list_length(&Parameters, procedure.params.as_slice()).saturating_add(text_length(
+            &procedure.body,
+        ))
     }
 }
 

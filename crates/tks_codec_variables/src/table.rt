@@ -1,10 +1,11 @@
 //! Maps from names.
-ghost use Rattle.std.specs.Prelude.{◌≡◌, None, OnOk};
+ghost use Rattle.std.specs.Prelude.{◌≡◌, length, None, OnOk};
 ghost use Rattle.std.specs.List.{AllByRecursion};
 ghost use Rattle.tks_vars.specs.Table.{HasName, IsName};
 ghost use Rattle.tks_spelling.specs.Spelling.{text, members};
 ghost use Rattle.tks_spelling.specs.Reading.{Gives};
 ghost use Rattle.tks_spelling.specs.Writing.{PutsSo};
+ghost use Rattle.tks_spelling.specs.Lengths.{counted};
 ghost use Rattle.tks_codec_variables.specs.Table as kinds;
 ghost use Rattle.tks_codec_variables.specs.Table.{entry, table_at};
 
@@ -99,4 +100,32 @@ pub fn put_table<X: Drop, M: Named<X>>(
 {
     put_u32(out, table.len() as u32)?;
     put_each(out, &values, table.iter())
+}
+
+// The length of a name, and of what is under it.
+#[tactic(auto, using(tks_spelling::proofs::Counting::lengths))]
+fn entry_length<X: Drop, M: Named<X>>(values: &M, name: &[u8], value: &X) -> u64
+    ensures { result ≡ counted (length ((entry (M.spelling values.now)).write (name.now, value.now))) }
+{
+    values
+        .spelled_length(value)
+        .saturating_add(name.len() as u64 + 4)
+}
+
+// The length of the entries.
+fn each_length<X: Drop, M: Named<X>>(values: &M, entries: Iter<'_, X>) -> u64
+    ensures { result ≡ counted (length (members (λ before. entry (M.spelling values.now)) None entries.entry)) }
+{
+    let mut sum: u64 = 0;
+    for (name, value) in entries {
+        sum = sum.saturating_add(entry_length(values, name, value));
+    }
+    sum
+}
+
+/// The length of a map's spelling, in bytes.
+pub fn table_length<X: Drop, M: Named<X>>(values: &M, table: &Table<X>) -> u64
+    ensures { result ≡ counted (length ((kinds.table (M.spelling values.now)).write table.now)) }
+{
+    each_length(values, table.iter()).saturating_add(4)
 }

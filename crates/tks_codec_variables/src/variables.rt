@@ -1,13 +1,14 @@
 //! Variables and procedures.
-ghost use Rattle.std.specs.Prelude.{◌≡◌, [], OnOk};
+ghost use Rattle.std.specs.Prelude.{◌≡◌, length, [], OnOk};
 ghost use Rattle.tks_spelling.specs.Reading.{Gives};
 ghost use Rattle.tks_spelling.specs.Writing.{PutsSo, flattened};
+ghost use Rattle.tks_spelling.specs.Lengths.{counted};
 ghost use Rattle.tks_codec_variables.specs.Variables as kinds;
 ghost use Rattle.tks_codec_variables.specs.Variables.{variables_at, variables_parts};
 
 use crate::globals::Contents;
 use crate::procedure::Procedures;
-use crate::table::{put_table, table_of};
+use crate::table::{put_table, table_length, table_of};
 use std::alloc::{AllocError, Global};
 use tks_spelling::Unread;
 use tks_vars::Vars;
@@ -39,4 +40,15 @@ pub fn put_variables(out: &mut Vec<u8>, variables: &Vars) -> Result<(), AllocErr
     ensures legal { OnOk result (variables.now.locals ≡ [] → kinds.variables.Legal variables.now) }
 {
     put_parts(out, variables)
+}
+
+/// The length of the spelling of the globals and the procedures, in bytes.
+#[tactic(auto, using(tks_spelling::proofs::Counting::lengths))]
+pub fn variables_length(variables: &Vars) -> u64
+    ensures { result ≡ counted (length (kinds.variables.write variables.now)) }
+{
+    table_length(&Contents, variables.globals()).saturating_add(table_length(
+        &Procedures,
+        variables.named_procedures(),
+    ))
 }

@@ -4,3 +4,4 @@ pub mod OfPacking
 pub mod OfWidgets
 pub mod OfLines
 pub mod OfPlaces
+pub mod Sizes

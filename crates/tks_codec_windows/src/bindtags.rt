@@ -1,13 +1,14 @@
 //! The tags of a window.
-ghost use Rattle.std.specs.Prelude.{option_map, OnOk};
+ghost use Rattle.std.specs.Prelude.{◌≡◌, length, option_map, OnOk};
 ghost use Rattle.tks_spelling.specs.Reading.{Gives};
 ghost use Rattle.tks_spelling.specs.Writing.{PutsSo};
+ghost use Rattle.tks_spelling.specs.Lengths.{counted};
 ghost use Rattle.tks_codec_windows.specs.Bindtags as kinds;
 
 use std::alloc::{AllocError, Global};
 use tks_spelling::reading::presence_of;
 use tks_spelling::writing::put_presence;
-use tks_spelling::{Texts, Unread, list_of, put_list};
+use tks_spelling::{Texts, Unread, list_length, list_of, put_list};
 use tks_text::{Seq, Txt};
 
 /// A window's tags, if it has some of its own.
@@ -33,5 +34,15 @@ pub fn put_tags(out: &mut Vec<u8>, tags: Option<&Seq<Txt>>) -> Result<(), AllocE
             put_presence(out, true)?;
             put_list(out, Texts, texts.as_slice())
         }
+    }
+}
+
+/// The length of the spelling of a window's tags, if it has some of its own, in bytes.
+pub fn tags_length(tags: Option<&Seq<Txt>>) -> u64
+    ensures { result ≡ counted (length (kinds.tags.write (option_map (λ t. t.now) tags.entry))) }
+{
+    match tags {
+        None => 1,
+        Some(texts) => list_length(&Texts, texts.as_slice()).saturating_add(1),
     }
 }

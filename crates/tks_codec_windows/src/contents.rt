@@ -1,9 +1,10 @@
 //! The windows that are packed in a container.
-ghost use Rattle.std.specs.Prelude.{map, None, OnOk};
+ghost use Rattle.std.specs.Prelude.{◌≡◌, length, map, None, OnOk};
 ghost use Rattle.std.specs.Int.{w64};
 ghost use Rattle.std.specs.List.{AllByRecursion};
 ghost use Rattle.tks_spelling.specs.Spelling.{number, members};
 ghost use Rattle.tks_spelling.specs.Writing.{PutsSo};
+ghost use Rattle.tks_spelling.specs.Lengths.{counted};
 ghost use Rattle.tks_codec_windows.specs.Contents as kinds;
 
 use std::alloc::AllocError;
@@ -29,4 +30,11 @@ pub fn put_contents(out: &mut Vec<u8>, packing: &Packing) -> Result<(), AllocErr
 {
     put_u32(out, packing.len() as u32)?;
     put_each(out, packing.contents())
+}
+
+/// The length of the spelling of the windows that are packed in a container, in bytes.
+pub fn contents_length(packing: &Packing) -> u64
+    ensures { result ≡ counted (length (kinds.contents.write (map (λ c. c.window) packing.now.contents))) }
+{
+    8 * packing.len() as u64 + 4
 }

@@ -1,16 +1,17 @@
 //! What an entry holds.
-ghost use Rattle.std.specs.Prelude.{◌≡◌, OnOk};
+ghost use Rattle.std.specs.Prelude.{◌≡◌, length, OnOk};
 ghost use Rattle.tks_text.specs.declared.class.Class.TheVariants as class;
 ghost use Rattle.tks_spelling.specs.Reading.{Gives};
 ghost use Rattle.tks_spelling.specs.Writing.{PutsSo};
+ghost use Rattle.tks_spelling.specs.Lengths.{counted};
 ghost use Rattle.tks_codec_windows.specs.Entry as kinds;
 
 use std::alloc::{AllocError, Global};
 use tks_entry::EntryWidget;
 use tks_opt::Options;
-use tks_spelling::Unread;
 use tks_spelling::reading::{text_of, u32_of};
 use tks_spelling::writing::{put_text, put_u32};
+use tks_spelling::{Unread, text_length};
 
 /// An entry with these options, by its text and its cursor.
 pub fn entry_of(
@@ -36,4 +37,12 @@ pub fn put_entry(out: &mut Vec<u8>, entry: &EntryWidget) -> Result<(), AllocErro
 {
     put_text(out, entry.text())?;
     put_u32(out, entry.cursor())
+}
+
+/// The length of the spelling of an entry's text and its cursor, in bytes.
+#[tactic(auto, using(tks_spelling::proofs::Counting::lengths))]
+pub fn entry_length(entry: &EntryWidget) -> u64
+    ensures { result ≡ counted (length ((kinds.entry entry.now.options).write entry.now)) }
+{
+    text_length(entry.text()).saturating_add(4)
 }

@@ -1,19 +1,20 @@
 //! What a text widget holds.
-ghost use Rattle.std.specs.Prelude.{◌≡◌, OnOk};
+ghost use Rattle.std.specs.Prelude.{◌≡◌, length, OnOk};
 ghost use Rattle.tks_text.specs.declared.class.Class.TheVariants as class;
 ghost use Rattle.tks_spelling.specs.Reading.{Gives};
 ghost use Rattle.tks_spelling.specs.Writing.{PutsSo};
+ghost use Rattle.tks_spelling.specs.Lengths.{counted};
 ghost use Rattle.tks_codec_windows.specs.Lines as kinds;
 ghost use Rattle.tks_codec_windows.specs.Lines.{lines_at};
 
 use crate::mark::Marks;
-use crate::tag::{put_tags, tags_of};
+use crate::tag::{put_tags, tags_length, tags_of};
 use std::alloc::{AllocError, Global};
 use tks_lines::TextWidget;
 use tks_opt::Options;
 use tks_spelling::reading::text_of;
 use tks_spelling::writing::put_text;
-use tks_spelling::{Unread, list_of, put_list};
+use tks_spelling::{Unread, list_length, list_of, put_list, text_length};
 
 /// A text widget with these options, by its characters, its tags and its marks.
 #[tactic(auto, unfolding(crate::specs::Lines::lines_at))]
@@ -43,4 +44,15 @@ pub fn put_lines(alloc: Global, out: &mut Vec<u8>, widget: &TextWidget) -> Resul
     put_text(out, widget.text())?;
     put_tags(alloc, out, widget)?;
     put_list(out, Marks, marks)
+}
+
+/// The length of the spelling of a text widget's characters, its tags and its marks, in bytes.
+#[tactic(auto, using(tks_spelling::proofs::Counting::lengths))]
+pub fn lines_length(widget: &TextWidget) -> u64
+    ensures { result ≡ counted (length ((kinds.lines widget.now.options).write widget.now)) }
+{
+    let marks = widget.marks();
+    text_length(widget.text())
+        .saturating_add(tags_length(widget))
+        .saturating_add(list_length(&Marks, marks))
 }

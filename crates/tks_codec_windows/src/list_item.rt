@@ -3,7 +3,7 @@ use std::alloc::{AllocError, Global};
 use tks_listbox::Item;
 use tks_spelling::reading::{flag_of, text_of};
 use tks_spelling::writing::{put_flag, put_text};
-use tks_spelling::{Members, Unread};
+use tks_spelling::{Members, Unread, text_length};
 
 /// Items.
 #[derive(Clone, Copy)]
@@ -25,5 +25,10 @@ impl Members<Item> for Items {
     fn put(&self, out: &mut Vec<u8>, item: &Item) -> Result<(), AllocError> {
         put_text(out, &item.text)?;
         put_flag(out, item.is_selected)
+    }
+
+    #[tactic(auto, using(tks_spelling::proofs::Counting::lengths))]
+    fn spelled_length(&self, item: &Item) -> u64 {
+        text_length(&item.text).saturating_add(1)
     }
 }

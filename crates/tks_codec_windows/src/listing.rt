@@ -1,8 +1,9 @@
 //! What a listbox holds.
-ghost use Rattle.std.specs.Prelude.{◌≡◌, OnOk};
+ghost use Rattle.std.specs.Prelude.{◌≡◌, length, OnOk};
 ghost use Rattle.tks_text.specs.declared.class.Class.TheVariants as class;
 ghost use Rattle.tks_spelling.specs.Reading.{Gives};
 ghost use Rattle.tks_spelling.specs.Writing.{PutsSo};
+ghost use Rattle.tks_spelling.specs.Lengths.{counted};
 ghost use Rattle.tks_codec_windows.specs.Listbox as kinds;
 
 use crate::list_item::Items;
@@ -11,7 +12,7 @@ use tks_listbox::ListWidget;
 use tks_opt::Options;
 use tks_spelling::reading::u32_of;
 use tks_spelling::writing::put_u32;
-use tks_spelling::{Unread, list_of, put_list};
+use tks_spelling::{Unread, list_length, list_of, put_list};
 
 /// A listbox with these options, by its items and the active one's place.
 pub fn listbox_of(
@@ -37,4 +38,12 @@ pub fn put_listbox(out: &mut Vec<u8>, listbox: &ListWidget) -> Result<(), AllocE
 {
     put_list(out, Items, listbox.items())?;
     put_u32(out, listbox.active() as u32)
+}
+
+/// The length of the spelling of a listbox's items and the active one's place, in bytes.
+#[tactic(auto, using(tks_spelling::proofs::Counting::lengths))]
+pub fn listbox_length(listbox: &ListWidget) -> u64
+    ensures { result ≡ counted (length ((kinds.listbox listbox.now.options).write listbox.now)) }
+{
+    list_length(&Items, listbox.items()).saturating_add(4)
 }

@@ -9,7 +9,7 @@ use std::alloc::{AllocError, Global};
 use tks_lines::Mark;
 use tks_spelling::reading::{flag_of, text_of, u32_of};
 use tks_spelling::writing::{put_flag, put_text, put_u32};
-use tks_spelling::{Members, Unread};
+use tks_spelling::{Members, Unread, text_length};
 
 // A mark.
 #[tactic(auto, unfolding(crate::specs::Lines::mark_at))]
@@ -58,5 +58,10 @@ impl Members<Mark> for Marks {
     #[tactic(auto, unfolding(tks_spelling::specs::Writing::flattened))]
     fn put(&self, out: &mut Vec<u8>, mark: &Mark) -> Result<(), AllocError> {
         put_parts(out, mark)
+    }
+
+    #[tactic(auto, using(tks_spelling::proofs::Counting::lengths))]
+    fn spelled_length(&self, mark: &Mark) -> u64 {
+        text_length(&mark.name).saturating_add(5)
     }
 }

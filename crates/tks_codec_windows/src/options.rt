@@ -1,17 +1,18 @@
 //! The options of a window.
-ghost use Rattle.std.specs.Prelude.{None, OnOk};
+ghost use Rattle.std.specs.Prelude.{◌≡◌, length, None, OnOk};
 ghost use Rattle.std.specs.List.{AllByRecursion};
 ghost use Rattle.tks_opt.specs.Options.{values_in_order};
 ghost use Rattle.tks_spelling.specs.Spelling.{text, members};
 ghost use Rattle.tks_spelling.specs.Reading.{Gives};
 ghost use Rattle.tks_spelling.specs.Writing.{PutsSo};
+ghost use Rattle.tks_spelling.specs.Lengths.{counted};
 ghost use Rattle.tks_codec_windows.specs.Options as kinds;
 ghost use Rattle.tks_codec_windows.specs.Options.{options_at};
 
 use std::alloc::{AllocError, Global};
 use tks_opt::Options;
 use tks_spelling::writing::{put_text, put_u32};
-use tks_spelling::{Texts, Unread, list_of};
+use tks_spelling::{Texts, Unread, list_of, text_length};
 use tks_text::Class;
 
 /// The options of a class. Bytes in front of them say which class it is.
@@ -47,4 +48,25 @@ pub fn put_options(out: &mut Vec<u8>, options: &Options) -> Result<(), AllocErro
 {
     put_u32(out, options.len() as u32)?;
     put_each(out, options)
+}
+
+// The length of the values, one behind the other.
+fn each_length(options: &Options) -> u64
+    ensures { result ≡ counted (length (members (λ before. text) None (values_in_order options.now))) }
+{
+    let mut sum: u64 = 0;
+    for index in 0..options.len() {
+        let Some(value) = options.value_at(index) else {
+            unreachable!()
+        };
+        sum = sum.saturating_add(text_length(value));
+    }
+    sum
+}
+
+/// The length of the spelling of options, in bytes.
+pub fn options_length(options: &Options) -> u64
+    ensures { result ≡ counted (length ((kinds.options options.now.class).write options.now)) }
+{
+    each_length(options).saturating_add(4)
 }

@@ -1,7 +1,8 @@
 //! How a window is packed, if it is.
-ghost use Rattle.std.specs.Prelude.{OnOk};
+ghost use Rattle.std.specs.Prelude.{◌≡◌, length, OnOk};
 ghost use Rattle.tks_spelling.specs.Reading.{Gives};
 ghost use Rattle.tks_spelling.specs.Writing.{PutsSo};
+ghost use Rattle.tks_spelling.specs.Lengths.{counted};
 ghost use Rattle.tks_codec_windows.specs.Packing as kinds;
 ghost use Rattle.tks_codec_windows.specs.Packing.{packing_at};
 
@@ -38,5 +39,16 @@ pub fn put_packing(out: &mut Vec<u8>, packing: Option<Settings>) -> Result<(), A
             put_presence(out, true)?;
             put_settings(out, &settings)
         }
+    }
+}
+
+/// The length of the spelling of how a window is packed, if it is, in bytes.
+#[tactic(auto, using(crate::proofs::Sizes::settings_size))]
+pub fn packing_length(packing: Option<Settings>) -> u64
+    ensures { result ≡ counted (length (kinds.packing.write packing)) }
+{
+    match packing {
+        None => 1,
+        Some(_) => 13,
     }
 }

@@ -1,19 +1,20 @@
 //! Tags of text widgets.
-ghost use Rattle.std.specs.Prelude.{◌<◌, ◌^◌, length, None, OnOk};
+ghost use Rattle.std.specs.Prelude.{◌≡◌, ◌<◌, ◌^◌, length, None, OnOk};
 ghost use Rattle.std.specs.List.{AllByRecursion};
 ghost use Rattle.tks_lines.specs.Lines.{AreLong};
 ghost use Rattle.tks_spelling.specs.Spelling.{list, members};
 ghost use Rattle.tks_spelling.specs.Reading.{Gives};
 ghost use Rattle.tks_spelling.specs.Writing.{PutsSo};
+ghost use Rattle.tks_spelling.specs.Lengths.{counted};
 ghost use Rattle.tks_codec_windows.specs.Lines as kinds;
 ghost use Rattle.tks_codec_windows.specs.Lines.{tag, tag_at};
 
-use crate::range_list::{RangesWithin, put_flags};
+use crate::range_list::{RangesWithin, flags_length, put_flags};
 use std::alloc::{AllocError, Global};
 use tks_lines::{Flags, Tag, TextWidget};
 use tks_spelling::reading::text_of;
 use tks_spelling::writing::{put_text, put_u32};
-use tks_spelling::{Following, Unread, list_by};
+use tks_spelling::{Following, Unread, list_by, text_length};
 use tks_text::{Seq, Txt};
 
 // A tag of a text of so many characters.
@@ -94,4 +95,32 @@ pub fn put_tags(alloc: Global, out: &mut Vec<u8>, widget: &TextWidget) -> Result
 {
     put_u32(out, widget.tags().len() as u32)?;
     put_each_tag(alloc, out, widget)
+}
+
+// The length of a tag.
+#[tactic(auto, using(tks_spelling::proofs::Counting::lengths))]
+fn tag_length(tag: &Tag) -> u64
+    ensures { result ≡ counted (length ((kinds.tag (length tag.now.on)).write tag.now)) }
+{
+    text_length(&tag.name).saturating_add(flags_length(&tag.on))
+}
+
+// The length of the tags of a text widget, one behind the other.
+fn each_tag_length(widget: &TextWidget) -> u64
+    requires { AreLong (length widget.now.text) widget.now.tags }
+    ensures { result ≡ counted (length (members (λ before. tag (length widget.now.text)) None widget.now.tags)) }
+{
+    let mut sum: u64 = 0;
+    for tag in widget.tags() {
+        sum = sum.saturating_add(tag_length(tag));
+    }
+    sum
+}
+
+/// The length of the spelling of a text widget's tags, in bytes.
+pub fn tags_length(widget: &TextWidget) -> u64
+    requires { AreLong (length widget.now.text) widget.now.tags }
+    ensures { result ≡ counted (length ((list (tag (length widget.now.text))).write widget.now.tags)) }
+{
+    each_tag_length(widget).saturating_add(4)
 }

@@ -3,19 +3,17 @@ use Rattle.std.proofs.Common.{◌≡◌, ◌↔◌, ◌<◌, ℕ, List, [], ◌+
 use Rattle.tks_disk.specs.DiskModel.{View, Images}
 use Rattle.tks_input.specs.declared.input.Input.{Input}
 use Rattle.tks_journal.specs.Moments.{LeavesOnly}
-use Rattle.tks_durable.specs.Crash.{AllOpenTo, OpensToPrefix, Stands}
-use Rattle.tks_durable.specs.Lives.{Lives, LeavesPrefixes}
-use Rattle.tks_durable.specs.Machine.{Meaning}
-use Rattle.tks_durable.specs.Opening.{opens}
-use Rattle.tks_durable.specs.Refusing.{PostRefused}
-use Rattle.tks_durable.specs.Durable.{DurableState, CommitFails}
+use Rattle.tks_app.specs.Applications.{Meaning}
+use Rattle.tks_durable.specs.Durable.{CheckpointFails, CommitFails, failed_with}
 use Rattle.tks_durable.specs.declared.fault.SessionFault.{SessionFault}
 use Rattle.tks_durable.specs.declared.fault.SessionFault.TheVariants as session
 use Rattle.tks_durable.proofs.Lives.{lives_idle, lives_then, lives_committed}
-use Rattle.tks_state.specs.World.{World}
+use Rattle.tks_session.specs.Crash.{AllOpenTo, LeavesPrefixes, Lives, OpensToPrefix, Stands, opens}
+use Rattle.tks_session.specs.Refusing.{PostRefused}
+use Rattle.tks_session.specs.Sessions.{SessionState, Setting, setting_of, terminal_in}
 use Rattle.tks_input.specs.declared.reply.Refused.{Refused}
 use Rattle.tks_input.specs.declared.reply.Refused.TheVariants.{BadInput, ClockBack, PendingFull, Budget, Depth, TooLarge, NoMemory, Quiet, Failed}
-use Rattle.tks_desk.specs.Answers.{RefusalSo, refusal_line}
+use Rattle.tks_desk.specs.Answers.{CheckpointFaultSo, RefusalSo, large_line, memory_line, refusal_line}
 use Rattle.tks_desk.specs.Reading.{InReading}
 use Rattle.tks_desk.specs.Writing.{WritesSo}
 use Rattle.tks_desk.specs.Running.{Dies, FailsSo, Fares, Runs, Survives, Works}
@@ -29,21 +27,21 @@ done_as A a = Ok a
 abbrev pub failed_as : (A : Type 0) → RunFault → Result A RunFault
 failed_as A why = Err why
 
-module _ {D M : Type 0} (meaning_of : M → Meaning World) (honest : D → Type 0) (view : D → View) (failures : D → ℕ) where
+module _ {D : Type 0} (meaning : Meaning) (honest : D → Type 0) (view : D → View) (failures : D → ℕ) where
   -- all that a crash now may leave opens to what is read
-  abbrev pub OpensNow : DurableState D M World → Type 0
-  OpensNow s = s.journal.failed ≡ false → honest s.journal.disk → AllOpenTo (meaning_of s.machine) (view s.journal.disk) (opens (meaning_of s.machine) (view s.journal.disk).reads)
+  abbrev pub OpensNow : SessionState D → Type 0
+  OpensNow s = s.journal.failed ≡ false → honest s.journal.disk → AllOpenTo (setting_of meaning s.machine) (view s.journal.disk) (opens (setting_of meaning s.machine) (view s.journal.disk).reads)
 
   -- since this moment there is no other
   abbrev pub OnlyNow : Type 0
   OnlyNow = (d : D) (i : Images) → honest d → (view d).left_since (view d).clock i → (view d).may_leave i
 
   -- the same part of a run, of which something else is said
-  module _ {A B : Type 0} (old new : DurableState D M World) (says says' : List Input → Type 0) (so : (accepted : List Input) → says accepted → says' accepted) where
-    pub ok_again : (a : A) (b : B) → Runs meaning_of honest view failures (done_as A a) old new says → Runs meaning_of honest view failures (done_as B b) old new says'
+  module _ {A B : Type 0} (old new : SessionState D) (says says' : List Input → Type 0) (so : (accepted : List Input) → says accepted → says' accepted) where
+    pub ok_again : (a : A) (b : B) → Runs meaning honest view failures (done_as A a) old new says → Runs meaning honest view failures (done_as B b) old new says'
     ok_again a b r = record { accepted = r.accepted; told = so r.accepted r.told; machine = r.machine; fares = r.fares; honesty = r.honesty; survives = r.survives }
 
-    pub err_again : (why : RunFault) → Runs meaning_of honest view failures (failed_as A why) old new says → Runs meaning_of honest view failures (failed_as B why) old new says'
+    pub err_again : (why : RunFault) → Runs meaning honest view failures (failed_as A why) old new says → Runs meaning honest view failures (failed_as B why) old new says'
     err_again fault.Read r = record { accepted = r.accepted; told = so r.accepted r.told; machine = r.machine; fares = r.fares; honesty = r.honesty; survives = r.survives }
     err_again fault.Write r = record { accepted = r.accepted; told = so r.accepted r.told; machine = r.machine; fares = r.fares; honesty = r.honesty; survives = r.survives }
     err_again fault.Memory r = record { accepted = r.accepted; told = so r.accepted r.told; machine = r.machine; fares = r.fares; honesty = r.honesty; survives = r.survives }
@@ -51,7 +49,7 @@ module _ {D M : Type 0} (meaning_of : M → Meaning World) (honest : D → Type 
 
   -- ---- a part in which the disk isn't called
 
-  module _ (old new : DurableState D M World) (accepted : List Input) (same : new.journal ≡ old.journal) (machine : new.machine ≡ old.machine) (waits : new.waiting ≡ old.waiting ++ accepted)
+  module _ (old new : SessionState D) (accepted : List Input) (same : new.journal ≡ old.journal) (machine : new.machine ≡ old.machine) (waits : new.waiting ≡ old.waiting ++ accepted)
       (all : OpensNow old) (only_now : OnlyNow) where
     works : Works failures old new
     works = record { as_before = ap (λ j. j.failed) same; steady = ap (λ j. failures j.disk) same }
@@ -59,32 +57,32 @@ module _ {D M : Type 0} (meaning_of : M → Meaning World) (honest : D → Type 
     honesty : honest old.journal.disk ↔ honest new.journal.disk
     honesty = (λ h. subst (λ j. honest j.disk) (sym same) h, λ h. subst (λ j. honest j.disk) same h)
 
-    lives : old.journal.failed ≡ false → honest old.journal.disk → Lives (meaning_of old.machine) view old new accepted
-    lives working h = lives_idle (meaning_of old.machine) view old new same (all working h) (λ i left. only_now old.journal.disk i h left) accepted waits
+    lives : old.journal.failed ≡ false → honest old.journal.disk → Lives (setting_of meaning old.machine) view old new accepted
+    lives working h = lives_idle (terminal_in (setting_of meaning old.machine)) view old new same (all working h) (λ i left. only_now old.journal.disk i h left) accepted waits
 
     module _ {A : Type 0} (says : List Input → Type 0) (told : says accepted) where
-      pub ok_idle : (a : A) → Runs meaning_of honest view failures (done_as A a) old new says
+      pub ok_idle : (a : A) → Runs meaning honest view failures (done_as A a) old new says
       ok_idle a = record { accepted = accepted; told = told; machine = machine; fares = works; honesty = honesty; survives = lives }
 
-      pub read_idle : (why : RunFault) → InReading why → Runs meaning_of honest view failures (failed_as A why) old new says
+      pub read_idle : (why : RunFault) → InReading why → Runs meaning honest view failures (failed_as A why) old new says
       read_idle fault.Read is = record { accepted = accepted; told = told; machine = machine; fares = works; honesty = honesty; survives = lives }
       read_idle fault.Memory is = record { accepted = accepted; told = told; machine = machine; fares = works; honesty = honesty; survives = lives }
       read_idle fault.Write is = absurd is
       read_idle (fault.Session why) is = absurd is
 
-    write_failed : (says : List Input → Type 0) → says accepted → Runs meaning_of honest view failures (failed_as (Unit {0}) fault.Write) old new says
+    write_failed : (says : List Input → Type 0) → says accepted → Runs meaning honest view failures (failed_as (Unit {0}) fault.Write) old new says
     write_failed says told = record { accepted = accepted; told = told; machine = machine; fares = works; honesty = honesty; survives = lives }
 
     -- something was written
     pub written : (result : Result (Unit {0}) RunFault) (before after : Option (List ℕ)) (bytes : List ℕ) (says : List Input → Type 0)
-        → WritesSo result before after bytes → says accepted → Runs meaning_of honest view failures result old new says
+        → WritesSo result before after bytes → says accepted → Runs meaning honest view failures result old new says
     written (Ok done) before after bytes says writes told = ok_idle says told done
     written (Err why) before after bytes says writes told =
-        subst (λ w. Runs meaning_of honest view failures (failed_as (Unit {0}) w) old new says) (sym writes.0) (write_failed says told)
+        subst (λ w. Runs meaning honest view failures (failed_as (Unit {0}) w) old new says) (sym writes.0) (write_failed says told)
 
   -- a call that found the session failed
-  pub had_failed : (old new : DurableState D M World) (says : List Input → Type 0) → new ≡ old → old.journal.failed ≡ true → says []
-      → Runs meaning_of honest view failures (failed_as (Unit {0}) (fault.Session session.Failed)) old new says
+  pub had_failed : (old new : SessionState D) (says : List Input → Type 0) → new ≡ old → old.journal.failed ≡ true → says []
+      → Runs meaning honest view failures (failed_as (Unit {0}) (fault.Session session.Failed)) old new says
   had_failed old new says same failed told = record {
     accepted = [];
     told = told;
@@ -95,14 +93,14 @@ module _ {D M : Type 0} (meaning_of : M → Meaning World) (honest : D → Type 
   }
 
   -- a refusal
-  module _ (old new : DurableState D M World) (input : Input) (same : new ≡ old) (all : OpensNow old) (only_now : OnlyNow)
+  module _ (old new : SessionState D) (input : Input) (same : new ≡ old) (all : OpensNow old) (only_now : OnlyNow)
       (result : Result (Unit {0}) RunFault) (before after : Option (List ℕ)) (says : List Input → Type 0) (told : says []) where
-    told_so : (why : Refused) → WritesSo result before after (refusal_line why) → Runs meaning_of honest view failures result old new says
+    told_so : (why : Refused) → WritesSo result before after (refusal_line why) → Runs meaning honest view failures result old new says
     told_so why writes =
         written old new [] (ap (λ s. s.journal) same) (ap (λ s. s.machine) same) (ap (λ s. s.waiting) same ∙ sym (append-nil old.waiting)) all only_now result before after (refusal_line why) says writes told
 
-    pub refused_part : (why : Refused) → PostRefused (meaning_of old.machine) old input why → RefusalSo why result before after → Runs meaning_of honest view failures result old new says
-    refused_part Failed is writes = subst (λ r. Runs meaning_of honest view failures r old new says) (sym writes.0) (had_failed old new says same is told)
+    pub refused_part : (why : Refused) → PostRefused (setting_of meaning old.machine) old input why → RefusalSo why result before after → Runs meaning honest view failures result old new says
+    refused_part Failed is writes = subst (λ r. Runs meaning honest view failures r old new says) (sym writes.0) (had_failed old new says same is told)
     refused_part BadInput is writes = told_so BadInput writes
     refused_part ClockBack is writes = told_so ClockBack writes
     refused_part PendingFull is writes = told_so PendingFull writes
@@ -115,7 +113,7 @@ module _ {D M : Type 0} (meaning_of : M → Meaning World) (honest : D → Type 
   -- ---- a commit
 
   -- no commit changes the machine
-  pub same_machine : (old new : DurableState D M World) (m n : ℕ) (why : SessionFault) → CommitFails old new m n why → new.machine ≡ old.machine
+  pub same_machine : (old new : SessionState D) (m n : ℕ) (why : SessionFault) → CommitFails old new m n why → new.machine ≡ old.machine
   same_machine old new m n session.Failed is = ap (λ s. s.machine) is.1
   same_machine old new m n session.Disk is = ap (λ s. s.machine) is.1
   same_machine old new m n session.TooLarge is = absurd is
@@ -126,32 +124,32 @@ module _ {D M : Type 0} (meaning_of : M → Meaning World) (honest : D → Type 
   same_machine old new m n session.SmallerLimits is = absurd is
   same_machine old new m n session.Version is = absurd is
 
-  module _ (old new : DurableState D M World) (machine : new.machine ≡ old.machine) (honesty : honest old.journal.disk ↔ honest new.journal.disk)
+  module _ (old new : SessionState D) (machine : new.machine ≡ old.machine) (honesty : honest old.journal.disk ↔ honest new.journal.disk)
       (moments : old.journal.failed ≡ false → honest old.journal.disk
-      → LeavesOnly (view old.journal.disk) (view new.journal.disk) (OpensToPrefix (meaning_of old.machine) (opens (meaning_of old.machine) (view old.journal.disk).reads) old.waiting)) where
-    leaves : old.journal.failed ≡ false → honest old.journal.disk → LeavesPrefixes (meaning_of old.machine) view old new []
-    leaves working h = subst (λ l. LeavesOnly (view old.journal.disk) (view new.journal.disk) (OpensToPrefix (meaning_of old.machine) (opens (meaning_of old.machine) (view old.journal.disk).reads) l)) (sym (append-nil old.waiting)) (moments working h)
+      → LeavesOnly (view old.journal.disk) (view new.journal.disk) (OpensToPrefix (setting_of meaning old.machine) (opens (setting_of meaning old.machine) (view old.journal.disk).reads) old.waiting)) where
+    leaves : old.journal.failed ≡ false → honest old.journal.disk → LeavesPrefixes (setting_of meaning old.machine) view old new []
+    leaves working h = subst (λ l. LeavesOnly (view old.journal.disk) (view new.journal.disk) (OpensToPrefix (setting_of meaning old.machine) (opens (setting_of meaning old.machine) (view old.journal.disk).reads) l)) (sym (append-nil old.waiting)) (moments working h)
 
     module _ (world : new.world ≡ old.world) (none : new.waiting ≡ []) (works : Works failures old new)
-        (stands : old.journal.failed ≡ false → honest old.journal.disk → Stands (meaning_of old.machine) (view old.journal.disk) old.waiting old.world)
-        (opens_so : honest old.journal.disk → AllOpenTo (meaning_of old.machine) (view new.journal.disk) (Ok new.world))
+        (stands : old.journal.failed ≡ false → honest old.journal.disk → Stands (setting_of meaning old.machine) (view old.journal.disk) old.waiting old.world)
+        (opens_so : honest old.journal.disk → AllOpenTo (setting_of meaning old.machine) (view new.journal.disk) (Ok new.world))
         (stays : (d : D) → honest d → (view d).may_leave (view d).reads) where
-      lives_on : old.journal.failed ≡ false → honest old.journal.disk → Lives (meaning_of old.machine) view old new []
+      lives_on : old.journal.failed ≡ false → honest old.journal.disk → Lives (setting_of meaning old.machine) view old new []
       lives_on working h =
-          lives_committed (meaning_of old.machine) view old new (leaves working h) none world (stands working h)
+          lives_committed (terminal_in (setting_of meaning old.machine)) view old new (leaves working h) none world (stands working h)
           (opens_so h (view new.journal.disk).reads (stays new.journal.disk (honesty.0 h)))
 
-      committed_failed : (says : List Input → Type 0) → says [] → Runs meaning_of honest view failures (failed_as (Unit {0}) fault.Write) old new says
+      committed_failed : (says : List Input → Type 0) → says [] → Runs meaning honest view failures (failed_as (Unit {0}) fault.Write) old new says
       committed_failed says told = record { accepted = []; told = told; machine = machine; fares = works; honesty = honesty; survives = lives_on }
 
       pub committed_written : (result : Result (Unit {0}) RunFault) (before after : Option (List ℕ)) (bytes : List ℕ) (says : List Input → Type 0)
-          → WritesSo result before after bytes → says [] → Runs meaning_of honest view failures result old new says
+          → WritesSo result before after bytes → says [] → Runs meaning honest view failures result old new says
       committed_written (Ok done) before after bytes says writes told = record { accepted = []; told = told; machine = machine; fares = works; honesty = honesty; survives = lives_on }
       committed_written (Err why) before after bytes says writes told =
-          subst (λ w. Runs meaning_of honest view failures (failed_as (Unit {0}) w) old new says) (sym writes.0) (committed_failed says told)
+          subst (λ w. Runs meaning honest view failures (failed_as (Unit {0}) w) old new says) (sym writes.0) (committed_failed says told)
 
     pub commit_failed : (why : SessionFault) (says : List Input → Type 0) → CommitFails old new (failures old.journal.disk) (failures new.journal.disk) why → says [] → OpensNow old → OnlyNow
-        → Runs meaning_of honest view failures (failed_as (Unit {0}) (fault.Session why)) old new says
+        → Runs meaning honest view failures (failed_as (Unit {0}) (fault.Session why)) old new says
     commit_failed session.Failed says is told all only_now = had_failed old new says is.1 is.0 told
     commit_failed session.Disk says is told all only_now = record {
       accepted = [];
@@ -161,7 +159,7 @@ module _ {D M : Type 0} (meaning_of : M → Meaning World) (honest : D → Type 
       honesty = honesty;
       survives = λ working h. record {
         last = old;
-        lives = lives_idle (meaning_of old.machine) view old old refl (all working h) (λ i left. only_now old.journal.disk i h left) [] (sym (append-nil old.waiting));
+        lives = lives_idle (terminal_in (setting_of meaning old.machine)) view old old refl (all working h) (λ i left. only_now old.journal.disk i h left) [] (sym (append-nil old.waiting));
         leaves = leaves working h;
         waits = ap (λ s. s.waiting) is.1;
       };
@@ -174,9 +172,58 @@ module _ {D M : Type 0} (meaning_of : M → Meaning World) (honest : D → Type 
     commit_failed session.SmallerLimits says is told all only_now = absurd is
     commit_failed session.Version says is told all only_now = absurd is
 
+  -- ---- a checkpoint
+
+  -- no checkpoint changes the machine
+  pub made_same : (old new : SessionState D) (m n : ℕ) (why : SessionFault) → CheckpointFails (terminal_in (setting_of meaning old.machine)) old new m n why → new.machine ≡ old.machine
+  made_same old new m n session.Failed is = ap (λ s. s.machine) is.1
+  made_same old new m n session.Disk is = ap (λ s. s.machine) is.1
+  made_same old new m n session.TooLarge is = ap (λ s. s.machine) is.1
+  made_same old new m n session.NoMemory is = ap (λ s. s.machine) is
+  made_same old new m n session.Damaged is = absurd is
+  made_same old new m n session.OtherCommands is = absurd is
+  made_same old new m n session.OtherGrid is = absurd is
+  made_same old new m n session.SmallerLimits is = absurd is
+  made_same old new m n session.Version is = absurd is
+
+  module _ (old new : SessionState D) (honesty : honest old.journal.disk ↔ honest new.journal.disk)
+      (moments : old.journal.failed ≡ false → honest old.journal.disk
+      → LeavesOnly (view old.journal.disk) (view new.journal.disk) (OpensToPrefix (setting_of meaning old.machine) (opens (setting_of meaning old.machine) (view old.journal.disk).reads) old.waiting))
+      (all : OpensNow old) (only_now : OnlyNow) (result : Result (Unit {0}) RunFault) (before after : Option (List ℕ)) (says : List Input → Type 0) (told : says []) where
+    same_told : (line : List ℕ) → new ≡ old → WritesSo result before after line → Runs meaning honest view failures result old new says
+    same_told line same writes =
+        written old new [] (ap (λ s. s.journal) same) (ap (λ s. s.machine) same) (ap (λ s. s.waiting) same ∙ sym (append-nil old.waiting)) all only_now result before after line says writes told
+
+    device_failed : (failures old.journal.disk < failures new.journal.disk) × (new ≡ record old { journal = failed_with old.journal new.journal.disk }) → Runs meaning honest view failures (failed_as (Unit {0}) (fault.Session session.Disk)) old new says
+    device_failed is = record {
+      accepted = [];
+      told = told;
+      machine = ap (λ s. s.machine) is.1;
+      fares = (ap (λ s. s.journal.failed) is.1, is.0);
+      honesty = honesty;
+      survives = λ working h. record {
+        last = old;
+        lives = lives_idle (terminal_in (setting_of meaning old.machine)) view old old refl (all working h) (λ i left. only_now old.journal.disk i h left) [] (sym (append-nil old.waiting));
+        leaves = leaves old new (ap (λ s. s.machine) is.1) honesty moments working h;
+        waits = ap (λ s. s.waiting) is.1;
+      };
+    }
+
+    pub checkpoint_part : (why : SessionFault) → CheckpointFails (terminal_in (setting_of meaning old.machine)) old new (failures old.journal.disk) (failures new.journal.disk) why
+        → CheckpointFaultSo why result before after → Runs meaning honest view failures result old new says
+    checkpoint_part session.TooLarge is so = same_told large_line is.1 so
+    checkpoint_part session.NoMemory is so = same_told memory_line is so
+    checkpoint_part session.Failed is so = subst (λ r. Runs meaning honest view failures r old new says) (sym so.0) (had_failed old new says is.1 is.0 told)
+    checkpoint_part session.Disk is so = subst (λ r. Runs meaning honest view failures r old new says) (sym so.0) (device_failed is)
+    checkpoint_part session.Damaged is so = absurd is
+    checkpoint_part session.OtherCommands is so = absurd is
+    checkpoint_part session.OtherGrid is so = absurd is
+    checkpoint_part session.SmallerLimits is so = absurd is
+    checkpoint_part session.Version is so = absurd is
+
   -- ---- one part behind another
 
-  module _ {A : Type 0} (a : A) (old mid new : DurableState D M World) (says : List Input → Type 0) (first : Runs meaning_of honest view failures (done_as A a) old mid says) where
+  module _ {A : Type 0} (a : A) (old mid new : SessionState D) (says : List Input → Type 0) (first : Runs meaning honest view failures (done_as A a) old mid says) where
     works_then : Works failures mid new → Works failures old new
     works_then next = record { as_before = next.as_before ∙ first.fares.as_before; steady = next.steady ∙ first.fares.steady }
 
@@ -198,33 +245,33 @@ module _ {D M : Type 0} (meaning_of : M → Meaning World) (honest : D → Type 
     fares_then (Err fault.Memory) next = works_then next
     fares_then (Err (fault.Session why)) next = fails_then why next
 
-    module _ (m : Meaning World) (life : Lives m view old mid first.accepted) (second : List Input) where
-      lives_longer : Lives m view mid new second → Lives m view old new (first.accepted ++ second)
-      lives_longer next = lives_then m view old mid first.accepted life new second next
+    module _ (setting : Setting) (life : Lives setting view old mid first.accepted) (second : List Input) where
+      lives_longer : Lives setting view mid new second → Lives setting view old new (first.accepted ++ second)
+      lives_longer next = lives_then (terminal_in setting) view old mid first.accepted life new second next
 
-      dies_then : Dies m view mid new second → Dies m view old new (first.accepted ++ second)
+      dies_then : Dies setting view mid new second → Dies setting view old new (first.accepted ++ second)
       dies_then next = record {
         last = next.last;
-        lives = lives_then m view old mid first.accepted life next.last second next.lives;
+        lives = lives_then (terminal_in setting) view old mid first.accepted life next.last second next.lives;
         leaves = next.leaves;
         waits = next.waits;
       }
 
-      survives_then : {B : Type 0} (result : Result B RunFault) → Survives m view result mid new second → Survives m view result old new (first.accepted ++ second)
+      survives_then : {B : Type 0} (result : Result B RunFault) → Survives setting view result mid new second → Survives setting view result old new (first.accepted ++ second)
       survives_then (Ok b) next = lives_longer next
       survives_then (Err fault.Read) next = lives_longer next
       survives_then (Err fault.Write) next = lives_longer next
       survives_then (Err fault.Memory) next = lives_longer next
       survives_then (Err (fault.Session why)) next = dies_then next
 
-    pub runs_then : {B : Type 0} (result : Result B RunFault) (second third : List Input → Type 0) → Runs meaning_of honest view failures result mid new second
-        → ((y : List Input) → second y → third (first.accepted ++ y)) → Runs meaning_of honest view failures result old new third
+    pub runs_then : {B : Type 0} (result : Result B RunFault) (second third : List Input → Type 0) → Runs meaning honest view failures result mid new second
+        → ((y : List Input) → second y → third (first.accepted ++ y)) → Runs meaning honest view failures result old new third
     runs_then result second third next both = record {
       accepted = first.accepted ++ next.accepted;
       told = both next.accepted next.told;
       machine = next.machine ∙ first.machine;
       fares = fares_then result next.fares;
       honesty = (λ h. next.honesty.0 (first.honesty.0 h), λ h. first.honesty.1 (next.honesty.1 h));
-      survives = λ working h. survives_then (meaning_of old.machine) (first.survives working h) next.accepted result
-          (subst (λ t. Survives (meaning_of t) view result mid new next.accepted) first.machine (next.survives (first.fares.as_before ∙ working) (first.honesty.0 h)));
+      survives = λ working h. survives_then (setting_of meaning old.machine) (first.survives working h) next.accepted result
+          (subst (λ t. Survives (setting_of meaning t) view result mid new next.accepted) first.machine (next.survives (first.fares.as_before ∙ working) (first.honesty.0 h)));
     }

@@ -1,10 +1,9 @@
 -- The answers to lines (this project's own rule): what is written for what is read.
-use Rattle.std.specs.Prelude.{◌≡◌, ℕ, zero, suc, drop, ◌==◌, if◌then◌else◌, List, [], ◌∷◌, ◌++◌, Option, Some, None, Result, Ok, Err, Bool, true, false, codes, decimal}
+use Rattle.std.specs.Prelude.{◌≡◌, ℕ, zero, suc, ◌+◌, ◌^◌, ◌||◌, nat_le, nat_lt, drop, length, ◌==◌, if◌then◌else◌, List, [], ◌∷◌, ◌++◌, Option, Some, None, Result, Ok, Err, Bool, true, false, codes, decimal}
 use Rattle.std.specs.Io.KnownBytes.{Appends}
 use Rattle.tks_state.specs.World.{World}
 use Rattle.tks_screen.specs.Screen.{shown}
-use Rattle.tks_durable.specs.Machine.{Meaning, Stepped, accepts, refuses}
-use Rattle.tks_durable.specs.Durable.{DurableState, gate_behind, is_full_at}
+use Rattle.tks_durable.specs.Durable.{gate_behind, gate_behind_world, is_full_at}
 use Rattle.tks_input.specs.declared.input.Input.{Input}
 use Rattle.tks_input.specs.declared.input.Input.TheVariants.{Turn}
 use Rattle.tks_input.specs.declared.reply.Reply.{Reply}
@@ -13,12 +12,16 @@ use Rattle.tks_input.specs.declared.reply.Refused.TheVariants.{BadInput, ClockBa
 use Rattle.tks_desk.specs.Writing.{flattened, escaped, WritesSo, AppendsFront}
 use Rattle.tks_desk.specs.Requests.{requests_of}
 use Rattle.tks_desk.specs.declared.request.Request.{Request}
-use Rattle.tks_desk.specs.declared.request.Request.TheVariants.{Post, Unfit, Drain, Screen, Faults, Commit, Quit, Bad}
+use Rattle.tks_desk.specs.declared.request.Request.TheVariants.{Post, Unfit, Drain, Screen, Faults, Commit, Checkpoint, Quit, Bad}
 use Rattle.tks_desk.specs.declared.ending.RunEnd.{RunEnd}
 use Rattle.tks_desk.specs.declared.ending.RunEnd.TheVariants as end
 use Rattle.tks_desk.specs.declared.ending.RunFault.{RunFault}
 use Rattle.tks_desk.specs.declared.ending.RunFault.TheVariants as fault
+use Rattle.tks_durable.specs.declared.fault.SessionFault.{SessionFault}
 use Rattle.tks_durable.specs.declared.fault.SessionFault.TheVariants as session
+use Rattle.tks_session.specs.Sessions.{SessionState, Setting, terminal_in}
+use Rattle.tks_session.specs.Terminals.{spelled}
+use Rattle.tks_world.specs.Step.{Stepped, Accepts, Refuses, step}
 
 -- ---- one answer
 
@@ -74,6 +77,10 @@ faults_lines texts = flattened (faults_told texts ∷ codes "end\n" ∷ [])
 abbrev pub committed_line : ℕ → List ℕ
 committed_line count = flattened (codes "committed " ∷ decimal count ∷ codes "\n" ∷ [])
 
+-- so many inputs are acknowledged, by a checkpoint
+abbrev pub checkpointed_line : ℕ → List ℕ
+checkpointed_line count = flattened (codes "checkpointed " ∷ decimal count ∷ codes "\n" ∷ [])
+
 -- so many turns were run
 abbrev pub drained_line : ℕ → List ℕ
 drained_line n = flattened (codes "drained " ∷ decimal n ∷ codes "\n" ∷ [])
@@ -98,6 +105,9 @@ drain_ended (Some why) done = turn_refused why ++ drained_line done
 abbrev pub memory_line : List ℕ
 memory_line = codes "fault memory\n"
 
+abbrev pub large_line : List ℕ
+large_line = codes "fault large\n"
+
 abbrev pub bad_line : List ℕ
 bad_line = codes "bad line\n"
 
@@ -106,15 +116,16 @@ bye = codes "bye\n"
 
 -- ---- the answers to a whole input
 
--- what answers depend on: the world, the inputs that wait for a commit, and where the next gate stands
+-- what answers depend on: the world, the inputs that wait for a commit, where the next gate stands, and how many sides were begun
 pub record Standing : Type 0 where
   pub world : World
   pub waiting : List Input
   pub gate : ℕ
+  pub generation : ℕ
 
 -- that of a session
-abbrev pub standing : {D M : Type 0} → DurableState D M World → Standing
-standing s = record { world = s.world; waiting = s.waiting; gate = s.journal.gate }
+abbrev pub standing : {D : Type 0} → SessionState D → Standing
+standing s = record { world = s.world; waiting = s.waiting; gate = s.journal.gate; generation = s.journal.generation }
 
 -- behind an input that was accepted
 abbrev pub posted : Standing → Input → World → Standing
@@ -151,20 +162,32 @@ is_withheld (Granted ∷ memory) = false
 is_withheld (Withheld ∷ memory) = true
 
 -- the answer to a turn of several, of which so many are done, and what follows behind it: the next of them, or what comes behind them
-abbrev pub turn_told : Bool → Stepped World → ℕ → Standing → (Standing → Talk) → (Standing → Talk) → Talk
+abbrev pub turn_told : Bool → Stepped → ℕ → Standing → (Standing → Talk) → (Standing → Talk) → Talk
 turn_told true stepped done st again next = said (drain_ended (Some NoMemory) done) [] (next st)
-turn_told false (accepts new reply) done st again next = said (reply_line reply) (Turn ∷ []) (again (posted st Turn new))
-turn_told false (refuses why) done st again next = said (drain_ended (Some why) done) [] (next st)
+turn_told false (Accepts new reply) done st again next = said (reply_line reply) (Turn ∷ []) (again (posted st Turn new))
+turn_told false (Refuses why) done st again next = said (drain_ended (Some why) done) [] (next st)
 
-module _ (meaning : Meaning World) where
+module _ (setting : Setting) where
+  -- behind a checkpoint
+  abbrev pub begun : Standing → Standing
+  begun st = record st { waiting = []; gate = gate_behind_world (terminal_in setting) (st.generation + 1) st.world; generation = st.generation + 1 }
+
+  -- the spelling of the world is too long for a side, or as many sides were begun as may be
+  unfoldable pub is_too_large : Standing → Bool
+  is_too_large st = nat_lt (2 ^ 40) (length (spelled st.world)) || nat_le (2 ^ 62) st.generation
+
+  -- the answer to a checkpoint, and what follows behind it
+  abbrev pub checkpoint_told : Standing → (Standing → Talk) → Talk
+  checkpoint_told st next = if is_too_large st then said large_line [] (next st) else said (checkpointed_line st.world.accepted) [] (next (begun st))
+
   -- an input is refused where as many wait as may; else it is stepped
-  abbrev pub tried : Standing → Input → Stepped World
-  tried st input = if is_full_at meaning.pending st.gate st.waiting input then refuses PendingFull else meaning.step st.world input
+  abbrev pub tried : Standing → Input → Stepped
+  tried st input = if is_full_at setting.limits.pending st.gate st.waiting input then Refuses PendingFull else step setting.app st.world input setting.limits
 
   -- the answer to an input, and what follows behind it
-  abbrev pub answered : Input → Stepped World → Standing → (Standing → Talk) → Talk
-  answered input (accepts new reply) st next = said (reply_line reply) (input ∷ []) (next (posted st input new))
-  answered input (refuses why) st next = said (refusal_line why) [] (next st)
+  abbrev pub answered : Input → Stepped → Standing → (Standing → Talk) → Talk
+  answered input (Accepts new reply) st next = said (reply_line reply) (input ∷ []) (next (posted st input new))
+  answered input (Refuses why) st next = said (refusal_line why) [] (next st)
 
   -- the answers to so many turns, up to one that is refused
   abbrev pub drained : ℕ → ℕ → List Memory → Standing → (List Memory → Standing → Talk) → Talk
@@ -173,15 +196,18 @@ module _ (meaning : Meaning World) where
       turn_told (is_withheld memory) (tried st Turn) done st (λ new. drained turns (suc done) (drop 1 memory) new next) (next (drop 1 memory))
 
   -- the answers to requests, up to `quit`. Where memory was withheld from an input it is refused for that,
-  -- and all stays, and where it was withheld from the screen this isn't shown; the list says so of inputs, turns
-  -- and screens in order, and where it ends memory was there
+  -- and all stays, and where it was withheld from the screen this isn't shown, and from a checkpoint none is made; the list says so
+  -- of inputs, turns, screens and checkpoints in order, and where it ends memory was there
   abbrev pub talk : List Request → List Memory → Standing → Talk
   talk [] memory st = record { written = []; accepted = []; left = st; has_quit = false }
   talk (Quit ∷ rest) memory st = said bye [] (over st)
   talk (Bad ∷ rest) memory st = said bad_line [] (talk rest memory st)
   talk (Unfit ∷ rest) memory st = said (refusal_line BadInput) [] (talk rest memory st)
   talk (Drain turns ∷ rest) memory st = drained turns 0 memory st (talk rest)
-  talk (Commit ∷ rest) memory st = said (committed_line (meaning.count st.world)) [] (talk rest memory (stored st))
+  talk (Commit ∷ rest) memory st = said (committed_line st.world.accepted) [] (talk rest memory (stored st))
+  talk (Checkpoint ∷ rest) [] st = checkpoint_told st (talk rest [])
+  talk (Checkpoint ∷ rest) (Granted ∷ memory) st = checkpoint_told st (talk rest memory)
+  talk (Checkpoint ∷ rest) (Withheld ∷ memory) st = said memory_line [] (talk rest memory st)
   talk (Faults ∷ rest) memory st = said (faults_lines st.world.faults) [] (talk rest memory st)
   talk (Screen ∷ rest) [] st = said (screen_lines st.world) [] (talk rest [] st)
   talk (Screen ∷ rest) (Granted ∷ memory) st = said (screen_lines st.world) [] (talk rest memory st)
@@ -208,6 +234,18 @@ RefusalSo TooLarge result before after = WritesSo result before after (refusal_l
 RefusalSo NoMemory result before after = WritesSo result before after (refusal_line NoMemory)
 RefusalSo Quiet result before after = WritesSo result before after (refusal_line Quiet)
 
+-- why no checkpoint was made is answered, but that the session had failed, or failed now, ends the run
+abbrev pub CheckpointFaultSo : SessionFault → Result (Unit {0}) RunFault → Option (List ℕ) → Option (List ℕ) → Type 0
+CheckpointFaultSo session.TooLarge result before after = WritesSo result before after large_line
+CheckpointFaultSo session.NoMemory result before after = WritesSo result before after memory_line
+CheckpointFaultSo session.Disk result before after = (result ≡ Err (fault.Session session.Disk)) × (after ≡ before)
+CheckpointFaultSo session.Failed result before after = (result ≡ Err (fault.Session session.Failed)) × (after ≡ before)
+CheckpointFaultSo session.Damaged result before after = (result ≡ Err (fault.Session session.Damaged)) × (after ≡ before)
+CheckpointFaultSo session.OtherCommands result before after = (result ≡ Err (fault.Session session.OtherCommands)) × (after ≡ before)
+CheckpointFaultSo session.OtherGrid result before after = (result ≡ Err (fault.Session session.OtherGrid)) × (after ≡ before)
+CheckpointFaultSo session.SmallerLimits result before after = (result ≡ Err (fault.Session session.SmallerLimits)) × (after ≡ before)
+CheckpointFaultSo session.Version result before after = (result ≡ Err (fault.Session session.Version)) × (after ≡ before)
+
 -- whether a request ends the run
 abbrev pub end_by : Request → Option RunEnd
 end_by Quit = Some end.Quit
@@ -217,6 +255,7 @@ end_by (Drain turns) = None
 end_by Screen = None
 end_by Faults = None
 end_by Commit = None
+end_by Checkpoint = None
 end_by (Post input) = None
 
 abbrev pub quits : RunEnd → Bool
@@ -230,7 +269,7 @@ WrittenUpTo fault.Read before after answers = Appends before after answers
 WrittenUpTo fault.Memory before after answers = Appends before after answers
 WrittenUpTo (fault.Session why) before after answers = Appends before after answers
 
-module _ (meaning : Meaning World) where
+module _ (setting : Setting) where
   -- the input is answered up to `rest`, which is still to be read: with any answers to the rest from the new
   -- standing, these are the answers to the whole input
   pub record SoFar (input : List ℕ) (left : Option (List ℕ)) (accepted : List Input) (old new : Standing) (before after : Option (List ℕ)) : Type 0 where
@@ -238,19 +277,19 @@ module _ (meaning : Meaning World) where
     pub is : left ≡ Some rest
     pub memory : List Memory
     pub answers : List ℕ
-    pub goes : (later : List Memory) → talk meaning (requests_of input) (memory ++ later) old ≡ said answers accepted (talk meaning (requests_of rest) later new)
+    pub goes : (later : List Memory) → talk setting (requests_of input) (memory ++ later) old ≡ said answers accepted (talk setting (requests_of rest) later new)
     pub written : Appends before after answers
 
   -- a run to its end: for some choice of where memory was withheld, what was written is the answers to the
   -- whole input, up to `quit` where the run ended by it, and these inputs were accepted
   pub record Answers (input : List ℕ) (accepted : List Input) (old new : Standing) (before after : Option (List ℕ)) (by : RunEnd) : Type 0 where
     pub memory : List Memory
-    pub goes : talk meaning (requests_of input) memory old ≡ record { written = answers_of meaning input memory old; accepted = accepted; left = new; has_quit = quits by }
-    pub written : Appends before after (answers_of meaning input memory old)
+    pub goes : talk setting (requests_of input) memory old ≡ record { written = answers_of setting input memory old; accepted = accepted; left = new; has_quit = quits by }
+    pub written : Appends before after (answers_of setting input memory old)
 
   -- what follows the answers of a run that was cut off: those to other requests, or nothing behind `quit`
   abbrev pub resumed : Option (List Request) → List Memory → Standing → Talk
-  resumed (Some rest) memory st = talk meaning rest memory st
+  resumed (Some rest) memory st = talk setting rest memory st
   resumed None memory st = over st
 
   -- a run that was cut off: the answers are those to the requests before the rest, by which these inputs were accepted
@@ -258,7 +297,7 @@ module _ (meaning : Meaning World) where
     pub rest : Option (List Request)
     pub memory : List Memory
     pub answers : List ℕ
-    pub goes : (later : List Memory) → talk meaning (requests_of input) (memory ++ later) old ≡ said answers accepted (resumed rest later new)
+    pub goes : (later : List Memory) → talk setting (requests_of input) (memory ++ later) old ≡ said answers accepted (resumed rest later new)
     pub written : WrittenUpTo why before after answers
 
   -- what a whole run answers
@@ -271,19 +310,20 @@ module _ (meaning : Meaning World) where
   -- what follows a request
   abbrev pub behind : Request → List Request → List Memory → Standing → Talk
   behind Quit rest memory st = over st
-  behind Bad rest memory st = talk meaning rest memory st
-  behind Unfit rest memory st = talk meaning rest memory st
-  behind (Drain turns) rest memory st = talk meaning rest memory st
-  behind Screen rest memory st = talk meaning rest memory st
-  behind Faults rest memory st = talk meaning rest memory st
-  behind Commit rest memory st = talk meaning rest memory st
-  behind (Post input) rest memory st = talk meaning rest memory st
+  behind Bad rest memory st = talk setting rest memory st
+  behind Unfit rest memory st = talk setting rest memory st
+  behind (Drain turns) rest memory st = talk setting rest memory st
+  behind Screen rest memory st = talk setting rest memory st
+  behind Faults rest memory st = talk setting rest memory st
+  behind Commit rest memory st = talk setting rest memory st
+  behind Checkpoint rest memory st = talk setting rest memory st
+  behind (Post input) rest memory st = talk setting rest memory st
 
   -- a request is answered: the text, and how the answers to it and to any requests behind it go on
   pub record Answered (result : Result (Unit {0}) RunFault) (request : Request) (accepted : List Input) (old new : Standing) (before after : Option (List ℕ)) : Type 0 where
     pub memory : List Memory
     pub answer : List ℕ
-    pub goes : (rest : List Request) (later : List Memory) → talk meaning (request ∷ rest) (memory ++ later) old ≡ said answer accepted (behind request rest later new)
+    pub goes : (rest : List Request) (later : List Memory) → talk setting (request ∷ rest) (memory ++ later) old ≡ said answer accepted (behind request rest later new)
     pub writes : WritesSo result before after answer
 
   -- a request isn't answered, since the session failed

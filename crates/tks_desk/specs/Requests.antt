@@ -9,7 +9,7 @@ use Rattle.tks_desk.specs.Words.{is_word, number_in, pointed_in, split_word}
 use Rattle.tks_desk.specs.declared.words.Pointed.{Pointed}
 use Rattle.tks_desk.specs.declared.words.Pointed.TheVariants.{Unread, Beyond, At}
 use Rattle.tks_desk.specs.declared.request.Request.{Request}
-use Rattle.tks_desk.specs.declared.request.Request.TheVariants.{Post, Unfit, Drain, Screen, Faults, Commit, Quit, Bad}
+use Rattle.tks_desk.specs.declared.request.Request.TheVariants.{Post, Unfit, Drain, Screen, Faults, Commit, Checkpoint, Quit, Bad}
 use Rattle.tks_desk.specs.declared.request.Asked.{Asked}
 use Rattle.tks_desk.specs.declared.request.Asked.TheVariants.{Alone, Load}
 
@@ -55,9 +55,10 @@ word_asks line =
     else (if same_text line (codes "screen") then Alone Screen
     else (if same_text line (codes "faults") then Alone Faults
     else (if same_text line (codes "commit") then Alone Commit
+    else (if same_text line (codes "checkpoint") then Alone Checkpoint
     else (if same_text line (codes "turn") then Alone (Post Turn)
     else (if same_text line (codes "cmd") then Alone (Post (Script []))
-    else Alone Bad)))))
+    else Alone Bad))))))
 
 -- a line of a first word and what stands behind the space
 abbrev pub words_ask : List ℕ → List ℕ → Asked

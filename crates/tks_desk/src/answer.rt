@@ -1,15 +1,15 @@
 //! The answers to lines, as text.
 ghost use Rattle.std.specs.Prelude.{◌≡◌, codes, decimal};
 ghost use Rattle.tks_desk.specs.Writing.{WritesSo};
-ghost use Rattle.tks_desk.specs.Answers.{after_space, committed_line, drain_ended, drained_line, fault_told, faults_lines, faults_told, refusal_line, refusal_name, reply_line, row_line, rows_lines, turn_refused, verdict};
+ghost use Rattle.tks_desk.specs.Answers.{after_space, checkpointed_line, committed_line, drain_ended, drained_line, fault_told, faults_lines, faults_told, refusal_line, refusal_name, reply_line, row_line, rows_lines, turn_refused, verdict};
 ghost use Rattle.tks_desk.specs.Draining.{WritesOn};
 
 use crate::ending::RunFault;
 use crate::output::{put, put_escaped, put_last};
 use itoa::Buffer;
 use std::io::Write;
-use tks_input::{Refused, Reply};
 use tks_screen::Grid;
+use tks_session::{Refused, Reply};
 use tks_text::{Seq, Txt};
 
 #[tactic(auto, using(crate::proofs::Writes::flattened_writes))]
@@ -42,6 +42,16 @@ pub fn put_committed<W: Write>(writer: &mut W, count: u64) -> Result<(), RunFaul
     ensures { WritesSo result (W.contents writer.old) (W.contents writer.new) (committed_line count) }
 {
     put(writer, b"committed ")?;
+    put_number(writer, count)?;
+    put_last(writer, b"\n")
+}
+
+#[tactic(auto, using(crate::proofs::Writes::flattened_writes))]
+/// Writes the line of a checkpoint by which so many inputs are acknowledged.
+pub fn put_checkpointed<W: Write>(writer: &mut W, count: u64) -> Result<(), RunFault>
+    ensures { WritesSo result (W.contents writer.old) (W.contents writer.new) (checkpointed_line count) }
+{
+    put(writer, b"checkpointed ")?;
     put_number(writer, count)?;
     put_last(writer, b"\n")
 }

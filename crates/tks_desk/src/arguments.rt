@@ -30,6 +30,7 @@ Lines that it reads, and answers one by one:
   screen         shows the rows of the grid, each between bars
   faults         shows the errors of scripts that ran by themselves
   commit         puts what was accepted on the disk
+  checkpoint     puts the whole state there, so that opening runs nothing before it again
   quit           ends the session, without a commit
 
 For example the lines

@@ -3,7 +3,7 @@ ghost use Rattle.std.specs.Prelude.{◌≡◌};
 
 use std::alloc::AllocError;
 use thiserror::Error;
-use tks_durable::SessionFault;
+use tks_session::SessionFault;
 
 /// How a run ended that met no fault.
 #[derive(Clone, Copy, Debug)]

@@ -6,7 +6,7 @@ ghost use Rattle.tks_desk.specs.Writing.{WritesSo};
 use crate::ending::RunFault;
 use crate::output::{put, put_last};
 use std::io::Write;
-use tks_durable::SessionFault;
+use tks_session::SessionFault;
 
 /// The word for a fault.
 pub fn name_of(fault: &SessionFault) -> &'static str

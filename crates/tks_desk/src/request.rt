@@ -11,7 +11,7 @@ use crate::loading::{Intake, pass_newline, read_bytes};
 use crate::words::{Pointed, is_word, number_in, pointed_in, split_word};
 use std::alloc::{AllocError, Global};
 use std::io::BufRead;
-use tks_input::Input;
+use tks_session::Input;
 use tks_text::{Txt, is_text};
 
 /// What is asked for.
@@ -29,6 +29,8 @@ pub enum Request {
     Faults,
     /// To put what was accepted on the disk.
     Commit,
+    /// To begin the other side of the disk with the world.
+    Checkpoint,
     /// The end.
     Quit,
     /// Nothing that is known.
@@ -159,6 +161,8 @@ fn word_asks(alloc: Global, line: &[u8]) -> Asked
         Asked::Alone(Request::Faults)
     } else if line == b"commit".as_slice() {
         Asked::Alone(Request::Commit)
+    } else if line == b"checkpoint".as_slice() {
+        Asked::Alone(Request::Checkpoint)
     } else if line == b"turn".as_slice() {
         Asked::Alone(Request::Post(Input::Turn))
     } else if line == b"cmd".as_slice() {

@@ -1,13 +1,16 @@
 -- What a crash leaves of a commit.
-use Rattle.std.proofs.Common.{◌≡◌, inl, ⊎_elim, ℕ, List, [], ◌∷◌, Some, Ok, refl, sym, ◌∙◌, ap, arith, append-nil}
+use Rattle.std.proofs.Common.{◌≡◌, inl, ⊎_elim, ℕ, List, [], ◌∷◌, Option, Some, Result, Ok, refl, sym, ◌∙◌, ap, arith, append-nil, false, subst}
 use Rattle.tks_disk.specs.DiskModel.{View, Images}
 use Rattle.tks_disk.specs.declared.disk.Side.{Side}
 use Rattle.tks_input.specs.declared.input.Input.{Input}
 use Rattle.tks_journal.specs.Moments.{LeavesOnly, IsSettled}
-use Rattle.tks_journal.specs.Resting.{AllHold, OneOf}
-use Rattle.tks_journal.specs.Sides.{holds, with_frames, live_of}
+use Rattle.tks_journal.specs.Resting.{AllHold, OneOf, begun_as}
+use Rattle.tks_journal.specs.Sides.{Kept, holds, with_frames, live_of}
+use Rattle.tks_journal.specs.declared.fault.SideFault.{SideFault}
 use Rattle.tks_journal.proofs.Phases.{weaker}
+use Rattle.tks_spelling.specs.declared.header.Header.{Header}
 use Rattle.tks_durable.specs.Crash.{AllOpenTo, HoldsAcknowledged, OpensToCount, OpensToPrefix, Stands}
+use Rattle.tks_durable.specs.Durable.{DurableState}
 use Rattle.tks_durable.specs.Inputs.{inputs_in}
 use Rattle.tks_durable.specs.Machine.{Meaning}
 use Rattle.tks_durable.specs.Opening.{opened, opens, run}
@@ -50,6 +53,40 @@ module _ {W : Type 0} (m : Meaning W) (v new : View) (live : Side × ℕ) (body 
 
   pub written_opens : AllOpenTo m new (Ok world)
   written_opens i left = ap (opened m) (all.images i left) ∙ opens_so
+
+-- a side that was begun opens to the world
+module _ {W : Type 0} (m : Meaning W) (begun : Result (Option Kept) SideFault) (world : W) (opens_so : opened m begun ≡ Ok world) where
+  module _ (v : View) (inputs : List Input) (stands : Stands m v inputs world) where
+    -- what was held, or that side
+    either_side : (i : Images) → OneOf (holds v.reads) begun i → OpensToPrefix m (opens m v.reads) inputs i
+    either_side i = ⊎_elim
+        (λ before. record { prefix = []; others = inputs; parts = refl; leaves = ap (opened m) before })
+        (λ behind. record { prefix = inputs; others = []; parts = sym (append-nil inputs); leaves = ap (opened m) behind ∙ opens_so ∙ sym stands })
+
+    pub begun_moments : (new : View) → LeavesOnly v new (OneOf (holds v.reads) begun) → LeavesOnly v new (OpensToPrefix m (opens m v.reads) inputs)
+    begun_moments new = weaker v new (OneOf (holds v.reads) begun) (OpensToPrefix m (opens m v.reads) inputs) either_side
+
+  module _ (new : View) (all : AllHold new begun) where
+    pub begun_stands : Stands m new [] world
+    begun_stands = ap (opened m) all.reads ∙ opens_so
+
+    pub begun_opens : AllOpenTo m new (Ok world)
+    begun_opens i left = ap (opened m) (all.images i left) ∙ opens_so
+
+-- what begins a side opens to the same where its bytes are held by another
+pub held_opens : {W : Type 0} (m : Meaning W) (live : Side) (header : Header) (world : W) (held bytes : List ℕ) → held ≡ bytes → opened m (begun_as live header bytes) ≡ Ok world
+    → opened m (begun_as live header held) ≡ Ok world
+held_opens m live header world held bytes same opens_so = subst (λ l. opened m (begun_as live header l) ≡ Ok world) (sym same) opens_so
+
+-- a crash within a call that began the other side with the state, or failed in it
+pub begun_within : {D M W : Type 0} (meaning : M → Meaning W) (honest : D → Type 0) (view : D → View) (begun : Result (Option Kept) SideFault) (new : View) {s t : DurableState D M W} → s ≡ t
+    → opened (meaning s.machine) begun ≡ Ok s.world
+    → (s.journal.failed ≡ false → honest s.journal.disk → Stands (meaning s.machine) (view s.journal.disk) s.waiting s.world)
+    → (honest s.journal.disk → LeavesOnly (view s.journal.disk) new (OneOf (holds (view s.journal.disk).reads) begun))
+    → t.journal.failed ≡ false → honest t.journal.disk → LeavesOnly (view t.journal.disk) new (OpensToPrefix (meaning t.machine) (opens (meaning t.machine) (view t.journal.disk).reads) t.waiting)
+begun_within meaning honest view begun new {s = s} is opens_so stands any =
+    subst (λ t. t.journal.failed ≡ false → honest t.journal.disk → LeavesOnly (view t.journal.disk) new (OpensToPrefix (meaning t.machine) (opens (meaning t.machine) (view t.journal.disk).reads) t.waiting)) is
+    (λ works h. begun_moments (meaning s.machine) begun s.world opens_so (view s.journal.disk) s.waiting (stands works h) new (any h))
 
 -- what is opened after a crash, behind what was acknowledged
 pub keeps_acknowledged : {W : Type 0} (m : Meaning W) (reads : Images) (acknowledged : ℕ) (waiting : List Input) (images : Images) (world : W)

@@ -7,3 +7,4 @@ mod Starts
 pub mod Crashes
 pub mod Lives
 pub mod Drains
+pub mod Checkpoints

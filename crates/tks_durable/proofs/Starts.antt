@@ -1,10 +1,10 @@
--- A first side opens to the state that it was begun with.
+-- A side that is begun opens to the state that it was begun with.
 use Rattle.std.proofs.Common.{◌≡◌, ℕ, ◌==◌, ◌&&◌, true, false, List, [], ◌∷◌, Some, Ok, Err, refl, sym, ◌∙◌, ap, cond, arith}
 use Rattle.std.proofs.lemmas.Bool.Decides.{nat_tests}
 use Rattle.tks_text.specs.Size.{Extent}
 use Rattle.tks_text.specs.Text.{same_text}
 use Rattle.tks_spelling.specs.declared.header.Header.{Header}
-use Rattle.tks_disk.specs.declared.disk.Side.TheVariants.{A}
+use Rattle.tks_disk.specs.declared.disk.Side.{Side}
 use Rattle.tks_journal.specs.Resting.{begun_as}
 use Rattle.tks_durable.specs.Machine.{Meaning}
 use Rattle.tks_durable.specs.Opening.{admitted, begun, opened, restored, same_grid, same_names}
@@ -31,8 +31,8 @@ module _ {W : Type 0} (m : Meaning W) (header : Header) (world : W) where
       ∙ ap (λ b. cond b (cond (m.within world) (Ok world) (Err SmallerLimits)) (Err OtherCommands)) (ap (λ x. same_names x m.names) names ∙ names_are m.names)
       ∙ ap (λ b. cond b (Ok world) (Err SmallerLimits)) within
 
-  pub first_opens : (bytes : List ℕ) → header.grid ≡ m.grid → header.names ≡ m.names → m.within world ≡ true → world ≡ m.first → m.stored header bytes ≡ Some m.first → opened m (begun_as A header bytes) ≡ Ok world
-  first_opens bytes grid names within is stored = ap (λ o. restored m header o []) (stored ∙ ap Some (sym is)) ∙ admits grid names within
+  pub begun_opens : (live : Side) (bytes : List ℕ) → header.grid ≡ m.grid → header.names ≡ m.names → m.within world ≡ true → m.stored header bytes ≡ Some world → opened m (begun_as live header bytes) ≡ Ok world
+  begun_opens live bytes grid names within stored = ap (λ o. restored m header o []) stored ∙ admits grid names within
 
 pub begins : {W : Type 0} (m : Meaning W) (world : W) → world ≡ m.first → m.within world ≡ true → begun m ≡ Ok world
 begins m world is within = ap (λ b. cond b (Ok m.first) (Err SmallerLimits)) (ap m.within (sym is) ∙ within) ∙ ap Ok (sym is)

@@ -1,10 +1,13 @@
 -- What contracts see of a durable machine.
-use Rattle.std.specs.Prelude.{◌≡◌, ◌⊎◌, ◌<◌, ℕ, ◌+◌, Bool, true, not, ◌||◌, nat_le, List, [], ◌∷◌, length, Option, Some, None}
+use Rattle.std.specs.Prelude.{◌≡◌, ◌⊎◌, ◌<◌, ◌≤◌, ◌^◌, ℕ, ◌+◌, Bool, true, not, ◌||◌, nat_le, List, [], ◌∷◌, length, Option, Some, None}
 use Rattle.std.specs.List.{AllByRecursion}
 use Rattle.tks_input.specs.declared.input.Input.{Input}
+use Rattle.tks_spelling.specs.Header as headers
 use Rattle.tks_spelling.specs.Input as codec
 use Rattle.tks_journal.specs.Journal.{JournalState, room_at, room_for}
+use Rattle.tks_journal.specs.Sides.{other_of}
 use Rattle.tks_durable.specs.Inputs.{spelled}
+use Rattle.tks_durable.specs.Machine.{Meaning, header_of}
 use Rattle.tks_durable.specs.declared.fault.SessionFault.{SessionFault}
 use Rattle.tks_durable.specs.declared.fault.SessionFault.TheVariants as fault
 
@@ -53,6 +56,37 @@ HasRoom journal waiting size = (waiting ≡ 0) ⊎ (room_for journal size ≡ tr
 -- the journal behind a call that failed
 abbrev pub failed_with : {D : Type 0} → JournalState D → D → JournalState D
 failed_with journal disk = record journal { disk = disk; failed = true }
+
+-- where the gate behind a state stands on a side that begins with it: behind a gate, a format and a header
+abbrev pub gate_behind_world : {W : Type 0} → Meaning W → ℕ → W → ℕ
+gate_behind_world m generation world = 2 + length (headers.header.write (header_of m generation world)) + length (m.bytes world)
+
+-- the journal behind a checkpoint of this state: the other side is live, in the next generation, and no frame is on it
+abbrev pub checkpointed : {D W : Type 0} → Meaning W → JournalState D → D → W → JournalState D
+checkpointed m journal disk world = record {
+  disk = disk;
+  live = other_of journal.live;
+  generation = journal.generation + 1;
+  gate = gate_behind_world m (journal.generation + 1) world;
+  failed = journal.failed;
+}
+
+-- what can't be put on a side: a state whose spelling is too long, or one generation more than there are
+abbrev pub IsTooLarge : {D M W : Type 0} → Meaning W → DurableState D M W → Type 0
+IsTooLarge m s = (2 ^ 40 < length (m.bytes s.world)) ⊎ (2 ^ 62 ≤ s.journal.generation)
+
+-- An earlier call failed, memory was refused or the state can't be put on a side, and nothing has changed; or the device failed
+-- in this call, and the inputs wait still.
+abbrev pub CheckpointFails : {D M W : Type 0} → Meaning W → DurableState D M W → DurableState D M W → ℕ → ℕ → SessionFault → Type 0
+CheckpointFails m old new before after fault.Failed = (old.journal.failed ≡ true) × (new ≡ old)
+CheckpointFails m old new before after fault.TooLarge = IsTooLarge m old × (new ≡ old)
+CheckpointFails m old new before after fault.NoMemory = new ≡ old
+CheckpointFails m old new before after fault.Disk = (before < after) × (new ≡ record old { journal = failed_with old.journal new.journal.disk })
+CheckpointFails m old new before after fault.Damaged = ⊥
+CheckpointFails m old new before after fault.OtherCommands = ⊥
+CheckpointFails m old new before after fault.OtherGrid = ⊥
+CheckpointFails m old new before after fault.SmallerLimits = ⊥
+CheckpointFails m old new before after fault.Version = ⊥
 
 -- An earlier call failed, and nothing has changed; or the device failed in this one, and the inputs wait still.
 abbrev pub CommitFails : {D M W : Type 0} → DurableState D M W → DurableState D M W → ℕ → ℕ → SessionFault → Type 0

@@ -1,5 +1,5 @@
 -- What is made durable, states and what inputs do to them, as functions of values (this project's own rule).
-use Rattle.std.specs.Prelude.{ℕ, Bool, List, Option}
+use Rattle.std.specs.Prelude.{ℕ, Bool, List, length, Option}
 use Rattle.tks_text.specs.Size.{Extent}
 use Rattle.tks_spelling.specs.declared.header.Header.{Header}
 use Rattle.tks_input.specs.declared.input.Input.{Input}
@@ -16,12 +16,14 @@ pub record Meaning (W : Type 0) : Type 0 where
   pub step : W → Input → Stepped W
   -- the state before any input
   pub first : W
-  -- the bytes that spell it
-  pub first_bytes : List ℕ
+  -- the bytes that spell a state
+  pub bytes : W → List ℕ
   -- the state that these bytes spell behind this header, if they spell one
   pub stored : Header → List ℕ → Option W
   -- does it keep within the limits?
   pub within : W → Bool
+  -- is it one that this machine may come to: of its grid and names, within the limits?
+  pub own : W → Bool
   -- how many inputs it accepted
   pub count : W → ℕ
   -- the grid it is made for, and the application commands' names
@@ -29,3 +31,7 @@ pub record Meaning (W : Type 0) : Type 0 where
   pub names : List (List ℕ)
   -- how many inputs may wait for a commit
   pub pending : ℕ
+
+-- the header of a side of this generation, which begins with this state
+abbrev pub header_of : {W : Type 0} → Meaning W → ℕ → W → Header
+header_of m generation world = record { generation = generation; grid = m.grid; names = m.names; world_length = length (m.bytes world) }

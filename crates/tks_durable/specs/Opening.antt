@@ -1,5 +1,5 @@
 -- What the bytes of two sides open to. The rules, and the order in which they are asked, are this project's own.
-use Rattle.std.specs.Prelude.{ℕ, Bool, List, [], ◌∷◌, ◌==◌, ◌&&◌, if◌then◌else◌, Option, Some, None, Result, Ok, Err}
+use Rattle.std.specs.Prelude.{◌≡◌, ℕ, Bool, true, IfOk, List, [], ◌∷◌, ◌==◌, ◌&&◌, if◌then◌else◌, Option, Some, None, Result, Ok, Err}
 use Rattle.std.specs.Cmp.Lexicographic.{pointwise}
 use Rattle.tks_text.specs.Size.{Extent}
 use Rattle.tks_text.specs.Text.{same_text}
@@ -62,6 +62,10 @@ same_names = pointwise same_text
 
 -- the states are of type W, and this is their meaning
 module _ {W : Type 0} (m : Meaning W) where
+  -- a state that is the machine's own, or a fault
+  abbrev pub IsOwn : Result W SessionFault → Type 0
+  IsOwn result = IfOk result (λ world. m.own world ≡ true)
+
   -- an input more; a fault stays
   abbrev pub then_input : Result W SessionFault → Input → Result W SessionFault
   then_input (Err fault) input = Err fault

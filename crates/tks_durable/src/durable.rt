@@ -1,10 +1,11 @@
 //! A machine on a disk, between its calls.
-ghost use Rattle.std.specs.Prelude.{◌≡◌, ◌↔◌, ◌<◌, ◌++◌, ◌∷◌, [], ℕ, true, false, OnOk, OnErr, IfOk, IfErr, Ok, Err, length};
+ghost use Rattle.std.specs.Prelude.{◌≡◌, ◌↔◌, ◌<◌, ◌≤◌, ◌++◌, ◌+◌, ◌^◌, ◌∷◌, [], ℕ, true, false, OnOk, OnErr, IfOk, IfErr, Ok, Err, length};
 ghost use Rattle.tks_journal.specs.Journal.{room_for};
 ghost use Rattle.tks_durable.specs.Machine.{accepts};
 ghost use Rattle.tks_durable.specs.Refusing.{RoomRefused};
 
 use crate::fault::SessionFault;
+use crate::first::new_side;
 use crate::machine::Machine;
 use std::alloc::Global;
 use std::marker::Model;
@@ -12,6 +13,9 @@ use tks_disk::Disk;
 use tks_input::{Input, Refused, Reply};
 use tks_journal::Journal;
 use tks_spelling::write_input;
+
+/// The last generation of a side.
+const LAST_GENERATION: u64 = 1 << 62;
 
 /// A machine on a disk: each input that is accepted changes the machine's state, and a commit puts all of them on the disk.
 pub struct Durable<D: Disk, M: Machine> {
@@ -41,7 +45,7 @@ impl<D: Disk + Drop, M: Machine + Drop> Drop for Durable<D, M> {
 }
 
 impl<D: Disk, M: Machine> Model for Durable<D, M> {
-    ghost use Rattle.std.specs.Prelude.{◌≡◌, false, Ok, Some, length};
+    ghost use Rattle.std.specs.Prelude.{◌≡◌, true, false, Ok, Some, length};
     ghost use Rattle.tks_durable.specs.Inputs.{inputs_in};
     ghost use Rattle.tks_durable.specs.Durable.{DurableState, HasRoom, IsPending, or_none};
     ghost use Rattle.tks_durable.specs.Crash.{OpensToCount, Stands};
@@ -53,14 +57,18 @@ impl<D: Disk, M: Machine> Model for Durable<D, M> {
     ghost invariant = { λ s. IsPending s.body.items s.waiting
         × HasRoom s.journal s.waiting (length s.body.items)
         × (s.journal.failed ≡ false → D.honest s.journal.disk → Stands (M.meaning s.machine) (D.view s.journal.disk) (or_none (inputs_in s.body.items)) s.world)
-        × (s.journal.failed ≡ false → D.honest s.journal.disk → OpensToCount (M.meaning s.machine) (D.view s.journal.disk).reads s.acknowledged) };
+        × (s.journal.failed ≡ false → D.honest s.journal.disk → OpensToCount (M.meaning s.machine) (D.view s.journal.disk).reads s.acknowledged)
+        × ((M.meaning s.machine).own s.world ≡ true) };
 }
 
 impl<D: Disk, M: Machine> Durable<D, M> {
     ghost use Rattle.tks_durable.specs.Crash.{AllOpenTo, OpensToCount, OpensToPrefix, Stands};
     ghost use Rattle.tks_durable.specs.Opening.{opens};
     ghost use Rattle.tks_durable.specs.Refusing.{PostRefused};
-    ghost use Rattle.tks_durable.specs.Durable.{CommitFails, DurableState, committed, is_full};
+    ghost use Rattle.tks_durable.specs.Durable.{CheckpointFails, CommitFails, DurableState, checkpointed, committed, is_full};
+    ghost use Rattle.tks_durable.specs.Machine.{header_of};
+    ghost use Rattle.tks_journal.specs.Resting.{AllHold, begun_as};
+    ghost use Rattle.tks_journal.specs.Sides.{other_of};
     ghost use Rattle.tks_journal.specs.Moments.{LeavesOnly};
 
     /// A machine over a journal that stands for this state.
@@ -72,6 +80,7 @@ impl<D: Disk, M: Machine> Durable<D, M> {
     ) -> Durable<D, M>
         requires working { journal.failed ≡ false }
         requires stands { D.honest journal.disk → opens (M.meaning machine) (D.view journal.disk).reads ≡ Ok world }
+        requires own { (M.meaning machine).own world ≡ true }
         ensures { result ≡ record { journal = journal; machine = machine; world = world; waiting = []; acknowledged = (M.meaning machine).count world } }
     {
         let acknowledged = machine.count(&world);
@@ -233,6 +242,52 @@ impl<D: Disk, M: Machine> Durable<D, M> {
             Err(_) => Err(SessionFault::Disk),
         }
     }
+
+    /// Begins the other side with the state, which is live then, with no frame behind it; and answers how many inputs are
+    /// acknowledged by then, all of them. It takes its memory before its first call of the disk.
+    pub fn checkpoint(&mut self) -> Result<u64, SessionFault>
+        ensures ok { IfOk result (λ count. (self.old.journal.failed ≡ false) × (count ≡ (M.meaning self.old.machine).count self.old.world)
+            × (self.new ≡ record self.old { journal = checkpointed (M.meaning self.old.machine) self.old.journal self.new.journal.disk self.old.world; waiting = []; acknowledged = count })) }
+
+        // At Ok, what is read, and all that a crash may leave, holds the state alone, on the other side.
+        ensures stored { OnOk result (D.honest self.old.journal.disk → AllHold (D.view self.new.journal.disk)
+            (begun_as (other_of self.old.journal.live) (header_of (M.meaning self.old.machine) (self.old.journal.generation + 1) self.old.world) ((M.meaning self.old.machine).bytes self.old.world))) }
+
+        // So all of it opens to the state.
+        ensures acknowledged { OnOk result (D.honest self.old.journal.disk → AllOpenTo (M.meaning self.old.machine) (D.view self.new.journal.disk) (Ok self.new.world)) }
+
+        // A crash at any moment of the call leaves what opens to what a prefix of the inputs leaves.
+        ensures any_moment { self.old.journal.failed ≡ false → D.honest self.old.journal.disk
+            → LeavesOnly (D.view self.old.journal.disk) (D.view self.new.journal.disk)
+            (OpensToPrefix (M.meaning self.old.machine) (opens (M.meaning self.old.machine) (D.view self.old.journal.disk).reads) self.old.waiting) }
+
+        // It is refused as too large just where the spelling of the state, or the number of the side, is.
+        ensures err { IfErr result (CheckpointFails (M.meaning self.old.machine) self.old self.new (D.failures self.old.journal.disk) (D.failures self.new.journal.disk)) }
+        ensures fits { OnOk result ((length ((M.meaning self.old.machine).bytes self.old.world) ≤ 2 ^ 40) × (self.old.journal.generation < 2 ^ 62)) }
+        ensures steady { OnOk result (D.failures self.new.journal.disk ≡ D.failures self.old.journal.disk) }
+        ensures honesty { D.honest self.old.journal.disk ↔ D.honest self.new.journal.disk }
+    {
+        if self.journal.has_failed() {
+            return Err(SessionFault::Failed);
+        }
+        self.journal.stands();
+        let generation = self.journal.generation();
+        if generation >= LAST_GENERATION {
+            return Err(SessionFault::TooLarge);
+        }
+        match new_side(self.alloc, &self.machine, &self.world, generation + 1) {
+            Ok(side) => match self.journal.checkpoint(&side.header, &side.head, &side.bytes) {
+                Ok(()) => {
+                    self.body.clear();
+                    self.waiting = 0;
+                    self.acknowledged = self.machine.count(&self.world);
+                    Ok(self.acknowledged)
+                }
+                Err(_) => Err(SessionFault::Disk),
+            },
+            Err(fault) => Err(fault),
+        }
+    }
 }
 
 // Steps an input, where a frame of so many bytes finds room.
@@ -245,6 +300,7 @@ fn step_in_room<D: Disk, M: Machine>(
     input: &Input,
 ) -> Result<Reply, Refused>
     ensures accepted { IfOk result (λ reply. (room_for journal.now size ≡ true) × ((M.meaning machine.now).step world.old input.now ≡ accepts world.new reply)) }
+    ensures own { OnOk result ((M.meaning machine.now).own world.old ≡ true → (M.meaning machine.now).own world.new ≡ true) }
     ensures refused { IfErr result (λ why. RoomRefused why (room_for journal.now size) ((M.meaning machine.now).step world.old input.now)) }
     ensures unchanged { OnErr result (world.new ≡ world.old) }
 {

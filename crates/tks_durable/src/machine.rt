@@ -1,9 +1,9 @@
 //! What is made durable: a machine.
-ghost use Rattle.std.specs.Prelude.{◌≡◌, ◌<◌, ◌+◌, ◌^◌, List, ℕ, length, IfOk, IfErr, OnOk, OnErr, Some};
+ghost use Rattle.std.specs.Prelude.{◌≡◌, ◌<◌, ◌+◌, ◌^◌, List, ℕ, length, true, IfOk, IfErr, IfSome, OnOk, OnErr, Some};
 ghost use Rattle.tks_spelling.specs.Header.{AreNames, header};
 ghost use Rattle.tks_spelling.specs.declared.header.Header.{Header};
 ghost use Rattle.tks_durable.specs.Machine.{Meaning, accepts};
-ghost use Rattle.tks_durable.specs.Opening.{same_names};
+ghost use Rattle.tks_durable.specs.Opening.{same_grid, same_names};
 ghost use Rattle.tks_durable.specs.Refusing.{RefusedAs};
 
 use std::alloc::{AllocError, Global};
@@ -23,12 +23,15 @@ pub trait Machine {
     fn step(&self, alloc: Global, world: &mut Self::World, input: &Input) -> Result<Reply, Refused>
         ensures accepted { IfOk result (λ reply. (meaning self.now).step world.old input.now ≡ accepts world.new reply) }
         ensures counted { OnOk result ((meaning self.now).count world.new ≡ (meaning self.now).count world.old + 1) }
+        ensures own { OnOk result ((meaning self.now).own world.old ≡ true → (meaning self.now).own world.new ≡ true) }
         ensures refused { IfErr result (λ why. RefusedAs why ((meaning self.now).step world.old input.now)) }
         ensures unchanged { OnErr result (world.new ≡ world.old) };
 
-    /// The state before any input.
+    /// The state before any input. Its spelling is shorter than 2^40 bytes.
     fn first(&self, alloc: Global) -> Result<Self::World, AllocError>
-        ensures { IfOk result (λ world. world ≡ (meaning self.now).first) };
+        ensures value { IfOk result (λ world. world ≡ (meaning self.now).first) }
+        ensures own { IfOk result (λ world. (meaning self.now).within world ≡ true → (meaning self.now).own world ≡ true) }
+        ensures short { IfOk result (λ world. length ((meaning self.now).bytes world) < 2 ^ 40) };
 
     /// The state that these bytes spell behind this header; none where they spell none.
     fn stored(
@@ -37,14 +40,15 @@ pub trait Machine {
         header: &Header,
         bytes: &[u8],
     ) -> Result<Option<Self::World>, AllocError>
-        ensures { IfOk result (λ found. found ≡ (meaning self.now).stored header.now bytes.now) };
+        ensures value { IfOk result (λ found. found ≡ (meaning self.now).stored header.now bytes.now) }
+        ensures own { IfOk result (λ found. IfSome found (λ world. same_grid header.now.grid (meaning self.now).grid ≡ true
+            → same_names header.now.names (meaning self.now).names ≡ true → (meaning self.now).within world ≡ true → (meaning self.now).own world ≡ true)) };
 
-    /// The bytes that spell the state before any input, behind any header of this machine; fewer than 2^40.
-    fn first_bytes(&self, alloc: Global) -> Result<Vec<u8>, AllocError>
-        ensures value { IfOk result (λ bytes. bytes.items ≡ (meaning self.now).first_bytes) }
-        ensures stored { IfOk result (λ bytes. (h : Header) → h.grid ≡ (meaning self.now).grid → h.names ≡ (meaning self.now).names
-            → (meaning self.now).stored h bytes.items ≡ Some (meaning self.now).first) }
-        ensures short { IfOk result (λ bytes. length bytes.items < 2 ^ 40) };
+    /// The bytes that spell a state. One that is the machine's own is read back from them behind any header of this machine.
+    fn bytes(&self, alloc: Global, world: &Self::World) -> Result<Vec<u8>, AllocError>
+        ensures value { IfOk result (λ bytes. bytes.items ≡ (meaning self.now).bytes world.now) }
+        ensures stored { IfOk result (λ bytes. (meaning self.now).own world.now ≡ true
+            → (h : Header) → h.grid ≡ (meaning self.now).grid → h.names ≡ (meaning self.now).names → (meaning self.now).stored h bytes.items ≡ Some world.now) };
 
     /// The header of a side of this generation, behind which a world of so many bytes stands. It has a spelling, of fewer than
     /// 2^40 bytes.
@@ -59,9 +63,10 @@ pub trait Machine {
         ensures legal { IfOk result (λ h. header.Legal h) }
         ensures short { IfOk result (λ h. length (header.write h) < 2 ^ 40) };
 
-    /// Whether a state keeps within the limits.
+    /// Whether a state keeps within the limits, as each of the machine's own does.
     fn is_within(&self, world: &Self::World) -> bool
-        ensures { result ≡ (meaning self.now).within world.now };
+        ensures value { result ≡ (meaning self.now).within world.now }
+        ensures own { (meaning self.now).own world.now ≡ true → (meaning self.now).within world.now ≡ true };
 
     /// How many inputs a state accepted.
     fn count(&self, world: &Self::World) -> u64

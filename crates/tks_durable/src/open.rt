@@ -55,8 +55,8 @@ fn begin<D: Disk, M: Machine>(
 {
     blank.is_blank();
     match first_side(alloc, &machine) {
-        Ok(first) => match blank.start(&first.header, &first.head, &first.bytes) {
-            Ok(journal) => Ok(Durable::over(alloc, journal, machine, first.world)),
+        Ok((world, side)) => match blank.start(&side.header, &side.head, &side.bytes) {
+            Ok(journal) => Ok(Durable::over(alloc, journal, machine, world)),
             Err(disk) => Err(OpenFault {
                 disk,
                 machine,

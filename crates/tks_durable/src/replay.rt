@@ -2,7 +2,7 @@
 
 ghost use Rattle.std.specs.Prelude.{◌≡◌, ◌≤◌, ◌<◌, ℕ, IfOk, IfSome, Ok, None, length, drop};
 ghost use Rattle.tks_durable.specs.Opening as opening;
-ghost use Rattle.tks_durable.specs.Opening.{then_input, with_inputs};
+ghost use Rattle.tks_durable.specs.Opening.{IsOwn, then_input, with_inputs};
 ghost use Rattle.tks_durable.specs.Inputs.{inputs_in, with_input};
 
 use crate::fault::SessionFault;
@@ -32,7 +32,8 @@ fn step_again<M: Machine>(
     so_far: Result<M::World, SessionFault>,
     input: Input,
 ) -> Result<Result<M::World, SessionFault>, AllocError>
-    ensures { IfOk result (λ next. next ≡ then_input (M.meaning machine.now) so_far input) }
+    ensures value { IfOk result (λ next. next ≡ then_input (M.meaning machine.now) so_far input) }
+    ensures own { IsOwn (M.meaning machine.now) so_far → IfOk result (IsOwn (M.meaning machine.now)) }
 {
     let Ok(mut world) = so_far else {
         return Ok(so_far);
@@ -65,7 +66,8 @@ pub fn replay<M: Machine>(
     start: Result<M::World, SessionFault>,
     body: &[u8],
 ) -> Result<Result<M::World, SessionFault>, AllocError>
-    ensures { IfOk result (λ end. end ≡ with_inputs (M.meaning machine.now) start (inputs_in body.now)) }
+    ensures value { IfOk result (λ end. end ≡ with_inputs (M.meaning machine.now) start (inputs_in body.now)) }
+    ensures own { IsOwn (M.meaning machine.now) start → IfOk result (IsOwn (M.meaning machine.now)) }
 {
     let mut so_far = start;
     let mut rest = body;

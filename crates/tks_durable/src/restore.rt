@@ -6,7 +6,7 @@ ghost use Rattle.tks_journal.specs.Loading.{behind};
 ghost use Rattle.tks_journal.specs.Opening.{NoSideFault, Tells, Unwritten};
 ghost use Rattle.tks_journal.specs.Sides.{frames, kept};
 ghost use Rattle.tks_durable.specs.Crash.{OfBytes};
-ghost use Rattle.tks_durable.specs.Opening.{admitted, opened, with_bodies};
+ghost use Rattle.tks_durable.specs.Opening.{IsOwn, admitted, opened, same_grid, same_names, with_bodies};
 
 use crate::fault::SessionFault;
 use crate::machine::Machine;
@@ -22,7 +22,10 @@ fn admit<M: Machine>(
     header: &Header,
     world: M::World,
 ) -> Result<M::World, SessionFault>
+    requires own { same_grid header.now.grid (M.meaning machine.now).grid ≡ true → same_names header.now.names (M.meaning machine.now).names ≡ true
+        → (M.meaning machine.now).within world ≡ true → (M.meaning machine.now).own world ≡ true }
     ensures value { result ≡ admitted (M.meaning machine.now) header.now world }
+    ensures own { IsOwn (M.meaning machine.now) result }
     ensures bytes { IfErr result OfBytes }
 {
     let grid = machine.grid();
@@ -51,6 +54,7 @@ fn replay_next<D: Disk, M: Machine>(
         ≡ with_bodies (M.meaning machine.now) so_far (frames (behind left.old.live left.old.at (D.view left.old.disk).reads)))) }
     ensures done { IfOk result (λ x. x.1 ≡ true → IfOk x.0 (λ _. left.new.ended ≡ true)
         × (D.honest left.old.disk → x.0 ≡ with_bodies (M.meaning machine.now) so_far (frames (behind left.old.live left.old.at (D.view left.old.disk).reads)))) }
+    ensures own { IsOwn (M.meaning machine.now) so_far → IfOk result (λ x. IsOwn (M.meaning machine.now) x.0) }
     ensures bytes { IfErr so_far OfBytes → IfOk result (λ x. IfErr x.0 OfBytes) }
     ensures side { (left.new.live ≡ left.old.live) × (left.new.generation ≡ left.old.generation) × (left.new.len ≡ left.old.len) }
     ensures ours { NoSideFault result }
@@ -79,6 +83,7 @@ fn replay_all<D: Disk, M: Machine>(
 ) -> Result<Result<M::World, SessionFault>, OpenError>
     ensures ran { IfOk result (λ end. D.honest left.old.disk → end ≡ with_bodies (M.meaning machine.now) start (frames (behind left.old.live left.old.at (D.view left.old.disk).reads))) }
     ensures ended { IfOk result (λ end. IfOk end (λ _. left.new.ended ≡ true)) }
+    ensures own { IsOwn (M.meaning machine.now) start → IfOk result (IsOwn (M.meaning machine.now)) }
     ensures bytes { IfErr start OfBytes → IfOk result (λ end. IfErr end OfBytes) }
     ensures side { (left.new.live ≡ left.old.live) × (left.new.generation ≡ left.old.generation) }
     ensures ours { NoSideFault result }
@@ -108,6 +113,7 @@ pub fn replay_stored<D: Disk, M: Machine>(
     ensures ran { IfOk result (λ end. D.honest left.old.disk → (live : Side)
         → opened (M.meaning machine.now) (kept live header.now bytes.now (frames (behind left.old.live left.old.at (D.view left.old.disk).reads))) ≡ end) }
     ensures ended { IfOk result (λ end. IfOk end (λ _. left.new.ended ≡ true)) }
+    ensures own { IfOk result (IsOwn (M.meaning machine.now)) }
     ensures bytes { IfOk result (λ end. IfErr end OfBytes) }
     ensures side { (left.new.live ≡ left.old.live) × (left.new.generation ≡ left.old.generation) }
     ensures ours { NoSideFault result }

@@ -41,7 +41,7 @@ join true b h k = k
 join false b h k = h
 
 -- what one of two tests tells of the other
-abbrev Tells : Bool → Bool → Type 0
+abbrev pub Tells : Bool → Bool → Type 0
 Tells a b = a ≡ true → b ≡ true
 
 both : {a b c d : Bool} → Tells a b → Tells c d → Tells (a && c) (b && d)
@@ -83,8 +83,11 @@ module _ (a b : Limits) (w : Wider a b) where
   content (widget.Listbox l) = listbox l
   content (widget.Text t) = lines t
 
+  pub widget_wider : (v : Widget) → Tells (kinds.widget_fits a v) (kinds.widget_fits b v)
+  widget_wider v = both (texts (values_in_order (options_of v))) (content v)
+
   kept : (k : Kept) → Tells (kinds.kept_fits a k) (kinds.kept_fits b k)
-  kept k = both (texts (values_in_order (options_of k.widget))) (both (tags k.tags) (content k.widget))
+  kept k = both (widget_wider k.widget) (tags k.tags)
 
   paths : (ws : List tree.Window) → Tells (kinds.paths_fit a ws) (kinds.paths_fit b ws)
   paths ws = both (count (length ws)) (each (λ v. kinds.fits a v.path) (λ v. kinds.fits b v.path) (λ v. text v.path) ws)
@@ -116,15 +119,18 @@ module _ (a b : Limits) (w : Wider a b) where
       both (count (map.len m))
       (each (λ e. kinds.fits a e.0 && kinds.procedure_fits a e.1) (λ e. kinds.fits b e.0 && kinds.procedure_fits b e.1) (λ e. both (text e.0) (procedure e.1)) (map.entries m))
 
-  sequence : (s : List Pattern) → Tells (kinds.sequence_fits a s) (kinds.sequence_fits b s)
-  sequence s = each (λ p. kinds.fits a p.detail) (λ p. kinds.fits b p.detail) (λ p. text p.detail) s
+  pub sequence_wider : (s : List Pattern) → Tells (kinds.sequence_fits a s) (kinds.sequence_fits b s)
+  sequence_wider s = each (λ p. kinds.fits a p.detail) (λ p. kinds.fits b p.detail) (λ p. text p.detail) s
+
+  pub sequences_wider : (ss : List (List Pattern)) → Tells (kinds.sequences_fit a ss) (kinds.sequences_fit b ss)
+  sequences_wider ss = each (kinds.sequence_fits a) (kinds.sequence_fits b) sequence_wider ss
 
   bindings : (xs : List Binding) → Tells (kinds.bindings_fit a xs) (kinds.bindings_fit b xs)
   bindings xs =
-      both (count (length xs)) (each (kinds.binding_fits a) (kinds.binding_fits b) (λ x. both (text x.tag) (both (sequence x.sequence) (text x.script))) xs)
+      both (count (length xs)) (each (kinds.binding_fits a) (kinds.binding_fits b) (λ x. both (text x.tag) (both (sequence_wider x.sequence) (text x.script))) xs)
 
   virtual : (v : VirtualEvent) → Tells (kinds.virtual_fits a v) (kinds.virtual_fits b v)
-  virtual v = both (text v.name) (both (count (length v.sequences)) (each (kinds.sequence_fits a) (kinds.sequence_fits b) sequence v.sequences))
+  virtual v = both (text v.name) (both (count (length v.sequences)) (sequences_wider v.sequences))
 
   virtuals : (xs : List VirtualEvent) → Tells (kinds.virtuals_fit a xs) (kinds.virtuals_fit b xs)
   virtuals xs = both (count (length xs)) (each (kinds.virtual_fits a) (kinds.virtual_fits b) virtual xs)

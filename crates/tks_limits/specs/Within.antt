@@ -55,8 +55,11 @@ module _ (limits : Limits) where
   content_fits (widget.Listbox l) = listbox_fits l
   content_fits (widget.Text t) = lines_fit t
 
+  abbrev pub widget_fits : Widget → Bool
+  widget_fits w = texts_fit (values_in_order (options_of w)) && content_fits w
+
   abbrev pub kept_fits : Kept → Bool
-  kept_fits k = texts_fit (values_in_order (options_of k.widget)) && (tags_fit k.tags && content_fits k.widget)
+  kept_fits k = widget_fits k.widget && tags_fit k.tags
 
   abbrev pub paths_fit : List tree.Window → Bool
   paths_fit windows = may_hold (length windows) && list_all (λ w. fits limits w.path) windows
@@ -92,6 +95,9 @@ module _ (limits : Limits) where
   abbrev pub sequence_fits : List Pattern → Bool
   sequence_fits s = list_all (λ p. fits limits p.detail) s
 
+  abbrev pub sequences_fit : List (List Pattern) → Bool
+  sequences_fit ss = list_all sequence_fits ss
+
   abbrev pub binding_fits : Binding → Bool
   binding_fits b = fits limits b.tag && (sequence_fits b.sequence && fits limits b.script)
 
@@ -99,7 +105,7 @@ module _ (limits : Limits) where
   bindings_fit bindings = may_hold (length bindings) && list_all binding_fits bindings
 
   abbrev pub virtual_fits : VirtualEvent → Bool
-  virtual_fits v = fits limits v.name && (may_hold (length v.sequences) && list_all sequence_fits v.sequences)
+  virtual_fits v = fits limits v.name && (may_hold (length v.sequences) && sequences_fit v.sequences)
 
   abbrev pub virtuals_fit : List VirtualEvent → Bool
   virtuals_fit virtuals = may_hold (length virtuals) && list_all virtual_fits virtuals

@@ -11,8 +11,8 @@ use tks_share::Items;
 use tks_text::Limits;
 use tks_timer::{Idle, Timer, Timers};
 
-// Whether the details of a sequence's events fit.
-fn patterns_fit(patterns: &[Pattern], limits: &Limits) -> bool
+/// Whether the details of a sequence's events fit.
+pub fn patterns_fit(patterns: &[Pattern], limits: &Limits) -> bool
     ensures { result ≡ kinds.sequence_fits limits.now patterns.now }
 {
     for pattern in patterns {
@@ -53,7 +53,7 @@ pub fn bindings_fit(bindings: &Bindings, limits: &Limits) -> bool
 
 // Whether each sequence fits.
 fn sequences_fit(sequences: &[Sequence], limits: &Limits) -> bool
-    ensures { result ≡ list_all (kinds.sequence_fits limits.now) sequences.now }
+    ensures { result ≡ kinds.sequences_fit limits.now sequences.now }
 {
     for sequence in sequences {
         if !patterns_fit(sequence.patterns(), limits) {

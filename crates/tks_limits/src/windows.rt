@@ -129,13 +129,18 @@ fn content_fits(widget: &Widget, limits: &Limits) -> bool
     }
 }
 
+/// Whether the values of a widget's options, and what it holds, fit.
+pub fn widget_fits(widget: &Widget, limits: &Limits) -> bool
+    ensures { result ≡ kinds.widget_fits limits.now widget.now }
+{
+    values_fit(widget.options(), limits) && content_fits(widget, limits)
+}
+
 // Whether what is kept of a window fits.
 fn kept_fits(kept: &Kept, limits: &Limits) -> bool
     ensures { result ≡ kinds.kept_fits limits.now kept.now }
 {
-    values_fit(kept.widget.get().options(), limits)
-        && tags_fit(kept.tags.as_ref(), limits)
-        && content_fits(kept.widget.get(), limits)
+    widget_fits(kept.widget.get(), limits) && tags_fit(kept.tags.as_ref(), limits)
 }
 
 /// Whether what is kept of each window fits.

@@ -12,7 +12,7 @@ use Rattle.tks_codec.specs.World as codec
 use Rattle.tks_limits.specs.Within.{within}
 use Rattle.tks_durable.specs.Machine as machine
 use Rattle.tks_durable.specs.Machine.{Meaning, accepts, refuses}
-use Rattle.tks_durable.specs.Opening.{same_names}
+use Rattle.tks_durable.specs.Opening.{same_grid, same_names}
 use Rattle.tks_state.specs.World.{World, first_world}
 use Rattle.tks_world.specs.Step.{Stepped, Accepts, Refuses, step}
 
@@ -50,14 +50,19 @@ spelled world = (codec.world world.grid).write world
 
 -- ---- the machine
 
+-- is a world on this grid and within the limits, with a memory for each of the application's commands and for no other?
+abbrev pub is_own : Application → Limits → Extent → World → Bool
+is_own app limits grid world = same_grid world.grid grid && (same_names (names_of world.memories) app.names && within limits world)
+
 -- a terminal for an application
 abbrev pub terminal : Application → Limits → Extent → Meaning World
 terminal app limits grid = record {
   step = λ world input. as_machine (step app world input limits);
   first = first_world grid app.names;
-  first_bytes = spelled (first_world grid app.names);
+  bytes = spelled;
   stored = stored;
   within = within limits;
+  own = is_own app limits grid;
   count = λ world. world.accepted;
   grid = grid;
   names = app.names;

@@ -11,6 +11,5 @@ pub use laws::{
     a_crash_keeps_what_was_acknowledged, a_crash_leaves_whole_inputs, wider_limits_open,
 };
 pub use session::Session;
-pub use stepper::Stepper;
 pub use tks_durable::{Drained, SessionFault};
 pub use tks_input::{Input, Refused, Reply};

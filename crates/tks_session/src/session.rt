@@ -1,14 +1,18 @@
 //! A session, between its calls.
-ghost use Rattle.std.specs.Prelude.{◌≡◌, ◌≢◌, ◌↔◌, ◌++◌, ◌∷◌, [], false, OnOk, OnErr, IfOk, IfErr, MatchResult, Ok};
+ghost use Rattle.std.specs.Prelude.{◌≡◌, ◌≢◌, ◌↔◌, ◌<◌, ◌≤◌, ◌+◌, ◌^◌, ◌++◌, ◌∷◌, [], length, false, OnOk, OnErr, IfOk, IfErr, MatchResult, Ok};
 ghost use Rattle.tks_journal.specs.Moments.{LeavesOnly};
 ghost use Rattle.tks_journal.specs.Opening.{Unwritten};
-ghost use Rattle.tks_durable.specs.Durable.{CommitFails, committed, is_full};
+ghost use Rattle.tks_journal.specs.Resting.{AllHold, begun_as};
+ghost use Rattle.tks_journal.specs.Sides.{other_of};
+ghost use Rattle.tks_durable.specs.Durable.{CheckpointFails, CommitFails, checkpointed, committed, is_full};
+ghost use Rattle.tks_durable.specs.Machine.{header_of};
 ghost use Rattle.tks_durable.specs.declared.fault.SessionFault.TheVariants.{Disk as DeviceFailed};
 ghost use Rattle.tks_world.specs.Step.{Accepts, step};
 ghost use Rattle.tks_session.specs.Crash.{AllOpenTo, LeadsOn, OpenFails, OpensAsOneOf, OpensToCount, OpensToPrefix, Stands, opens};
 ghost use Rattle.tks_session.specs.Draining.{DrainsSo};
 ghost use Rattle.tks_session.specs.Refusing.{PostRefused};
-ghost use Rattle.tks_session.specs.Sessions.{IsFresh, setting, setting_of};
+ghost use Rattle.tks_session.specs.Sessions.{IsFresh, setting, setting_of, terminal_in};
+ghost use Rattle.tks_session.specs.Terminals.{spelled};
 
 use crate::fault::OpenFault;
 use crate::stepper::Stepper;
@@ -201,5 +205,32 @@ impl<D: Disk, T: AppMeaning, B: AppBody> Session<D, T, B> {
         ensures honesty { D.honest self.old.journal.disk ↔ D.honest self.new.journal.disk }
     {
         self.durable.commit()
+    }
+
+    /// Begins the other side of the disk with the world, which is live then, with no frame behind it; and answers how many inputs
+    /// are acknowledged by then, all of them. It takes its memory before its first call of the disk.
+    pub fn checkpoint(&mut self) -> Result<u64, SessionFault>
+        ensures ok { IfOk result (λ count. (self.old.journal.failed ≡ false) × (count ≡ self.old.world.accepted)
+            × (self.new ≡ record self.old { journal = checkpointed (terminal_in (setting_of T.meaning self.old.machine)) self.old.journal self.new.journal.disk self.old.world; waiting = []; acknowledged = count })) }
+
+        // At Ok, what is read, and all that a crash may leave, holds the world alone, on the other side.
+        ensures stored { OnOk result (D.honest self.old.journal.disk → AllHold (D.view self.new.journal.disk)
+            (begun_as (other_of self.old.journal.live) (header_of (terminal_in (setting_of T.meaning self.old.machine)) (self.old.journal.generation + 1) self.old.world) (spelled self.old.world))) }
+
+        // So all of it opens to the world.
+        ensures acknowledged { OnOk result (D.honest self.old.journal.disk → AllOpenTo (setting_of T.meaning self.old.machine) (D.view self.new.journal.disk) (Ok self.new.world)) }
+
+        // A crash at any moment of the call leaves what opens to what a prefix of the inputs leaves.
+        ensures any_moment { self.old.journal.failed ≡ false → D.honest self.old.journal.disk
+            → LeavesOnly (D.view self.old.journal.disk) (D.view self.new.journal.disk)
+            (OpensToPrefix (setting_of T.meaning self.old.machine) (opens (setting_of T.meaning self.old.machine) (D.view self.old.journal.disk).reads) self.old.waiting) }
+
+        // It is refused as too large just where the world's spelling passes 2^40 bytes, or the side's number 2^62.
+        ensures err { IfErr result (CheckpointFails (terminal_in (setting_of T.meaning self.old.machine)) self.old self.new (D.failures self.old.journal.disk) (D.failures self.new.journal.disk)) }
+        ensures fits { OnOk result ((length (spelled self.old.world) ≤ 2 ^ 40) × (self.old.journal.generation < 2 ^ 62)) }
+        ensures steady { OnOk result (D.failures self.new.journal.disk ≡ D.failures self.old.journal.disk) }
+        ensures honesty { D.honest self.old.journal.disk ↔ D.honest self.new.journal.disk }
+    {
+        self.durable.checkpoint()
     }
 }

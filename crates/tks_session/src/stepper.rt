@@ -79,15 +79,14 @@ fn is_stored(world: &World, read: usize, bytes: &[u8], names: &[Txt]) -> bool
     read == bytes.len() && have_memories(world.memories(), names)
 }
 
-// The bytes of the world before any input.
+// The bytes of a world.
 #[tactic(auto, unfolding(crate::specs::Terminals::spelled))]
-fn first_bytes(alloc: Global, grid: Size, names: &[Txt]) -> Result<Vec<u8>, AllocError>
-    ensures value { IfOk result (λ bytes. bytes.items ≡ spelled (first_world grid names.now)) }
-    ensures legal { IfOk result (λ bytes. (codec.world grid).Legal (first_world grid names.now)) }
+fn bytes_of(alloc: Global, world: &World) -> Result<Vec<u8>, AllocError>
+    ensures value { IfOk result (λ bytes. bytes.items ≡ spelled world.now) }
+    ensures legal { IfOk result (λ bytes. (codec.world world.now.grid).Legal world.now) }
 {
-    let world = World::first(alloc, grid, names)?;
     let mut bytes = Vec::new(alloc);
-    write_world(alloc, &world, &mut bytes)?;
+    write_world(alloc, world, &mut bytes)?;
     Ok(bytes)
 }
 
@@ -105,16 +104,15 @@ impl<T: AppMeaning, B: AppBody> Machine for Stepper<T, B> {
     }
 
     fn first(&self, alloc: Global) -> Result<World, AllocError> {
+        // The names are those of commands.
+        let _ = self.apps.commands();
         let names = self.apps.names(alloc)?;
         let world = World::first(alloc, self.grid, names.as_slice())?;
         Ok(world)
     }
 
-    fn first_bytes(&self, alloc: Global) -> Result<Vec<u8>, AllocError> {
-        // The names are those of commands.
-        let _ = self.apps.commands();
-        let names = self.apps.names(alloc)?;
-        let bytes = first_bytes(alloc, self.grid, names.as_slice())?;
+    fn bytes(&self, alloc: Global, world: &World) -> Result<Vec<u8>, AllocError> {
+        let bytes = bytes_of(alloc, world)?;
         Ok(bytes)
     }
 

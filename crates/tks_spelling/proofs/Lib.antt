@@ -5,6 +5,7 @@ pub mod Headers
 pub mod Inputs
 pub mod Letters
 pub mod Loop
+pub mod Counting
 pub mod Found
 pub mod Puts
 pub mod Rising

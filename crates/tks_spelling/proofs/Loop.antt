@@ -98,7 +98,7 @@ rising_legal name s a b (x ∷ xs) h r = ((h.0, r.0), rising_legal name s (Some 
 
 -- ---- a loop over what an iterator has still to give
 
-any_before : {T : Type 0} (s : Spelling T) (a b : Option T) (xs : List T) → members (λ before. s) a xs ≡ members (λ before. s) b xs
+pub any_before : {T : Type 0} (s : Spelling T) (a b : Option T) (xs : List T) → members (λ before. s) a xs ≡ members (λ before. s) b xs
 any_before s a b [] = refl
 any_before s a b (x ∷ xs) = refl
 

@@ -1,5 +1,6 @@
 pub mod Spelling
 pub mod Reading
 pub mod Writing
+pub mod Lengths
 pub mod Header
 pub mod Input

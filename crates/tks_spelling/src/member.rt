@@ -1,11 +1,12 @@
 //! Lists: how their members are read and written.
-ghost use Rattle.std.specs.Prelude.{◌≡◌, None, OnOk};
+ghost use Rattle.std.specs.Prelude.{◌≡◌, length, None, OnOk};
 ghost use Rattle.std.specs.List.{AllByRecursion};
 ghost use Rattle.tks_text.specs.Short.{IsShort};
 ghost use Rattle.tks_spelling.specs.Spelling as spellings;
 ghost use Rattle.tks_spelling.specs.Spelling.{list, list_by, members_at};
 ghost use Rattle.tks_spelling.specs.Reading.{Gives};
 ghost use Rattle.tks_spelling.specs.Writing.{PutsSo};
+ghost use Rattle.tks_spelling.specs.Lengths.{counted};
 
 use crate::reading::u32_of;
 use crate::unread::Unread;
@@ -15,10 +16,11 @@ use tks_text::Seq;
 
 /// What may be the members of a list: each is read and written by itself.
 pub trait Members<T>: Drop {
-    ghost use Rattle.std.specs.Prelude.{◌≡◌, OnOk};
+    ghost use Rattle.std.specs.Prelude.{◌≡◌, length, OnOk};
     ghost use Rattle.tks_spelling.specs.Spelling.{Spelling};
     ghost use Rattle.tks_spelling.specs.Reading.{Gives};
     ghost use Rattle.tks_spelling.specs.Writing.{PutsSo};
+    ghost use Rattle.tks_spelling.specs.Lengths.{counted};
 
     ghost spelling: { Self → Spelling T };
 
@@ -34,6 +36,10 @@ pub trait Members<T>: Drop {
         requires { IsSound self.now member.now }
         ensures puts { PutsSo result out.old.items out.new.items ((spelling self.now).write member.now) }
         ensures legal { OnOk result ((spelling self.now).Legal member.now) };
+
+    /// The length of one's spelling, in bytes.
+    fn spelled_length(&self, member: &T) -> u64
+        ensures { result ≡ counted (length ((spelling self.now).write member.now)) };
 }
 
 /// What may be the members of a list in which the spelling of one may depend on the one before it.
@@ -138,4 +144,22 @@ pub fn put_list<T, M: Members<T>>(out: &mut Vec<u8>, members: M, xs: &[T]) -> Re
 {
     put_u32(out, xs.len() as u32)?;
     put_each(out, &members, xs)
+}
+
+// The length of these, one behind the other.
+fn each_length<T, M: Members<T>>(members: &M, xs: &[T]) -> u64
+    ensures { result ≡ counted (length (spellings.members (λ before. M.spelling members.now) None xs.now)) }
+{
+    let mut sum: u64 = 0;
+    for x in xs {
+        sum = sum.saturating_add(members.spelled_length(x));
+    }
+    sum
+}
+
+/// The length of the spelling of a list of such members, in bytes.
+pub fn list_length<T, M: Members<T>>(members: &M, xs: &[T]) -> u64
+    ensures { result ≡ counted (length ((list (M.spelling members.now)).write xs.now)) }
+{
+    each_length(members, xs).saturating_add(4)
 }

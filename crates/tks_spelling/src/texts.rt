@@ -1,4 +1,5 @@
 //! Texts and numbers as members of lists.
+use crate::lengths::text_length;
 use crate::member::Members;
 use crate::reading::{text_of, u64_of};
 use crate::unread::Unread;
@@ -24,6 +25,10 @@ impl Members<Txt> for Texts {
     fn put(&self, out: &mut Vec<u8>, text: &Txt) -> Result<(), AllocError> {
         put_text(out, text)
     }
+
+    fn spelled_length(&self, text: &Txt) -> u64 {
+        text_length(text)
+    }
 }
 
 /// Numbers of eight bytes.
@@ -44,5 +49,9 @@ impl Members<u64> for Numbers {
 
     fn put(&self, out: &mut Vec<u8>, number: &u64) -> Result<(), AllocError> {
         put_u64(out, *number)
+    }
+
+    fn spelled_length(&self, _number: &u64) -> u64 {
+        8
     }
 }

@@ -4,7 +4,7 @@ use Rattle.tks_journal.specs.Loading.{behind}
 use Rattle.tks_journal.specs.Opening.{Unwritten}
 use Rattle.tks_journal.specs.Sides.{frames}
 use Rattle.tks_durable.specs.Crash.{OfBytes}
-use Rattle.tks_durable.specs.Opening.{with_bodies}
+use Rattle.tks_durable.specs.Opening.{IsOwn, with_bodies}
 use Rattle.tks_durable.proofs.restore.replay_all.Given as goal
 
 abbrev pub invariant-loop-next : goal.invariant-loop-next
@@ -14,6 +14,7 @@ invariant-loop-next g l =
     let old = l.fn.left in
     record {
       same : g.D.Disk.honest old.disk → with_bodies m l.so_far (frames (behind l.left.live l.left.at (view l.left.disk).reads)) ≡ with_bodies m l.fn.start (frames (behind old.live old.at (view old.disk).reads));
+      own : IsOwn m l.fn.start → IsOwn m l.so_far;
       bytes : IfErr l.fn.start OfBytes → IfErr l.so_far OfBytes;
       live : l.left.live ≡ old.live;
       generation : l.left.generation ≡ old.generation;

@@ -15,7 +15,7 @@ returns-in-Ok-Some-clause-more g c e =
     let others = frames (behind c.next.new.self.live c.next.new.self.at (g.D.Disk.view c.next.new.self.disk).reads) in (
       omega (arith, at_is),
       omega (arith, at_is, on.1),
-      λ h. ap (λ o. with_bodies m o others) c.in_ok-so_far-in-Ok-Some.ensures
+      λ h. ap (λ o. with_bodies m o others) c.in_ok-so_far-in-Ok-Some.ensures.value
           ∙ ap (λ (l : List ℕ). with_bodies m (with_inputs m c.args.so_far (inputs_in l)) others) c.deref.ensures.value
           ∙ sym (body_first m c.args.so_far body others)
           ∙ ap (with_bodies m c.args.so_far) (sym ((rw c.in-Ok-Some.field-0-is at c.in-Ok-Some.ensures.frame) h)),

@@ -46,6 +46,7 @@ invariant_of-self g c =
         opened = subst (λ w. run m (opens m v.reads) w ≡ Ok s.world) (none_there s.body.items s.waiting c.self.invariant.0 c.if-self-eq0.true) (c.self.invariant.2 works h);
         counted = sym c.count-self-inside.ensures;
       },
+      c.self.invariant.4,
     )
 
 pub invariant_of-self-in-Ok : goal.invariant_of-self-in-Ok
@@ -69,6 +70,7 @@ invariant_of-self-in-Ok g c =
                 (c.self.invariant.2 working h) (c.in-Ok.ensures.added h);
             counted = sym c.count-self-inside-in-Ok.ensures;
           },
+      c.self.invariant.4,
     )
 
 pub returns-in-Ok-clause-ok : goal.returns-in-Ok-clause-ok

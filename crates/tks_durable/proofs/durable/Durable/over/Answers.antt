@@ -12,6 +12,7 @@ invariant_of-result g c =
       inl refl,
       λ works h. subst (λ w. run m (opens m (g.D.Disk.view c.args.journal.disk).reads) w ≡ Ok c.args.world) (sym (cleared c.new.result.items c.new.ensures.items)) (c.requires.stands h),
       λ works h. record { world = c.args.world; opened = c.requires.stands h; counted = sym c.count-acknowledged.ensures },
+      c.requires.own,
     )
 
 pub returns : goal.returns

@@ -26,6 +26,7 @@ invariant_of-self-in-Ok g c =
       λ works h. stands_on m (opens m (g.D.Disk.view s.journal.disk).reads) (or_none (inputs_in s.body.items)) (or_none (inputs_in c.write_input.new.out.items)) c.args.input.now s.world c.step_in_room-stepped.new.world c.in-Ok.reply
           (ap (λ (l : List ℕ). or_none (inputs_in l)) written ∙ waiting_more s.body.items s.waiting c.args.input.now p legal) (c.self.invariant.2 works h) c.in-Ok.ensures.accepted.1,
       c.self.invariant.3,
+      c.in-Ok.ensures.own c.self.invariant.4,
     )
 
 pub returns-then-pending-self-clause-refused : goal.returns-then-pending-self-clause-refused

@@ -1,0 +1,3 @@
+-- The definitions that contracts and proofs cite.
+pub mod Fitting
+pub mod Keeping
