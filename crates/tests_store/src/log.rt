@@ -72,6 +72,7 @@ impl Machine for Log {
         Ok(Some(text))
     }
 
+    #[tactic(auto, using(tks_text::proofs::Texts::all_from_text))]
     fn bytes(&self, alloc: Global, world: &Txt) -> Result<Vec<u8>, AllocError> {
         let mut bytes = Vec::new(alloc);
         bytes.extend_from_slice(world.as_bytes())?;

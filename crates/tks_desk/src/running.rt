@@ -9,7 +9,8 @@ ghost use Rattle.tks_desk.specs.Reading.{ReadsAtMost, Pays, unread};
 ghost use Rattle.tks_desk.specs.Running.{Rests, Runs};
 
 use crate::answer::{
-    end_drain, put_checkpointed, put_committed, put_faults, put_refusal, put_reply, put_screen, tell_reply,
+    end_drain, put_checkpointed, put_committed, put_faults, put_refusal, put_reply, put_screen,
+    tell_reply,
 };
 use crate::ending::{RunEnd, RunFault};
 use crate::loading::Intake;

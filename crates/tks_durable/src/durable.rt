@@ -276,7 +276,10 @@ impl<D: Disk, M: Machine> Durable<D, M> {
             return Err(SessionFault::TooLarge);
         }
         match new_side(self.alloc, &self.machine, &self.world, generation + 1) {
-            Ok(side) => match self.journal.checkpoint(&side.header, &side.head, &side.bytes) {
+            Ok(side) => match self
+                .journal
+                .checkpoint(&side.header, &side.head, &side.bytes)
+            {
                 Ok(()) => {
                     self.body.clear();
                     self.waiting = 0;

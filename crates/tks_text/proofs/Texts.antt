@@ -1,8 +1,8 @@
 -- Texts by the place of the first byte that stands in none, and texts one after the other.
 use Rattle.std.proofs.Common.{zero, suc, take, drop, ◌≡◌, ℕ, ◌+◌, ◌≤◌, Bool, true, false, cond, ltb, List, [], ◌∷◌, ◌++◌, length, Option, Some, None, refl, arith}
-use Rattle.std.specs.List.{position, position_or_len, prefix_len}
+use Rattle.std.specs.List.{list_all, position, position_or_len, prefix_len}
 use Rattle.std.specs.Prelude.{not, ◌&&◌}
-use Rattle.std.proofs.lemmas.Bool.{ltb-false}
+use Rattle.std.proofs.lemmas.Bool.{ltb-false, and_from}
 use Rattle.tks_text.specs.Text.{is_text_byte, is_text, IsText}
 
 abbrev pub is_bad : ℕ → Bool
@@ -43,6 +43,11 @@ both false b e = absurd cc
 pub text_from_all : (bytes : List ℕ) → is_text bytes ≡ true → IsText bytes
 text_from_all [] e = tt
 text_from_all (b ∷ bytes) e = let h = both (is_text_byte b) (is_text bytes) e in (h.0, text_from_all bytes h.1)
+
+-- and a text passes it
+pub all_from_text : (bytes : List ℕ) → IsText bytes → is_text bytes ≡ true
+all_from_text [] h = refl
+all_from_text (b ∷ bytes) h = and_from (is_text_byte b) (list_all is_text_byte bytes) h.0 (all_from_text bytes h.1)
 
 pub text_push : (bytes : List ℕ) (b : ℕ) → IsText bytes → is_text_byte b ≡ true → IsText (bytes ++ b ∷ [])
 text_push [] b h e = (e, tt)
