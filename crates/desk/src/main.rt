@@ -6,6 +6,7 @@ ghost use Rattle.tks_app.specs.declared.answer.AppAnswer.{AppAnswer};
 ghost use Rattle.tks_desk.specs.Own.{next_of, swap_of};
 
 use std::alloc::{AllocError, Global};
+use std::io;
 use std::io::{BufRead, BufReader, BufWriter, Write};
 use std::process::ExitCode;
 use tks_app::{AppAnswer, AppBody, AppClosure};
@@ -64,21 +65,38 @@ fn serve<B: AppBody>(rt: HostRuntime, words: &CommandLine, next: B, swap: B) -> 
         return ExitCode::from(NO_MEMORY);
     };
     match FileDisk::open(&rt, alloc, words.store.as_str()) {
-        Ok(disk) => serve_on(
-            alloc,
-            &mut reader,
-            &mut writer,
-            disk,
-            words.grid,
-            next,
-            swap,
-        ),
+        Ok(disk) => {
+            let (status, disk) = serve_on(
+                alloc,
+                &mut reader,
+                &mut writer,
+                disk,
+                words.grid,
+                next,
+                swap,
+            );
+            if let Some(error) = disk.refusal() {
+                tell_refusal(&rt, words.store.as_str(), error);
+            }
+            status
+        }
         Err(FileDiskFault::NoMemory) => ended_by(&mut writer, &SessionFault::NoMemory),
-        Err(FileDiskFault::Device) => ended_by(&mut writer, &SessionFault::Disk),
+        Err(FileDiskFault::Device(error)) => {
+            tell_refusal(&rt, words.store.as_str(), error);
+            ended_by(&mut writer, &SessionFault::Disk)
+        }
     }
 }
 
-// Serves a reader and a writer, over the session on this disk, within the limits of format 1.
+// Tells on standard error with what the system refused a call on the store's files.
+fn tell_refusal<R: Eprint>(rt: &R, store: &str, error: io::Error) {
+    let _ = rt.eprint("desk: the store ");
+    let _ = rt.eprint(store);
+    let _ = rt.eprint(": ");
+    let _ = rt.eprintln(error);
+}
+
+// Serves a reader and a writer, over the session on this disk, within the limits of format 1. The disk comes back.
 fn serve_on<R: BufRead, W: Write, D: Disk + Drop, B: AppBody>(
     alloc: Global,
     reader: &mut R,
@@ -87,19 +105,20 @@ fn serve_on<R: BufRead, W: Write, D: Disk + Drop, B: AppBody>(
     grid: Size,
     next: B,
     swap: B,
-) -> ExitCode
+) -> (ExitCode, D)
     requires next { B.callable next × ((memory : List ℕ) (words : List (List ℕ)) (a : AppAnswer) → B.may_answer next memory words a → a ≡ next_of memory words) }
     requires swap { B.callable swap × ((memory : List ℕ) (words : List (List ℕ)) (a : AppAnswer) → B.may_answer swap memory words a → a ≡ swap_of memory words) }
 {
     let Ok(apps) = own_apps(alloc, next, swap) else {
-        return ended_by(writer, &SessionFault::NoMemory);
+        return (ended_by(writer, &SessionFault::NoMemory), disk);
     };
     match Session::open(alloc, disk, apps, grid, Limits::format1()) {
         Ok(mut session) => {
             let end = run(alloc, reader, writer, &mut session);
-            status_behind(writer, &end)
+            let (disk, _apps) = session.close();
+            (status_behind(writer, &end), disk)
         }
-        Err(refused) => ended_by(writer, &refused.fault),
+        Err(refused) => (ended_by(writer, &refused.fault), refused.disk),
     }
 }
 

@@ -48,7 +48,7 @@ fn append_all<D: Disk>(disk: &mut D, count: usize) -> usize {
 
 fn told(fault: FileDiskFault) -> &'static str {
     match fault {
-        FileDiskFault::Device => "the device failed",
+        FileDiskFault::Device(_) => "the device failed",
         FileDiskFault::NoMemory => "no memory",
     }
 }

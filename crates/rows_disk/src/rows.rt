@@ -12,7 +12,7 @@ const PATH: &str = "disk";
 fn told<F: Drop>(opened: Result<FileDisk<F>, FileDiskFault>) -> &'static str {
     match opened {
         Ok(_) => "opened",
-        Err(FileDiskFault::Device) => "the device failed",
+        Err(FileDiskFault::Device(_)) => "the device failed",
         Err(FileDiskFault::NoMemory) => "no memory",
     }
 }

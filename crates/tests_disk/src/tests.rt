@@ -1,7 +1,7 @@
 //! The disk in memory beside a plain one, by random calls and crashes.
 use super::*;
 use std::alloc::Global;
-use tks_disk::{Disk, Fuse, Left, MemoryDisk, Side};
+use tks_disk::{Disk, Fuse, Left, MemoryDisk, Once, Side};
 
 fn any_left(dice: &mut Dice) -> Left {
     match dice.roll(4) {
@@ -162,6 +162,37 @@ fn a_fuse_lets_so_many_calls_through(rt: HostRuntime) {
         assert!(rt;
             fuse_stops(rt.alloc(), calls) == Some(true),
             "{calls} calls"
+        );
+    }
+}
+
+// Whether each of 16 writes of a byte passes but this one.
+fn passes_but<D: Disk>(disk: &mut D, calls: u64) -> bool {
+    for at in 0..16 {
+        if writes(disk, at) == (at as u64 == calls) {
+            return false;
+        }
+    }
+    true
+}
+
+// Whether one call fails, behind so many, at most 16, and all others pass.
+fn fails_once(alloc: Global, calls: u64) -> Option<bool> {
+    let mut once = Once::new(MemoryDisk::new(alloc), calls);
+    let is_one = passes_but(&mut once, calls);
+    let fails_later = once.len(Side::A).is_err() == (calls == 16);
+    let mut disk = once.into_inner();
+    // The last byte is missing where it was its write that failed.
+    let length = disk.len(Side::A).ok()?;
+    Some(is_one && fails_later && length == if calls == 15 { 15 } else { 16 })
+}
+
+#[test]
+fn one_call_fails_and_no_other(rt: HostRuntime) {
+    for calls in 0..17 {
+        assert!(rt;
+            fails_once(rt.alloc(), calls) == Some(true),
+            "behind {calls} calls"
         );
     }
 }

@@ -7,7 +7,7 @@ ghost use Rattle.tests_store.specs.Logging.{logging, longer};
 use std::alloc::{AllocError, Global};
 use tks_durable::Machine;
 use tks_input::{Input, Refused, Reply};
-use tks_spelling::Header;
+use tks_spelling::{Header, within_side};
 use tks_text::{Seq, Size, Txt};
 
 // Adds more to a text, as long as it stays within the limit.
@@ -77,6 +77,10 @@ impl Machine for Log {
         let mut bytes = Vec::new(alloc);
         bytes.extend_from_slice(world.as_bytes())?;
         Ok(bytes)
+    }
+
+    fn length(&self, world: &Txt) -> Option<u64> {
+        within_side(world.len() as u64)
     }
 
     fn header(

@@ -3,13 +3,24 @@
 use crate::crashes::left;
 use crate::log::Log;
 use std::alloc::Global;
-use tks_disk::{Disk, Fuse, Left, MemoryDisk, Side};
+use tks_disk::{Disk, Fuse, Left, MemoryDisk, Once, Side};
 use tks_durable::{Drained, Durable, SessionFault};
 use tks_input::{Input, Refused, Reply};
 use tks_text::Txt;
 
 fn script(alloc: Global, bytes: &[u8]) -> Option<Input> {
     Some(Input::Script(Txt::from_bytes(alloc, bytes).ok()?))
+}
+
+// Whether a session whose device failed takes nothing any more.
+fn takes_nothing<D: Disk>(alloc: Global, session: &mut Durable<D, Log>) -> Option<bool> {
+    let input = script(alloc, b"z")?;
+    Some(
+        session.has_failed()
+            && matches!(session.post(&input), Err(Refused::Failed))
+            && session.commit() == Err(SessionFault::Failed)
+            && session.checkpoint() == Err(SessionFault::Failed),
+    )
 }
 
 // Posts letters, commits at each dot, and makes a checkpoint at each `!`, until a call fails. How many were acknowledged last.
@@ -26,7 +37,10 @@ fn lives<D: Disk>(alloc: Global, session: &mut Durable<D, Log>, acts: &[u8]) -> 
         };
         match acknowledged {
             Ok(count) => told = count,
-            Err(_) => return Some(told),
+            Err(fault) => {
+                let has_failed = fault == SessionFault::Disk && takes_nothing(alloc, session)?;
+                return if has_failed { Some(told) } else { None };
+            }
         }
     }
     Some(told)
@@ -103,17 +117,29 @@ fn each_crash_opens(
     Some(true)
 }
 
-// Stopped after so many calls of the disk and crashed in each way: how many letters were acknowledged, where each opens to a
-// prefix of all the letters with these.
+// How many letters were acknowledged, where the disk, crashed in each way, opens to a prefix of all the letters with these.
+fn kept(
+    alloc: Global,
+    disk: &MemoryDisk,
+    log: Log,
+    letters: &[u8],
+    told: Option<u64>,
+) -> Option<u64> {
+    let told = told?;
+    let is_kept = each_crash_opens(alloc, disk, log, letters, told)?;
+    if is_kept { Some(told) } else { None }
+}
+
+// The same where the device stops after so many calls.
 fn stopped(alloc: Global, calls: u64, log: Log, acts: &[u8], letters: &[u8]) -> Option<u64> {
     let (told, fuse) = lived(alloc, Fuse::new(MemoryDisk::new(alloc), calls), log, acts);
-    let disk = fuse.into_inner();
-    match told {
-        Some(told) if each_crash_opens(alloc, &disk, log, letters, told) == Some(true) => Some(
-            told,
-        ),
-        _ => None,
-    }
+    kept(alloc, &fuse.into_inner(), log, letters, told)
+}
+
+// The same where one call fails, the one behind so many.
+fn failed_once(alloc: Global, calls: u64, log: Log, acts: &[u8], letters: &[u8]) -> Option<u64> {
+    let (told, once) = lived(alloc, Once::new(MemoryDisk::new(alloc), calls), log, acts);
+    kept(alloc, &once.into_inner(), log, letters, told)
 }
 
 #[test]
@@ -144,6 +170,22 @@ fn each_stop_of_a_long_session_leaves_a_prefix_too(rt: HostRuntime) {
     for calls in 0..160 {
         let told = stopped(alloc, calls, log, ACTS, LETTERS);
         assert!(rt; told.is_some(), "after {calls} calls");
+        last = told.unwrap_or(0);
+    }
+    assert_eq!(rt; last, 29);
+}
+
+#[test]
+fn each_call_that_fails_leaves_a_prefix_too(rt: HostRuntime) {
+    let alloc = rt.alloc();
+    let log = Log {
+        limit: 30,
+        pending: 5,
+    };
+    let mut last = 0;
+    for calls in 0..160 {
+        let told = failed_once(alloc, calls, log, ACTS, LETTERS);
+        assert!(rt; told.is_some(), "behind {calls} calls");
         last = told.unwrap_or(0);
     }
     assert_eq!(rt; last, 29);

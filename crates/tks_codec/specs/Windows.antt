@@ -1,7 +1,10 @@
 -- The windows as bytes (this project's own format): lines, in the order in which the windows were made.
-use Rattle.std.specs.Prelude.{ℕ, ◌+◌, Bool, is_some, List, [], ◌∷◌, length, map, Option, Some, None}
+use Rattle.std.specs.Prelude.{◌≡◌, ℕ, ◌+◌, Bool, is_some, List, [], ◌∷◌, length, map, Option, Some, None}
+use Rattle.std.specs.BTreeMap.{BTreeMap, get}
+use Rattle.std.specs.Ordering.{nat_cmp}
 use Rattle.tks_tree.specs.Windows as tree
 use Rattle.tks_pack.specs.Packing.{Packed}
+use Rattle.tks_pack.specs.declared.settings.Settings.{Settings}
 use Rattle.tks_spelling.specs.Spelling.{Read, Spelling, such_that, through, list}
 use Rattle.tks_codec_windows.specs.Places.{packed_as, placed}
 use Rattle.tks_state.specs.Restoring.{kept_of_parts}
@@ -35,6 +38,10 @@ lines_of x = lines_from (packings_of x.kept) x.tree.windows x.kept
 abbrev pub packed_count : List Kept → ℕ
 packed_count [] = 0
 packed_count (k ∷ kept) = length k.packing.contents + packed_count kept
+
+-- a map has how each window is packed, by its number
+abbrev pub ArePacked : BTreeMap ℕ Settings → List Kept → Type 0
+ArePacked packed kept = (n : ℕ) → get nat_cmp packed n ≡ packed_as (packings_of kept) n
 
 -- ---- windows of lines
 

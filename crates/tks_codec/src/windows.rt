@@ -1,27 +1,30 @@
 //! The windows.
-ghost use Rattle.std.specs.Prelude.{◌≡◌, ◌++◌, [], ◌∷◌, length, map, None, option_map, IfOk, OnOk};
+ghost use Rattle.std.specs.Prelude.{◌≡◌, ℕ, ◌++◌, [], ◌∷◌, length, map, None, option_map, IfOk, OnOk};
+ghost use Rattle.std.specs.BTreeMap.{get};
 ghost use Rattle.std.specs.List.{AllByRecursion};
+ghost use Rattle.std.specs.Ordering.{nat_cmp};
 ghost use Rattle.tks_spelling.specs.Spelling.{members};
 ghost use Rattle.tks_spelling.specs.Reading.{Gives};
 ghost use Rattle.tks_spelling.specs.Writing.{PutsSo};
 ghost use Rattle.tks_spelling.specs.Lengths.{counted};
-ghost use Rattle.tks_codec_windows.specs.Places.{packed_as};
+ghost use Rattle.tks_codec_windows.specs.Places.{or_else, settings_in};
 ghost use Rattle.tks_codec.specs.Line.{line};
 ghost use Rattle.tks_codec.specs.Windows as kinds;
-ghost use Rattle.tks_codec.specs.Windows.{packings_of, lines_from, packed_count, held_of, part_of, parts_from, windows_seen, windows_at};
+ghost use Rattle.tks_codec.specs.Windows.{packings_of, lines_from, packed_count, ArePacked, held_of, part_of, parts_from, windows_seen, windows_at};
 ghost use Rattle.tks_state.specs.WellFormed.{InStep};
 ghost use Rattle.tks_state.specs.World.{windows_of};
 
 use crate::line::{Line, Lines, line_length, put_line};
 use std::alloc::{AllocError, Global};
-use tks_codec_windows::{Place, placed, settings_in};
-use tks_pack::{Packing, Settings};
-use tks_share::SharedList;
+use std::collections::BTreeMap;
+use tks_codec_windows::{Place, placed};
+use tks_pack::{Content, Packing, Settings};
+use tks_share::{Items, SharedList};
 use tks_spelling::writing::put_u32;
 use tks_spelling::{Unread, list_by};
 use tks_state::{Kept, Widget, WindowParts, World};
 use tks_text::{Seq, Txt};
-use tks_tree::{Tree, WindowId};
+use tks_tree::Tree;
 
 // What is read of a window besides its place.
 #[derive(Drop)]
@@ -124,17 +127,34 @@ pub fn windows_of(alloc: Global, next: u64, bytes: &[u8]) -> Result<(WindowsRead
     }
 }
 
-// How a window is packed, in the first of these that holds it.
-fn packed_as(kept: &SharedList<Kept>, window: WindowId) -> Option<Settings>
-    ensures { result ≡ packed_as (packings_of kept.now) window }
+// Adds how windows are packed in one, by their numbers, but for those that are there already.
+fn add_contents(
+    packed: &mut BTreeMap<u64, Settings>,
+    contents: Items<'_, Content>,
+) -> Result<(), AllocError>
+    ensures { OnOk result ((n : ℕ) → get nat_cmp packed.new n ≡ or_else (get nat_cmp packed.old n) (settings_in contents.entry n)) }
 {
-    for one in kept.iter() {
-        let settings = settings_in(one.packing.contents(), window);
-        if settings.is_some() {
-            return settings;
+    for content in contents {
+        let number = content.window.number();
+        if !packed.contains_key(&number) {
+            packed.insert(number, content.settings)?;
         }
     }
-    None
+    Ok(())
+}
+
+// How each window that is packed is so, by its number.
+fn packed_by_number(
+    alloc: Global,
+    kept: &SharedList<Kept>,
+) -> Result<BTreeMap<u64, Settings>, AllocError>
+    ensures { IfOk result (λ packed. ArePacked packed kept.now) }
+{
+    let mut packed = BTreeMap::new(alloc);
+    for one in kept.iter() {
+        add_contents(&mut packed, one.packing.contents())?;
+    }
+    Ok(packed)
 }
 
 // Adds a line for each window.
@@ -148,6 +168,7 @@ fn put_each(
     ensures puts { PutsSo result out.old.items out.new.items (members (λ before. line) None (lines_from (packings_of kept.now) tree.now.windows kept.now)) }
     ensures legal { OnOk result (AllByRecursion line.Legal (lines_from (packings_of kept.now) tree.now.windows kept.now)) }
 {
+    let packed = packed_by_number(alloc, kept)?;
     for index in 0..kept.len() {
         let Some(window) = tree.nth(index) else {
             unreachable!()
@@ -155,7 +176,7 @@ fn put_each(
         let Some(one) = kept.get(index) else {
             unreachable!()
         };
-        let packing = packed_as(kept, window.id);
+        let packing = packed.get(&window.id.number()).copied();
         put_line(alloc, out, &window, one, packing)?;
     }
     Ok(())

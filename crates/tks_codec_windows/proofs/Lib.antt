@@ -5,3 +5,4 @@ pub mod OfWidgets
 pub mod OfLines
 pub mod OfPlaces
 pub mod Sizes
+mod ByNumber

@@ -1,7 +1,9 @@
 -- The places of windows, as bytes tell them (this project's own format): the number of each, its path and class, what is packed
 -- in it, and how it is packed itself. The tree and what is packed in each window are made of them again.
 use Rattle.std.specs.Prelude.{◌≡◌, ℕ, Bool, true, false, ◌&&◌, ◌==◌, not, is_some, if◌then◌else◌, List, [], ◌∷◌, map, length, Option, Some, None, Result, Ok, Err}
+use Rattle.std.specs.BTreeMap.{BTreeMap, get}
 use Rattle.std.specs.List.{AllByRecursion, list_all}
+use Rattle.std.specs.Ordering.{nat_cmp}
 use Rattle.tks_text.specs.Text.{same_text}
 use Rattle.tks_opt.specs.Numbers.{anchor_number}
 use Rattle.tks_tree.specs.Path.{root_path}
@@ -105,6 +107,17 @@ packed_in places p = record { contents = map (content_of places) p.contents; pro
 
 abbrev pub packings_in : List Place → List Packed
 packings_in places = map (packed_in places) places
+
+-- a map has how each window is packed, as the places say
+abbrev pub Says : BTreeMap ℕ Settings → List Place → Type 0
+Says settings places = (n : ℕ) → or_default (get nat_cmp settings n) ≡ settings_of places n
+
+-- what is packed in the window of a place, each as a map has it
+abbrev pub content_by : BTreeMap ℕ Settings → ℕ → Content
+content_by settings window = record { window = window; settings = or_default (get nat_cmp settings window) }
+
+abbrev pub packed_by : BTreeMap ℕ Settings → Place → Packed
+packed_by settings p = record { contents = map (content_by settings) p.contents; propagates = p.propagates }
 
 -- ---- both
 

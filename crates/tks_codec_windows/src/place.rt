@@ -1,9 +1,8 @@
 //! Where windows stand, and how they are packed.
 ghost use Rattle.std.specs.Prelude.{◌≡◌};
-ghost use Rattle.tks_codec_windows.specs.Places.{settings_in, same_paddings, same_settings, same_packing};
+ghost use Rattle.tks_codec_windows.specs.Places.{same_paddings, same_settings, same_packing};
 
-use tks_pack::{Content, Settings};
-use tks_share::Items;
+use tks_pack::Settings;
 use tks_text::{Class, Seq, Txt};
 use tks_tree::WindowId;
 
@@ -19,18 +18,6 @@ pub struct Place {
     pub contents: Seq<u64>,
     /// How it is packed, if it is.
     pub packing: Option<Settings>,
-}
-
-/// How a window is packed among contents, if it is.
-pub fn settings_in(contents: Items<'_, Content>, window: WindowId) -> Option<Settings>
-    ensures { result ≡ settings_in contents.entry window }
-{
-    for content in contents {
-        if content.window == window {
-            return Some(content.settings);
-        }
-    }
-    None
 }
 
 // Whether paddings are alike.

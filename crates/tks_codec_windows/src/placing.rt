@@ -2,10 +2,12 @@
 ghost use Rattle.std.specs.Prelude.{◌≡◌, true, map, if◌then◌else◌, Some, None, option_map, IfOk};
 ghost use Rattle.tks_tree.specs.WellFormed.{is_widget_class};
 ghost use Rattle.tks_codec_windows.specs.Places as kinds;
-ghost use Rattle.tks_codec_windows.specs.Places.{with_number, with_place, with_places, is_first, tree_of, settings_of, content_of, packed_in, packings_in, packed_as, are_packed};
+ghost use Rattle.tks_codec_windows.specs.Places.{with_number, with_place, with_places, is_first, tree_of, packed_by, packings_in, are_packed};
 
-use crate::place::{Place, same_packing, settings_in};
+use crate::packed::{packed_by_number, settings_by_number};
+use crate::place::{Place, same_packing};
 use std::alloc::{AllocError, Global};
+use std::collections::BTreeMap;
 use tks_pack::{Content, Packing, Settings};
 use tks_tree::{CreateFault, Tree, WindowId, is_widget_class};
 
@@ -73,28 +75,19 @@ fn tree_of(alloc: Global, next: u64, places: &[Place]) -> Result<Option<Tree>, A
     }
 }
 
-// How the place of a window says that it is packed.
-fn settings_of(places: &[Place], window: WindowId) -> Settings
-    ensures { result ≡ settings_of places.now window }
+// What is packed in the window of a place, each as the settings say.
+fn packed_in(
+    alloc: Global,
+    settings: &BTreeMap<u64, Settings>,
+    place: &Place,
+) -> Result<Packing, AllocError>
+    ensures { IfOk result (λ p. p ≡ packed_by settings.now place.now) }
 {
-    for place in places {
-        if place.window == window {
-            return place.packing.unwrap_or(Settings::new());
-        }
-    }
-    Settings::new()
-}
-
-// What is packed in the window of a place.
-fn packed_in(alloc: Global, places: &[Place], place: &Place) -> Result<Packing, AllocError>
-    ensures { IfOk result (λ p. p ≡ packed_in places.now place.now) }
-{
-    let mut contents = Vec::new(alloc);
+    let mut contents = Vec::with_capacity(alloc, place.contents.len())?;
     for number in place.contents.as_slice() {
-        let window = WindowId::of(*number);
         contents.push(Content {
-            window,
-            settings: settings_of(places, window),
+            window: WindowId::of(*number),
+            settings: settings.get(number).copied().unwrap_or(Settings::new()),
         })?;
     }
     Packing::restore(alloc, contents, place.propagates)
@@ -104,41 +97,31 @@ fn packed_in(alloc: Global, places: &[Place], place: &Place) -> Result<Packing, 
 fn packings_in(alloc: Global, places: &[Place]) -> Result<Vec<Packing>, AllocError>
     ensures { IfOk result (λ ps. ps.items ≡ packings_in places.now) }
 {
+    let settings = settings_by_number(alloc, places)?;
     let mut packings = Vec::with_capacity(alloc, places.len())?;
     for place in places {
-        packings.push(packed_in(alloc, places, place)?)?;
+        packings.push(packed_in(alloc, &settings, place)?)?;
     }
     Ok(packings)
 }
 
-// How a window is packed in the first that it is packed in, if it is.
-fn packed_as(packings: &[Packing], window: WindowId) -> Option<Settings>
-    ensures { result ≡ packed_as packings.now window }
-{
-    for packing in packings {
-        let settings = settings_in(packing.contents(), window);
-        if settings.is_some() {
-            return settings;
-        }
-    }
-    None
-}
-
 // Whether each window is packed as its place says.
-fn are_packed(packings: &[Packing], places: &[Place]) -> bool
-    ensures { result ≡ are_packed packings.now places.now }
+fn are_packed(alloc: Global, packings: &[Packing], places: &[Place]) -> Result<bool, AllocError>
+    ensures { IfOk result (λ are. are ≡ are_packed packings.now places.now) }
 {
+    let packed = packed_by_number(alloc, packings)?;
     for place in places {
-        if !same_packing(packed_as(packings, place.window), place.packing) {
-            return false;
+        let found = packed.get(&place.window.number()).copied();
+        if !same_packing(found, place.packing) {
+            return Ok(false);
         }
     }
-    true
+    Ok(true)
 }
 
 /// The tree of windows with these places, where the next window gets this number, and what is packed in each of its windows;
 /// none where these are no places of windows. That what is packed in a window are windows that are there, and stand right in
-/// it, is not asked here. Each place is looked for among all, so that this takes time in the square of their number.
+/// it, is not asked here.
 pub fn placed(
     alloc: Global,
     places: &[Place],
@@ -150,7 +133,7 @@ pub fn placed(
         return Ok(None);
     };
     let packings = packings_in(alloc, places)?;
-    if !are_packed(&packings, places) {
+    if !are_packed(alloc, &packings, places)? {
         return Ok(None);
     }
     Ok(Some((tree, packings)))

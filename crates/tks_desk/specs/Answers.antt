@@ -73,17 +73,21 @@ faults_told (text ∷ texts) = fault_told text ++ faults_told texts
 abbrev pub faults_lines : List (List ℕ) → List ℕ
 faults_lines texts = flattened (faults_told texts ∷ codes "end\n" ∷ [])
 
+-- a line with a number behind this front of it
+abbrev pub count_line : List ℕ → ℕ → List ℕ
+count_line front count = flattened (front ∷ decimal count ∷ codes "\n" ∷ [])
+
 -- so many inputs are acknowledged
 abbrev pub committed_line : ℕ → List ℕ
-committed_line count = flattened (codes "committed " ∷ decimal count ∷ codes "\n" ∷ [])
+committed_line count = count_line (codes "committed ") count
 
 -- so many inputs are acknowledged, by a checkpoint
 abbrev pub checkpointed_line : ℕ → List ℕ
-checkpointed_line count = flattened (codes "checkpointed " ∷ decimal count ∷ codes "\n" ∷ [])
+checkpointed_line count = count_line (codes "checkpointed ") count
 
 -- so many turns were run
 abbrev pub drained_line : ℕ → List ℕ
-drained_line n = flattened (codes "drained " ∷ decimal n ∷ codes "\n" ∷ [])
+drained_line n = count_line (codes "drained ") n
 
 -- what is told of the refusal that ended turns: nothing, where nothing was to be done
 abbrev pub turn_refused : Refused → List ℕ

@@ -1,7 +1,7 @@
 //! The answers to lines, as text.
 ghost use Rattle.std.specs.Prelude.{◌≡◌, codes, decimal};
 ghost use Rattle.tks_desk.specs.Writing.{WritesSo};
-ghost use Rattle.tks_desk.specs.Answers.{after_space, checkpointed_line, committed_line, drain_ended, drained_line, fault_told, faults_lines, faults_told, refusal_line, refusal_name, reply_line, row_line, rows_lines, turn_refused, verdict};
+ghost use Rattle.tks_desk.specs.Answers.{after_space, count_line, drain_ended, fault_told, faults_lines, faults_told, refusal_line, refusal_name, reply_line, row_line, rows_lines, turn_refused, verdict};
 ghost use Rattle.tks_desk.specs.Draining.{WritesOn};
 
 use crate::ending::RunFault;
@@ -37,21 +37,11 @@ fn put_after_space<W: Write>(writer: &mut W, text: &[u8]) -> Result<(), RunFault
 }
 
 #[tactic(auto, using(crate::proofs::Writes::flattened_writes))]
-/// Writes the line of a commit by which so many inputs are acknowledged.
-pub fn put_committed<W: Write>(writer: &mut W, count: u64) -> Result<(), RunFault>
-    ensures { WritesSo result (W.contents writer.old) (W.contents writer.new) (committed_line count) }
+/// Writes a line that ends in a number, behind this front of it.
+pub fn put_count<W: Write>(writer: &mut W, front: &[u8], count: u64) -> Result<(), RunFault>
+    ensures { WritesSo result (W.contents writer.old) (W.contents writer.new) (count_line front.now count) }
 {
-    put(writer, b"committed ")?;
-    put_number(writer, count)?;
-    put_last(writer, b"\n")
-}
-
-#[tactic(auto, using(crate::proofs::Writes::flattened_writes))]
-/// Writes the line of a checkpoint by which so many inputs are acknowledged.
-pub fn put_checkpointed<W: Write>(writer: &mut W, count: u64) -> Result<(), RunFault>
-    ensures { WritesSo result (W.contents writer.old) (W.contents writer.new) (checkpointed_line count) }
-{
-    put(writer, b"checkpointed ")?;
+    put(writer, front)?;
     put_number(writer, count)?;
     put_last(writer, b"\n")
 }
@@ -92,10 +82,10 @@ fn put_drain_ended<W: Write>(
     ensures { WritesSo result (W.contents writer.old) (W.contents writer.new) (drain_ended why done) }
 {
     let Some(why) = why else {
-        return put_drained(writer, done);
+        return put_count(writer, b"drained ", done);
     };
     put_turn_refused(writer, why)?;
-    put_drained(writer, done)
+    put_count(writer, b"drained ", done)
 }
 
 // Writes the line of a refusal that ended turns, where something was to be done.
@@ -106,16 +96,6 @@ fn put_turn_refused<W: Write>(writer: &mut W, why: Refused) -> Result<(), RunFau
         Refused::Quiet => put(writer, b""),
         _ => put_refusal(writer, why),
     }
-}
-
-#[tactic(auto, using(crate::proofs::Writes::flattened_writes))]
-// Writes how many turns were run.
-fn put_drained<W: Write>(writer: &mut W, done: u64) -> Result<(), RunFault>
-    ensures { WritesSo result (W.contents writer.old) (W.contents writer.new) (drained_line done) }
-{
-    put(writer, b"drained ")?;
-    put_number(writer, done)?;
-    put_last(writer, b"\n")
 }
 
 // Writes a number in decimal.

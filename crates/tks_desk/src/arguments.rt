@@ -1,5 +1,6 @@
 //! The words that the program is started with.
 
+use clap::builder::ValueParser;
 use clap::error::ErrorKind;
 use clap::{Arg, ArgMatches, Command, Error, value_parser};
 use std::alloc::{AllocError, Global};
@@ -14,6 +15,9 @@ const BAD_USE: u8 = 2;
 
 /// The status for want of memory.
 const NO_MEMORY: u8 = 5;
+
+/// What `--version` tells.
+const VERSION: &str = "0.1.0";
 
 /// What `--help` ends with.
 const LINES: &str = "
@@ -112,8 +116,10 @@ fn desk_command<'a>(alloc: Global) -> Result<Command<'a>, AllocError> {
         .long("store")
         .value_name("PATH")
         .help("Where the state is kept: in the files PATH.a and PATH.b")
+        .value_parser(ValueParser::NonEmptyString)
         .required(true);
     Command::new(alloc, "desk")
+        .version(VERSION)
         .about("A headless Tk session that keeps its state: reads lines and answers them")
         .arg(store)?
         .arg(width)?

@@ -9,8 +9,7 @@ ghost use Rattle.tks_desk.specs.Reading.{ReadsAtMost, Pays, unread};
 ghost use Rattle.tks_desk.specs.Running.{Rests, Runs};
 
 use crate::answer::{
-    end_drain, put_checkpointed, put_committed, put_faults, put_refusal, put_reply, put_screen,
-    tell_reply,
+    end_drain, put_count, put_faults, put_refusal, put_reply, put_screen, tell_reply,
 };
 use crate::ending::{RunEnd, RunFault};
 use crate::loading::Intake;
@@ -159,7 +158,7 @@ fn answer_commit<D: Disk, T: AppMeaning, B: AppBody, W: Write>(
 {
     session.stands();
     match session.commit() {
-        Ok(count) => put_committed(writer, count),
+        Ok(count) => put_count(writer, b"committed ", count),
         Err(fault) => Err(RunFault::Session(fault)),
     }
 }
@@ -174,7 +173,7 @@ fn answer_checkpoint<D: Disk, T: AppMeaning, B: AppBody, W: Write>(
 {
     session.stands();
     match session.checkpoint() {
-        Ok(count) => put_checkpointed(writer, count),
+        Ok(count) => put_count(writer, b"checkpointed ", count),
         Err(fault) => answer_fault(writer, fault),
     }
 }

@@ -1,24 +1,23 @@
 //! A disk of two real files.
-ghost use Rattle.std.specs.Prelude.{◌≡◌, length, IfOk};
+ghost use Rattle.std.specs.Prelude.{◌≡◌, length, IfOk, IsErr, MatchResult, Ok};
 ghost use Rattle.tks_disk.specs.DiskModel.{Counts};
 
-use crate::file::device;
 use crate::trail::Trail;
 use crate::{DeviceFault, Disk, Side, file};
 use std::alloc::{AllocError, Global};
-use std::fs;
 use std::fs::{Files, OpenFile, OpenOptions};
 use std::io::{ErrorKind, Read, Seek, Write};
 use std::marker::Model;
 use std::path::Path;
+use std::{fs, io};
 use thiserror::Error;
 
 /// Why the files of a disk weren't opened.
-#[derive(Clone, Copy, Debug, PartialEq, Eq, Error)]
+#[derive(Clone, Copy, Debug, Error)]
 pub enum FileDiskFault {
-    /// The system refused a call.
-    #[error("the device failed")]
-    Device,
+    /// The system refused a call, with this error.
+    #[error("the device failed: {0}")]
+    Device(io::Error),
     /// An allocation was refused.
     #[error("out of memory")]
     NoMemory,
@@ -35,14 +34,14 @@ impl From<AllocError> for FileDiskFault {
     }
 }
 
-impl From<DeviceFault> for FileDiskFault {
+impl From<io::Error> for FileDiskFault {
     ghost use Rattle.std.specs.Prelude.{◌≡◌};
     ghost use Rattle.tks_disk.specs.declared.file_disk.FileDiskFault.TheVariants.{Device};
 
-    ghost from_gives = { λ _ e. e ≡ Device };
+    ghost from_gives = { λ error e. e ≡ Device error };
 
-    fn from(_e: DeviceFault) -> FileDiskFault {
-        FileDiskFault::Device
+    fn from(error: io::Error) -> FileDiskFault {
+        FileDiskFault::Device(error)
     }
 }
 
@@ -56,6 +55,8 @@ pub struct FileDisk<F> {
     b: F,
     /// One for each call that failed. Only clauses read it.
     failed: Trail<()>,
+    /// With what the system refused the last of them.
+    refusal: Option<io::Error>,
 }
 
 // Written out, so that to let go of it is one step for whoever owns it.
@@ -65,6 +66,7 @@ impl<F: Drop> Drop for FileDisk<F> {
             a: _,
             b: _,
             failed: _,
+            refusal: _,
         } = self;
     }
 }
@@ -86,44 +88,52 @@ fn side_path(alloc: Global, path: &str, ending: &str) -> Result<String, AllocErr
 }
 
 /// Opens the file for reading and writing, and makes it where it is missing.
-fn open_side<R: Files>(rt: &R, path: &str) -> Result<R::File, DeviceFault> {
+fn open_side<R: Files>(rt: &R, path: &str) -> io::Result<R::File> {
     let mut options = OpenOptions::new();
     options.read(true).write(true);
     match options.open(rt, path) {
         Err(e) if e.kind() == ErrorKind::NotFound => {
             options.create(true);
-            device(options.open(rt, path))
+            options.open(rt, path)
         }
-        answer => device(answer),
+        answer => answer,
     }
 }
 
 /// Makes sure of the entries of the folder that the file lies in.
-fn sync_folder_of<R: Files>(rt: &R, path: &str) -> Result<(), DeviceFault> {
+fn sync_folder_of<R: Files>(rt: &R, path: &str) -> io::Result<()> {
     let folder = match Path::new(path).parent() {
         Some(folder) if !folder.as_os_str().is_empty() => folder,
         _ => Path::new("."),
     };
-    let folder = device(fs::open(rt, folder))?;
-    device(folder.sync_all())
+    let folder = fs::open(rt, folder)?;
+    folder.sync_all()
 }
 
-/// The answer, counted where it is a failure.
-fn counted<T>(answer: Result<T, DeviceFault>, failed: &mut Trail<()>) -> Result<T, DeviceFault>
-    ensures same { result ≡ answer }
+/// The answer, counted and kept where the system refused.
+fn counted<T>(
+    answer: io::Result<T>,
+    failed: &mut Trail<()>,
+    refusal: &mut Option<io::Error>,
+) -> Result<T, DeviceFault>
+    ensures same { MatchResult answer (λ value. result ≡ Ok value) (λ _. IsErr result) }
     ensures counts { Counts result (length failed.old) (length failed.new) }
 {
-    if answer.is_err() {
-        *failed = failed.and(&());
+    match answer {
+        Ok(value) => Ok(value),
+        Err(error) => {
+            *failed = failed.and(&());
+            *refusal = Some(error);
+            Err(DeviceFault)
+        }
     }
-    answer
 }
 
 impl<F: Read + Write + Seek + OpenFile + Drop> FileDisk<F> {
     /// Opens the files `PATH.a` and `PATH.b`, and makes those that are missing. What they hold stays.
     ///
     /// Where a file is empty, the folder is synced too: the file may have been made just now, or by a run that was stopped
-    /// before it could make sure of that. A refusal of the system is `Device`; the path's two names take memory.
+    /// before it could make sure of that. A refusal of the system is `Device`, with its error; the path's two names take memory.
     pub fn open<R: Files<File = F>>(
         rt: &R,
         alloc: Global,
@@ -142,7 +152,15 @@ impl<F: Read + Write + Seek + OpenFile + Drop> FileDisk<F> {
             a,
             b,
             failed: Trail::new(),
+            refusal: None,
         })
+    }
+}
+
+impl<F> FileDisk<F> {
+    /// With what the system refused the last call that failed, if one did.
+    pub fn refusal(&self) -> Option<io::Error> {
+        self.refusal
     }
 }
 
@@ -160,7 +178,7 @@ impl<F: Read + Write + Seek + OpenFile> Disk for FileDisk<F> {
             Side::A => file::length(&self.a),
             Side::B => file::length(&self.b),
         };
-        counted(answer, &mut self.failed)
+        counted(answer, &mut self.failed, &mut self.refusal)
     }
 
     fn read_at(&mut self, side: Side, at: usize, buf: &mut [u8]) -> Result<usize, DeviceFault> {
@@ -168,7 +186,7 @@ impl<F: Read + Write + Seek + OpenFile> Disk for FileDisk<F> {
             Side::A => file::read_at(&mut self.a, at, buf),
             Side::B => file::read_at(&mut self.b, at, buf),
         };
-        counted(answer, &mut self.failed)
+        counted(answer, &mut self.failed, &mut self.refusal)
     }
 
     fn write_at(&mut self, side: Side, at: usize, bytes: &[u8]) -> Result<(), DeviceFault> {
@@ -176,15 +194,15 @@ impl<F: Read + Write + Seek + OpenFile> Disk for FileDisk<F> {
             Side::A => file::write_at(&mut self.a, at, bytes),
             Side::B => file::write_at(&mut self.b, at, bytes),
         };
-        counted(answer, &mut self.failed)
+        counted(answer, &mut self.failed, &mut self.refusal)
     }
 
     fn sync(&mut self, side: Side) -> Result<(), DeviceFault> {
         let answer = match side {
-            Side::A => device(self.a.sync_data()),
-            Side::B => device(self.b.sync_data()),
+            Side::A => self.a.sync_data(),
+            Side::B => self.b.sync_data(),
         };
-        counted(answer, &mut self.failed)
+        counted(answer, &mut self.failed, &mut self.refusal)
     }
 
     ghost reads_may_stay = { λ d h. absurd h };

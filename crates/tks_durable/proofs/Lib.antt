@@ -6,5 +6,6 @@ pub mod Runs
 mod Starts
 pub mod Crashes
 pub mod Lives
+pub mod OfCalls
 pub mod Drains
 pub mod Checkpoints

@@ -1,3 +1,4 @@
+pub mod Calls
 pub mod Crash
 pub mod Inputs
 pub mod Lives

@@ -16,9 +16,6 @@ use std::alloc::Global;
 use tks_journal::spell;
 use tks_spelling::Header;
 
-/// The most bytes that a state on a side may have.
-const MAX_WORLD: usize = 1 << 40;
-
 /// What a side holds that is begun: its header, that header's bytes, and those of a state.
 #[derive(Drop)]
 pub struct NewSide {
@@ -44,11 +41,11 @@ pub fn new_side<M: Machine>(
     ensures fault { IfErr result (SideFails (M.meaning machine.now) world.now) }
 {
     let _ = machine.is_within(world);
-    let bytes = machine.bytes(alloc, world)?;
-    if bytes.len() > MAX_WORLD {
+    let Some(world_length) = machine.length(world) else {
         return Err(SessionFault::TooLarge);
-    }
-    let header = machine.header(alloc, generation, bytes.len() as u64)?;
+    };
+    let bytes = machine.bytes(alloc, world)?;
+    let header = machine.header(alloc, generation, world_length)?;
     let head = spell(alloc, &header)?;
     Ok(NewSide {
         header,

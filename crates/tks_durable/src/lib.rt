@@ -1,6 +1,7 @@
 //! A machine that is durable on a disk: what a power cut leaves.
 #![tactic(auto)]
 
+mod calls;
 mod draining;
 mod durable;
 mod fault;
@@ -11,6 +12,7 @@ mod open;
 mod replay;
 mod restore;
 
+pub use calls::{Call, make_calls};
 pub use draining::Drained;
 pub use durable::Durable;
 pub use fault::SessionFault;

@@ -1,6 +1,7 @@
 //! What is made durable: a machine.
 ghost use Rattle.std.specs.Prelude.{◌≡◌, ◌<◌, ◌+◌, ◌^◌, List, ℕ, length, true, IfOk, IfErr, IfSome, OnOk, OnErr, Some};
 ghost use Rattle.tks_spelling.specs.Header.{AreNames, header};
+ghost use Rattle.tks_spelling.specs.Lengths.{within_side};
 ghost use Rattle.tks_spelling.specs.declared.header.Header.{Header};
 ghost use Rattle.tks_durable.specs.Machine.{Meaning, accepts};
 ghost use Rattle.tks_durable.specs.Opening.{same_grid, same_names};
@@ -49,6 +50,10 @@ pub trait Machine {
         ensures value { IfOk result (λ bytes. bytes.items ≡ (meaning self.now).bytes world.now) }
         ensures stored { IfOk result (λ bytes. (meaning self.now).own world.now ≡ true
             → (h : Header) → h.grid ≡ (meaning self.now).grid → h.names ≡ (meaning self.now).names → (meaning self.now).stored h bytes.items ≡ Some world.now) };
+
+    /// How many bytes spell a state, and none where these are more than 2^40. It takes no memory.
+    fn length(&self, world: &Self::World) -> Option<u64>
+        ensures value { result ≡ within_side (length ((meaning self.now).bytes world.now)) };
 
     /// The header of a side of this generation, behind which a world of so many bytes stands. It has a spelling, of fewer than
     /// 2^40 bytes.

@@ -5,3 +5,4 @@ mod Names
 mod Stored
 pub mod Steps
 pub mod Lengths
+pub mod AnyCalls

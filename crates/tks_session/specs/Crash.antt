@@ -1,13 +1,15 @@
 -- What a store opens to, and what a crash leaves of a session, in the words of steps.
-use Rattle.std.specs.Prelude.{◌≡◌, ◌<◌, ℕ, List, [], ◌∷◌, ◌++◌, Result, Ok, true}
+use Rattle.std.specs.Prelude.{◌≡◌, ◌<◌, ◌≤◌, ℕ, ◌+◌, List, [], ◌∷◌, ◌++◌, length, Result, Ok, true}
 use Rattle.tks_text.specs.declared.limits.Limits.{Limits}
 use Rattle.tks_disk.specs.DiskModel.{Images, View}
 use Rattle.tks_input.specs.declared.input.Input.{Input}
 use Rattle.tks_input.specs.declared.reply.Reply.{Reply}
 use Rattle.tks_app.specs.Applications.{Application}
+use Rattle.tks_durable.specs.Calls as calls
 use Rattle.tks_durable.specs.Crash as durable
 use Rattle.tks_durable.specs.Lives as lives
 use Rattle.tks_durable.specs.Opening as opening
+use Rattle.tks_durable.specs.declared.calls.Call.{Call}
 use Rattle.tks_durable.specs.declared.fault.SessionFault.{SessionFault}
 use Rattle.tks_state.specs.World.{World}
 use Rattle.tks_world.specs.Step.{Accepts, step}
@@ -79,3 +81,16 @@ LeavesPrefixes setting view = lives.LeavesPrefixes (terminal_in setting) view
 -- From one state to the other, while no call failed, these inputs were accepted.
 abbrev pub Lives : {D : Type 0} → Setting → (D → View) → SessionState D → SessionState D → List Input → Type 0
 Lives setting view = lives.Lives (terminal_in setting) view
+
+-- Calls were made, one after the other, up to the first that failed: what they accepted, and what a crash leaves of them.
+abbrev pub Makes : {D : Type 0} → Setting → (D → ℕ) → (D → View) → List Call → SessionState D → SessionState D → Result (Unit {0}) SessionFault → Type 0
+Makes setting failures view = calls.Makes (terminal_in setting) failures view
+
+-- This world is what a prefix of the accepted inputs leads to from the first one, each accepted whole, a prefix that holds every
+-- acknowledged input.
+pub record HoldsAcknowledged (setting : Setting) (start : World) (accepted : List Input) (acknowledged : ℕ) (world : World) : Type 0 where
+  pub prefix : List Input
+  pub others : List Input
+  pub parts : accepted ≡ prefix ++ others
+  pub leads : Leads setting.app setting.limits start prefix world
+  pub holds : acknowledged ≤ start.accepted + length prefix

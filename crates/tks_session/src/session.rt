@@ -8,7 +8,7 @@ ghost use Rattle.tks_durable.specs.Durable.{CheckpointFails, CommitFails, checkp
 ghost use Rattle.tks_durable.specs.Machine.{header_of};
 ghost use Rattle.tks_durable.specs.declared.fault.SessionFault.TheVariants.{Disk as DeviceFailed};
 ghost use Rattle.tks_world.specs.Step.{Accepts, step};
-ghost use Rattle.tks_session.specs.Crash.{AllOpenTo, LeadsOn, OpenFails, OpensAsOneOf, OpensToCount, OpensToPrefix, Stands, opens};
+ghost use Rattle.tks_session.specs.Crash.{AllOpenTo, LeadsOn, Makes, OpenFails, OpensAsOneOf, OpensToCount, OpensToPrefix, Stands, opens};
 ghost use Rattle.tks_session.specs.Draining.{DrainsSo};
 ghost use Rattle.tks_session.specs.Refusing.{PostRefused};
 ghost use Rattle.tks_session.specs.Sessions.{IsFresh, setting, setting_of, terminal_in};
@@ -20,7 +20,7 @@ use std::alloc::Global;
 use std::marker::Model;
 use tks_app::{AppBody, AppClosure, AppMeaning, Apps};
 use tks_disk::Disk;
-use tks_durable::{Drained, Durable, SessionFault};
+use tks_durable::{Call, Drained, Durable, SessionFault, make_calls};
 use tks_input::{Input, Refused, Reply};
 use tks_state::World;
 use tks_text::{Limits, Size};
@@ -205,6 +205,17 @@ impl<D: Disk, T: AppMeaning, B: AppBody> Session<D, T, B> {
         ensures honesty { D.honest self.old.journal.disk ↔ D.honest self.new.journal.disk }
     {
         self.durable.commit()
+    }
+
+    // Calls one after the other.
+    pub(crate) fn make_calls(&mut self, calls: &[Call]) -> Result<(), SessionFault>
+        ensures machine { self.new.machine ≡ self.old.machine }
+        ensures working { OnOk result (self.new.journal.failed ≡ self.old.journal.failed) }
+        ensures honesty { D.honest self.old.journal.disk ↔ D.honest self.new.journal.disk }
+        ensures makes { self.old.journal.failed ≡ false → D.honest self.old.journal.disk
+            → Makes (setting_of T.meaning self.old.machine) D.failures D.view calls.now self.old self.new result }
+    {
+        make_calls(&mut self.durable, calls)
     }
 
     /// Begins the other side of the disk with the world, which is live then, with no frame behind it; and answers how many inputs

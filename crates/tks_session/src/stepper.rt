@@ -8,7 +8,7 @@ ghost use Rattle.tks_session.specs.Terminals.{is_stored, names_of, spelled, term
 
 use std::alloc::{AllocError, Global};
 use tks_app::{AppBody, AppClosure, AppCommand, AppMeaning, Apps, Memories};
-use tks_codec::{read_world, write_world};
+use tks_codec::{read_world, world_length, write_world};
 use tks_durable::Machine;
 use tks_input::{Input, Refused, Reply};
 use tks_limits::is_within;
@@ -130,6 +130,11 @@ impl<T: AppMeaning, B: AppBody> Machine for Stepper<T, B> {
             Err(CodecFault::Bad(_)) => Ok(None),
             Err(CodecFault::NoMemory) => Err(AllocError),
         }
+    }
+
+    #[tactic(auto, unfolding(crate::specs::Terminals::spelled))]
+    fn length(&self, world: &World) -> Option<u64> {
+        world_length(world)
     }
 
     #[tactic(auto, using(crate::proofs::Names::header_names, crate::proofs::Names::header_texts))]

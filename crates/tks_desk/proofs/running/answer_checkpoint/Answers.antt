@@ -11,8 +11,8 @@ returns-in-Ok g c =
     let ok = c.in-Ok.ensures.ok in
     committed_written g.T.AppMeaning.meaning g.D.Disk.honest g.D.Disk.view g.D.Disk.failures old new (ap (λ s. s.machine) ok.2) c.checkpoint.ensures.honesty c.checkpoint.ensures.any_moment
     (ap (λ s. s.world) ok.2) (ap (λ s. s.waiting) ok.2) (record { as_before = ap (λ s. s.journal.failed) ok.2; steady = c.in-Ok.ensures.steady })
-    c.stands.ensures.world c.in-Ok.ensures.acknowledged g.met.D.Disk.reads_may_stay c.put_checkpointed.result _ _ _ _ c.put_checkpointed.ensures
-    (checkpoint_answered (setting_of g.T.AppMeaning.meaning old.machine) old new _ _ c.put_checkpointed.result c.in-Ok.count ok.1 ok.2 c.in-Ok.ensures.fits c.put_checkpointed.ensures)
+    c.stands.ensures.world c.in-Ok.ensures.acknowledged g.met.D.Disk.reads_may_stay c.put_count.result _ _ _ _ c.put_count.ensures
+    (checkpoint_answered (setting_of g.T.AppMeaning.meaning old.machine) old new _ _ c.put_count.result c.in-Ok.count ok.1 ok.2 c.in-Ok.ensures.fits c.put_count.ensures)
 
 pub returns-in-Err : goal.returns-in-Err
 returns-in-Err g c =
