@@ -1,13 +1,10 @@
 //! The windows.
-ghost use Rattle.std.specs.Prelude.{◌≡◌, ℕ, ◌++◌, [], ◌∷◌, length, map, None, option_map, IfOk, OnOk};
-ghost use Rattle.std.specs.BTreeMap.{get};
+ghost use Rattle.std.specs.Prelude.{◌≡◌, ◌++◌, [], ◌∷◌, length, map, None, option_map, IfOk, OnOk};
 ghost use Rattle.std.specs.List.{AllByRecursion};
-ghost use Rattle.std.specs.Ordering.{nat_cmp};
 ghost use Rattle.tks_spelling.specs.Spelling.{members};
 ghost use Rattle.tks_spelling.specs.Reading.{Gives};
 ghost use Rattle.tks_spelling.specs.Writing.{PutsSo};
 ghost use Rattle.tks_spelling.specs.Lengths.{counted};
-ghost use Rattle.tks_codec_windows.specs.Places.{or_else, settings_in};
 ghost use Rattle.tks_codec.specs.Line.{line};
 ghost use Rattle.tks_codec.specs.Windows as kinds;
 ghost use Rattle.tks_codec.specs.Windows.{packings_of, lines_from, packed_count, ArePacked, held_of, part_of, parts_from, windows_seen, windows_at};
@@ -17,9 +14,9 @@ ghost use Rattle.tks_state.specs.World.{windows_of};
 use crate::line::{Line, Lines, line_length, put_line};
 use std::alloc::{AllocError, Global};
 use std::collections::BTreeMap;
-use tks_codec_windows::{Place, placed};
-use tks_pack::{Content, Packing, Settings};
-use tks_share::{Items, SharedList};
+use tks_codec_windows::{Place, add_contents, placed};
+use tks_pack::{Packing, Settings};
+use tks_share::SharedList;
 use tks_spelling::writing::put_u32;
 use tks_spelling::{Unread, list_by};
 use tks_state::{Kept, Widget, WindowParts, World};
@@ -125,22 +122,6 @@ pub fn windows_of(alloc: Global, next: u64, bytes: &[u8]) -> Result<(WindowsRead
         Some(windows) => Ok((windows, rest)),
         None => Err(Unread::Left(rest.len() + 1)),
     }
-}
-
-// Adds how windows are packed in one, by their numbers, but for those that are there already.
-fn add_contents(
-    packed: &mut BTreeMap<u64, Settings>,
-    contents: Items<'_, Content>,
-) -> Result<(), AllocError>
-    ensures { OnOk result ((n : ℕ) → get nat_cmp packed.new n ≡ or_else (get nat_cmp packed.old n) (settings_in contents.entry n)) }
-{
-    for content in contents {
-        let number = content.window.number();
-        if !packed.contains_key(&number) {
-            packed.insert(number, content.settings)?;
-        }
-    }
-    Ok(())
 }
 
 // How each window that is packed is so, by its number.

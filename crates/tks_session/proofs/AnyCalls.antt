@@ -21,7 +21,7 @@ use Rattle.tks_durable.specs.declared.fault.SessionFault.{SessionFault}
 use Rattle.tks_durable.specs.declared.fault.SessionFault.TheVariants as fault
 use Rattle.tks_durable.proofs.Runs.{run_on}
 use Rattle.tks_state.specs.World.{World}
-use Rattle.tks_session.specs.Crash.{HoldsAcknowledged, Leads, LeavesPrefixes, Lives, OpensToCount, opens}
+use Rattle.tks_session.specs.Crash.{KeepsAcknowledged, Leads, LeavesPrefixes, Lives, OpensToCount, opens}
 use Rattle.tks_session.specs.Sessions.{Made, SessionState, Setting, seen_as, terminal_in}
 use Rattle.tks_session.proofs.Leads.{runs_lead}
 use Rattle.tks_session.proofs.Steps.{counted}
@@ -38,7 +38,7 @@ module _ {D : Type 0} (setting : Setting) (view : D → View) (start mid new : S
     (opened : opens setting (view start.journal.disk).reads ≡ Ok start.world) (none : start.waiting ≡ []) (lives : Lives setting view start mid first)
     (at : OpensToCount setting (view mid.journal.disk).reads mid.acknowledged) (leaves : LeavesPrefixes setting view mid new second)
     (left : (view new.journal.disk).left_since (view mid.journal.disk).clock images) (opens_so : opens setting images ≡ Ok world) where
-  pub holds : HoldsAcknowledged setting start.world (first ++ second) mid.acknowledged world
+  pub holds : KeepsAcknowledged setting start.world (first ++ second) mid.acknowledged world
   holds =
       let m = terminal_in setting in
       let some = leaves.each images left in

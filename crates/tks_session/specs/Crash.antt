@@ -88,7 +88,7 @@ Makes setting failures view = calls.Makes (terminal_in setting) failures view
 
 -- This world is what a prefix of the accepted inputs leads to from the first one, each accepted whole, a prefix that holds every
 -- acknowledged input.
-pub record HoldsAcknowledged (setting : Setting) (start : World) (accepted : List Input) (acknowledged : ℕ) (world : World) : Type 0 where
+pub record KeepsAcknowledged (setting : Setting) (start : World) (accepted : List Input) (acknowledged : ℕ) (world : World) : Type 0 where
   pub prefix : List Input
   pub others : List Input
   pub parts : accepted ≡ prefix ++ others

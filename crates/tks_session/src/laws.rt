@@ -9,7 +9,7 @@ ghost use Rattle.tks_input.specs.declared.input.Input.{Input};
 ghost use Rattle.tks_durable.specs.Crash as durable;
 ghost use Rattle.tks_durable.specs.Opening as opening;
 ghost use Rattle.tks_state.specs.World.{World};
-ghost use Rattle.tks_session.specs.Crash.{HoldsAcknowledged, LeadsBehind, LeadsByFirst, LeavesPrefixes, Lives, OpensToCount, opens};
+ghost use Rattle.tks_session.specs.Crash.{KeepsAcknowledged, LeadsBehind, LeadsByFirst, LeavesPrefixes, Lives, OpensToCount, opens};
 ghost use Rattle.tks_session.specs.Sessions.{SessionState, Setting};
 ghost use Rattle.tks_session.specs.Terminals.{terminal};
 
@@ -39,7 +39,7 @@ pub fn any_calls_keep_what_is_acknowledged<D: Disk>()
         → opens setting (D.view start.journal.disk).reads ≡ Ok start.world → start.waiting ≡ []
         → Lives setting D.view start mid first → OpensToCount setting (D.view mid.journal.disk).reads mid.acknowledged
         → LeavesPrefixes setting D.view mid new second → (D.view new.journal.disk).left_since (D.view mid.journal.disk).clock images
-        → opens setting images ≡ Ok world → HoldsAcknowledged setting start.world (first ++ second) mid.acknowledged world }
+        → opens setting images ≡ Ok world → KeepsAcknowledged setting start.world (first ++ second) mid.acknowledged world }
 {}
 
 /// What opening gives after a crash at any moment of a session's calls, a moment inside a write too: the windows, options,

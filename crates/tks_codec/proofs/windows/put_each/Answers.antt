@@ -5,6 +5,7 @@ use Rattle.std.proofs.lemmas.List.{take_all}
 use Rattle.std.proofs.lemmas.Option.{get_or_from_slice_get}
 use Rattle.std.proofs.lemmas.Result.{err_from_is_err_and}
 use Rattle.tks_tree.specs.View.{window_seen}
+use Rattle.tks_codec_windows.specs.Places.{packed_as}
 use Rattle.tks_spelling.specs.Spelling.{members}
 use Rattle.tks_spelling.proofs.Loop.{one_put, one_holds}
 use Rattle.tks_spelling.proofs.Puts.{put_refused}
@@ -27,7 +28,7 @@ put_line-requires c =
 
 pub returns-in_err-put_line-clause-puts : goal.returns-in_err-put_line-clause-puts
 returns-in_err-put_line-clause-puts c =
-    let p = err_from_is_err_and c.from_residual.result c.from_residual.ensures.1 in
+    let p = err_from_is_err_and c.from_residual-in_err-put_line.result c.from_residual-in_err-put_line.ensures.1 in
     let ks = c.args.kept.now in
     let xs = lines_from (packings_of ks) c.args.tree.now.windows ks in
     rw p.1 (put_refused c.args.out.now.items (members (λ before. line) None (take c.loop-index.index xs)) c.loop-index.out.items c.put_line.new.out.items c.loop-index.invariant.0 c.in_err-put_line.ensures.puts)
@@ -46,11 +47,12 @@ loop-index-preserved c =
     let new = c.put_line.new.out.items in
     let here : slice_get ws i ≡ Some w = search rules in
     let one : slice_get ks i ≡ Some k = search rules in
+    let packing : c.copied-packing.result ≡ packed_as ps w.number = search (rules, c.in_ok-packed.ensures w.number) in
     let before : i < length ks = omega (arith, c.loop-index-test.true) in
     let lt : i < length xs = omega (arith, lines_count ps ws ks c.requires, before) in
     let is = line_at_place ps ws ks i w k here (sym (get_or_from_slice_get ks i k k one)) before in (
-      one_put (λ before. line) xs i x c.args.out.now.items now new lt is c.loop-index.invariant.0 (subst (λ p. new ≡ now ++ line.write (line_with w k p)) c.packed_as-packing.ensures c.in_ok-put_line.ensures.puts),
-      one_holds line.Legal xs i x lt is c.loop-index.invariant.1 (subst (λ p. line.Legal (line_with w k p)) c.packed_as-packing.ensures c.in_ok-put_line.ensures.legal),
+      one_put (λ before. line) xs i x c.args.out.now.items now new lt is c.loop-index.invariant.0 (subst (λ p. new ≡ now ++ line.write (line_with w k p)) packing c.in_ok-put_line.ensures.puts),
+      one_holds line.Legal xs i x lt is c.loop-index.invariant.1 (subst (λ p. line.Legal (line_with w k p)) packing c.in_ok-put_line.ensures.legal),
     )
 
 pub returns-clause-puts : goal.returns-clause-puts
