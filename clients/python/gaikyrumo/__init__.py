@@ -5,10 +5,12 @@ long as the program runs.
 """
 from .answers import Answer
 from .batch import Run, requests_in, run, with_commits
+from .errors import error_in_words, refusal_in_words
 from .faults import (Ended, Fault, NotDone, SessionFault, StoreChanged, StoreInUse, StoreUnreachable, Unstartable)
 from .lock import StoreLock
 from .session import Session
 from .start import start
 
 __all__ = ['Answer', 'Ended', 'Fault', 'NotDone', 'Run', 'Session', 'SessionFault', 'StoreChanged', 'StoreInUse',
-           'StoreLock', 'StoreUnreachable', 'Unstartable', 'requests_in', 'run', 'start', 'with_commits']
+           'StoreLock', 'StoreUnreachable', 'Unstartable', 'error_in_words', 'refusal_in_words', 'requests_in', 'run',
+           'start', 'with_commits']

@@ -12,6 +12,8 @@ ROOM = 64
 MOST_TURNS = 10_000
 # What of the standard error of a program that ended is told: its last characters.
 SAID = 300
+# Seconds that it is waited for a program to end by the end of its input.
+PATIENCE = 5
 
 
 class Session:
@@ -67,7 +69,8 @@ class Session:
         return 0
 
     def close(self):
-        """Ends the program, without a commit, and gives its status; None where it was ended before."""
+        """Ends the program, without a commit, by the end of its input; one that goes on for 5 seconds is killed. Gives its
+        status; None where it was closed before."""
         if self.process is None:
             return None
         process, self.process = self.process, None
@@ -75,10 +78,13 @@ class Session:
             try:
                 stream.close()
             except OSError:
-                pass
-        code = process.wait()
+                pass  # What was not written yet is lost with the program.
+        try:
+            process.wait(PATIENCE)
+        except subprocess.TimeoutExpired:
+            process.kill()
         self.errors.close()
-        return code
+        return process.wait()
 
     def ended(self):
         """What the end of the program tells, as an exception."""

@@ -1,0 +1,1 @@
+"""The parts of tools/terminal, which runs a form in a terminal."""

@@ -1,0 +1,255 @@
+"""Takes what is typed and the clock to a session, and draws what comes of it."""
+import collections
+import time
+
+from gaikyrumo import Ended, NotDone, error_in_words, refusal_in_words
+
+from .refused_turn import find_refused, leave_out, paths_in
+
+# Seconds between two looks at the clock, and within which the rest of a key comes.
+PAUSE, REST = 0.2, 0.05
+# Turns that run before the screen is drawn, and inputs that may wait for a commit where nothing calls for one.
+TURNS, WAITING = 200, 40
+# What was typed and can't be given yet, at most.
+MOST_TYPED = 5000
+# Seconds before each start of a program that was killed or wanted memory. The first sends again what waited.
+DELAYS = (0, 1, 2, 4, 8)
+MOST_FAULTS = 3
+# Seconds that what is told stays at the least.
+TOLD = 3
+ASCII = 'a form takes the letters, digits and signs of ASCII'
+
+
+class Serving:
+    """A form that is served in a terminal. What is shown was committed before, unless `at_pauses`: then commits wait until
+    nothing is typed for a moment."""
+
+    def __init__(self, session, form, display, keyboard, clock, log, hint, at_pauses=False):
+        self.session, self.form, self.display, self.keyboard = session, form, display, keyboard
+        self.clock, self.log, self.hint, self.at_pauses = clock, log, hint, at_pauses
+        self.typed = collections.deque()
+        self.told, self.told_until = hint, 0
+        self.rows = None
+        self.focus = ''
+        self.faults, self.seen = [], []
+        self.refused, self.reason = None, ''
+        self.starts = 0
+        self.is_over = False
+
+    # ---- the loop
+
+    def run(self, first=()):
+        """Serves until the terminal's own key, a signal, or the end of the terminal; what was typed then is kept. `first` are
+        lines to give before what is typed. Raises the program's end where it can't be mended."""
+        if first:
+            self.typed.append(list(first))
+        try:
+            while not self.is_ended():
+                self.go_on()
+            self.finish()
+        except Ended as fault:
+            self.hold(fault)
+            raise
+
+    def finish(self):
+        """Keeps what was typed last."""
+        try:
+            self.work()
+        except Ended as fault:
+            self.mend(fault)
+            self.work()
+        self.session.commit()
+
+    def is_ended(self):
+        return self.is_over or self.display.ending.is_asked
+
+    def go_on(self):
+        """One round: what came is worked off and drawn, then a moment is waited for more."""
+        try:
+            self.work()
+            self.draw()
+        except Ended as fault:
+            self.mend(fault)
+        self.read(REST if self.keyboard.is_waiting() else PAUSE)
+
+    def work(self):
+        """Gives the clock and what was typed, runs what waits, and keeps it."""
+        is_typed = bool(self.typed)
+        self.session.clock(self.clock.now())
+        self.give()
+        has_run = self.drain()
+        self.keep(is_typed, has_run)
+        self.rows = self.screen()
+        self.faults = self.session.faults()
+        self.starts = 0
+
+    # ---- what is typed
+
+    def read(self, seconds):
+        """Takes what is typed within so many seconds."""
+        sent = self.display.typed(seconds)
+        if sent is None:
+            self.is_over = True
+            return
+        for typed in self.keyboard.read(sent, self.display.is_large_enough()):
+            self.take(typed)
+
+    def take(self, typed):
+        """Takes one thing that was typed."""
+        if typed.own == 'interrupt':
+            self.is_over = True
+        elif typed.own == 'away':
+            self.put_away()
+        elif typed.unknown:
+            self.tell('%s can\'t be typed: %s.' % (typed.unknown, ASCII))
+        elif typed.lines and len(self.typed) >= MOST_TYPED:
+            self.tell('Too much was typed that the form did not take: this key is not taken.')
+        elif typed.lines:
+            if time.monotonic() > self.told_until:
+                self.told = self.hint
+            self.typed.append(list(typed.lines))
+
+    def tell(self, text):
+        """Tells something below the form, with a sound; it stays until a key behind the next few seconds."""
+        self.told, self.told_until = text, time.monotonic() + TOLD
+        self.display.bell()
+
+    def give(self):
+        """Gives what was typed, as far as it is taken; the rest stays for the next round. Lines that belong together are
+        kept together, so that no key stays held where the program is killed between them."""
+        while self.typed:
+            lines = self.typed[0]
+            if not self.session.has_room(len(lines)):
+                self.session.commit()
+            while lines:
+                answer = self.session.line(lines[0])
+                if answer.is_refused('large') or answer.is_refused('memory'):
+                    self.told = 'What was typed waits: %s.' % refusal_in_words(answer.text)
+                    return
+                if not answer.is_accepted:
+                    self.tell('%s: %s.' % (lines[0], refusal_in_words(answer.text)))
+                lines.pop(0)
+            self.typed.popleft()
+
+    # ---- turns
+
+    def drain(self):
+        """Runs what waits; gives whether something ran."""
+        answers = self.session.drain(TURNS)
+        for answer in answers:
+            if answer.text.startswith('event FocusIn '):
+                self.focus = answer.text.split(' ')[2]
+        is_refused = bool(answers) and answers[-1].is_refused()
+        self.note_refused(answers[-1].text if is_refused else '')
+        return len(answers) > is_refused
+
+    def note_refused(self, reason):
+        """Notes why the next turn is refused, and finds out what it is."""
+        if reason == self.reason:
+            return
+        self.reason, self.refused = reason, None
+        if reason and reason != 'memory':
+            self.refused = find_refused(self.session, paths_in(self.form.script))
+            self.log.say('a turn is refused (%s): %s' % (reason, self.refused.what))
+            self.display.bell()
+
+    def put_away(self):
+        """Leaves out the turn that is refused; where none is, takes away the faults that are told."""
+        if self.refused and (self.refused.window or self.refused.id):
+            answer = leave_out(self.session, self.refused)
+            self.log.say('left out: %s (%s)' % (self.refused.what, answer))
+            self.tell('Left out: %s.' % self.refused.what)
+            self.reason, self.refused = '', None
+        elif self.new_faults():
+            self.seen = self.faults
+        else:
+            self.told = self.hint
+
+    # ---- what is kept and shown
+
+    def keep(self, is_typed, has_run):
+        """Commits what is about to be shown; with `at_pauses` what was shown, once nothing is typed."""
+        has_changed = self.session.waiting and (is_typed or has_run)
+        if self.at_pauses:
+            is_due = not is_typed and any(not request.startswith('clock ') for request in self.session.waiting)
+        else:
+            is_due = has_changed
+        if (is_due or len(self.session.waiting) > WAITING) and self.session.keep():
+            self.log.say('a checkpoint of %d inputs' % self.session.acknowledged)
+
+    def screen(self):
+        """The rows of the form, as they were where memory for them is wanting."""
+        try:
+            return self.session.screen()
+        except NotDone as fault:
+            self.told = str(fault)
+            return self.rows or []
+
+    def new_faults(self):
+        """The errors that came behind those that were put away."""
+        for place in range(len(self.seen) + 1):
+            if self.faults[:len(self.seen) - place] == self.seen[place:]:
+                return self.faults[len(self.seen) - place:]
+
+    def draw(self):
+        told = [self.told]
+        if self.reason:
+            told.append('A turn is refused: %s. %s' % (refusal_in_words(self.reason), self.way_past()))
+        faults = self.new_faults()
+        told += ['fault: ' + error_in_words(text) for text in faults[-MOST_FAULTS:]]
+        if faults and not self.reason:
+            told.append('Control-] puts the faults away.')
+        self.display.draw(self.rows, told, self.focus)
+
+    def way_past(self):
+        if self.reason == 'memory':
+            return 'It is tried again.'
+        if self.refused.window or self.refused.id:
+            return 'Control-] leaves it out: %s.' % self.refused.what
+        return 'It was not found out what it is: docs/OPERATION.md tells how to go on.'
+
+    # ---- a program that ended
+
+    def mend(self, fault):
+        """Starts the program again where it was killed or wanted memory; else raises its end. What it had accepted is sent
+        again once, in case that was what ended it."""
+        if not fault.may_start_again or self.starts == len(DELAYS):
+            raise fault
+        self.log.say('%s Starting it again.' % fault)
+        self.draw_alone('%s It is started again.' % fault)
+        self.wait(DELAYS[self.starts])
+        is_first = self.starts == 0
+        self.starts += 1
+        if self.is_ended() and not is_first:
+            raise fault
+        try:
+            lost = self.session.start_again(sends_again=is_first)
+        except Ended as again:
+            return self.mend(again)
+        self.reason = ''
+        if lost:
+            self.tell('The program ended twice over the last %d inputs: they were left out.' % lost)
+
+    def wait(self, seconds):
+        """Waits; what is typed meanwhile is taken later."""
+        while seconds > 0 and not self.is_ended():
+            self.read(PAUSE)
+            seconds -= PAUSE
+
+    def draw_alone(self, text):
+        """Draws the form as it was, and one thing that is told."""
+        if self.rows:
+            self.display.draw(self.rows, [text], self.focus)
+
+    def hold(self, fault):
+        """Where the program ended for good: says so, and takes no keys, until the terminal's own key or a signal."""
+        self.log.say(str(fault))
+        while not self.is_ended():
+            self.draw_alone('%s Nothing that is typed now is taken.' % fault)
+            sent = self.display.typed(PAUSE)
+            if sent is None:
+                return
+            for typed in self.keyboard.read(sent, False):
+                if typed.own == 'interrupt':
+                    return
+                self.display.bell()
