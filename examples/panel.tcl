@@ -1,6 +1,7 @@
 # The panel of a tank with a pump, on a grid of 40 by 12.
 #
-# The level falls by itself, and rises while the pump runs. F1 switches the pump, F2 acknowledges the alarm.
+# The level falls by itself, and rises while the pump runs. F1 switches the pump, F2 acknowledges the alarm. A sign stands
+# before what has the focus; Tab moves it, space presses.
 
 set seconds 0
 set level 40
@@ -24,7 +25,13 @@ frame .switches
 checkbutton .switches.pump -text "pump F1" -variable running -command pump
 button .switches.alarm -text "\[acknowledge F2\]" -command acknowledge -state disabled
 pack .switches
-pack .switches.pump .switches.alarm -side left -padx 1
+bind Signed <FocusIn> {set sign(%W) >}
+bind Signed <FocusOut> {set sign(%W) ""}
+foreach name {pump alarm} {
+    label .switches.sign_$name -textvariable sign(.switches.$name) -width 2
+    bindtags .switches.$name [concat [bindtags .switches.$name] Signed]
+    pack .switches.sign_$name .switches.$name -side left
+}
 
 label .light -textvariable light -width 20
 text .log -width 36 -height 4 -state disabled
