@@ -3,11 +3,8 @@
 A session is a list of scripts. Each event that is generated answers what its scripts noted. The search is the definition
 itself: it tries each event of the history for each pattern, and compares each two ways in which bindings are met.
 """
-import os
-import subprocess
-
-ROOT = os.path.dirname(os.path.dirname(os.path.realpath(__file__)))
-PROGRAM = os.path.join(ROOT, 'tools/fresh_desk')
+import proved  # It finds the client.
+from gaikyrumo import run, with_commits
 
 HISTORY = 32
 FAULTS = 32
@@ -444,11 +441,10 @@ class Draw:
         return self.rows
 
 
-def program_answers(scripts):
+def program_answers(program, scripts):
     """What the program answers to scripts: each a word and a text; and the faults behind them."""
     given = ''.join('cmd %s\n' % script for script in scripts) + 'faults\n'
-    done = subprocess.run([PROGRAM], input=given.encode(), check=True, stdout=subprocess.PIPE, timeout=600)
-    lines = done.stdout.decode().splitlines()
+    lines = [line.decode() for line in run(program, with_commits(given.encode()), seconds=600).answers()]
     if len(lines) <= len(scripts) or lines[-1] != 'end':
         raise SystemExit('the program answered %d lines to %d scripts' % (len(lines), len(scripts)))
     answers = [(line.split(' ', 2) + [''])[::2] for line in lines[:len(scripts)]]
