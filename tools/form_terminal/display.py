@@ -66,13 +66,18 @@ class Display:
         self.put([line[:self.columns] for line in self.picture(rows, told, focus)[:self.lines]])
 
     def picture(self, rows, told, focus):
-        if not self.is_large_enough():
-            small = 'This terminal is too small: it has %d by %d cells, and the form needs %d by %d.' % (
-                self.columns, self.lines, *self.needs())
-            return textwrap.wrap(small, self.columns) + [line for one in told for line in textwrap.wrap(one, self.columns)]
-        focus = ' %s ' % focus if focus and len(focus) + 4 <= self.size[0] else ''
-        return ['+' + '-' * self.size[0] + '+'] + ['|%s|' % row for row in rows] + [
-            '+' + ('-' * bool(focus) + focus).ljust(self.size[0], '-') + '+'] + told
+        """The lines to show: the form in its frame, or why it isn't shown, and what is told, wrapped."""
+        if self.is_large_enough():
+            focus = '- %s ' % focus if focus and len(focus) + 4 <= self.size[0] else ''
+            above, below = '+' + '-' * self.size[0] + '+', '+' + focus.ljust(self.size[0], '-') + '+'
+            shown = [above] + ['|%s|' % row for row in rows] + [below]
+        else:
+            shown = self.wrapped('This terminal is too small: it has %d by %d cells, and the form needs %d by %d.' % (
+                self.columns, self.lines, *self.needs()))
+        return shown + [line for one in told for line in self.wrapped(one)]
+
+    def wrapped(self, text):
+        return textwrap.wrap(text, max(self.columns, 1))
 
     def put(self, lines):
         for place in range(max(len(lines), len(self.drawn))):

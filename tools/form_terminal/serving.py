@@ -24,13 +24,14 @@ class Serving:
     """A form that is served in a terminal. What is shown was committed before, unless `at_pauses`: then commits wait until
     nothing is typed for a moment."""
 
-    def __init__(self, session, form, display, keyboard, clock, log, hint, at_pauses=False):
+    def __init__(self, session, form, display, keyboard, clock, log, hint='', focus='', at_pauses=False):
+        """`hint` is told where nothing else is; `focus` is the path of the window with the focus, as far as it is known."""
         self.session, self.form, self.display, self.keyboard = session, form, display, keyboard
         self.clock, self.log, self.hint, self.at_pauses = clock, log, hint, at_pauses
         self.typed = collections.deque()
         self.told, self.told_until = hint, 0
         self.rows = None
-        self.focus = ''
+        self.focus = focus
         self.faults, self.seen = [], []
         self.refused, self.reason = None, ''
         self.starts = 0
