@@ -2,9 +2,11 @@
 import collections
 import time
 
-from gaikyrumo import Ended, NotDone, error_in_words, refusal_in_words
+from gaikyrumo import Ended, NotDone, refusal_in_words
 
-from .refused_turn import find_refused, leave_out, paths_in
+from .blocked import Blocked
+from .fault_list import FaultList
+from .refused_turn import paths_in
 
 # Seconds between two looks at the clock, and within which the rest of a key comes.
 PAUSE, REST = 0.2, 0.05
@@ -14,7 +16,6 @@ TURNS, WAITING = 200, 40
 MOST_TYPED = 5000
 # Seconds before each start of a program that was killed or wanted memory. The first sends again what waited.
 DELAYS = (0, 1, 2, 4, 8)
-MOST_FAULTS = 3
 # Seconds that what is told stays at the least.
 TOLD = 3
 ASCII = 'a form takes the letters, digits and signs of ASCII'
@@ -26,16 +27,16 @@ class Serving:
 
     def __init__(self, session, form, display, keyboard, clock, log, hint='', focus='', at_pauses=False):
         """`hint` is told where nothing else is; `focus` is the path of the window with the focus, as far as it is known."""
-        self.session, self.form, self.display, self.keyboard = session, form, display, keyboard
+        self.session, self.display, self.keyboard = session, display, keyboard
         self.clock, self.log, self.hint, self.at_pauses = clock, log, hint, at_pauses
         self.typed = collections.deque()
+        self.left, self.is_sent_again = collections.deque(), False
         self.told, self.told_until = hint, 0
-        self.rows = None
+        self.rows = [' ' * form.size[0]] * form.size[1]
         self.focus = focus
-        self.faults, self.seen = [], []
-        self.refused, self.reason = None, ''
+        self.blocked, self.faults = Blocked(session, paths_in(form.script), log), FaultList()
         self.starts = 0
-        self.is_over = False
+        self.is_over = self.puts_away = False
 
     # ---- the loop
 
@@ -75,14 +76,20 @@ class Serving:
 
     def work(self):
         """Gives the clock and what was typed, runs what waits, and keeps it."""
+        if self.puts_away:
+            self.puts_away = False
+            self.put_away()
         is_typed = bool(self.typed)
+        while self.left:
+            self.session.send(self.left[0])
+            self.left.popleft()
         self.session.clock(self.clock.now())
         self.give()
         has_run = self.drain()
         self.keep(is_typed, has_run)
         self.rows = self.screen()
-        self.faults = self.session.faults()
-        self.starts = 0
+        self.faults.there = self.session.faults()
+        self.starts, self.is_sent_again = 0, False
 
     # ---- what is typed
 
@@ -100,9 +107,9 @@ class Serving:
         if typed.own == 'interrupt':
             self.is_over = True
         elif typed.own == 'away':
-            self.put_away()
+            self.puts_away = True
         elif typed.unknown:
-            self.tell('%s can\'t be typed: %s.' % (typed.unknown, ASCII))
+            self.tell("%s can't be typed: %s." % (typed.unknown, ASCII))
         elif typed.lines and len(self.typed) >= MOST_TYPED:
             self.tell('Too much was typed that the form did not take: this key is not taken.')
         elif typed.lines:
@@ -141,28 +148,16 @@ class Serving:
             if answer.text.startswith('event FocusIn '):
                 self.focus = answer.text.split(' ')[2]
         is_refused = bool(answers) and answers[-1].is_refused()
-        self.note_refused(answers[-1].text if is_refused else '')
+        if self.blocked.note(answers[-1].text if is_refused else ''):
+            self.display.bell()
         return len(answers) > is_refused
 
-    def note_refused(self, reason):
-        """Notes why the next turn is refused, and finds out what it is."""
-        if reason == self.reason:
-            return
-        self.reason, self.refused = reason, None
-        if reason and reason != 'memory':
-            self.refused = find_refused(self.session, paths_in(self.form.script))
-            self.log.say('a turn is refused (%s): %s' % (reason, self.refused.what))
-            self.display.bell()
-
     def put_away(self):
-        """Leaves out the turn that is refused; where none is, takes away the faults that are told."""
-        if self.refused and (self.refused.window or self.refused.id):
-            answer = leave_out(self.session, self.refused)
-            self.log.say('left out: %s (%s)' % (self.refused.what, answer))
-            self.tell('Left out: %s.' % self.refused.what)
-            self.reason, self.refused = '', None
-        elif self.new_faults():
-            self.seen = self.faults
+        """Leaves out the turn that is refused; where none is, takes away the faults that are told, and else what is told."""
+        if self.blocked.is_known():
+            self.tell('Left out: %s.' % self.blocked.leave_out())
+        elif self.faults.new():
+            self.faults.put_away()
         else:
             self.told = self.hint
 
@@ -170,12 +165,12 @@ class Serving:
 
     def keep(self, is_typed, has_run):
         """Commits what is about to be shown; with `at_pauses` what was shown, once nothing is typed."""
-        has_changed = self.session.waiting and (is_typed or has_run)
+        waiting = self.session.waiting
         if self.at_pauses:
-            is_due = not is_typed and any(not request.startswith('clock ') for request in self.session.waiting)
+            is_due = not is_typed and any(not request.startswith('clock ') for request in waiting)
         else:
-            is_due = has_changed
-        if (is_due or len(self.session.waiting) > WAITING) and self.session.keep():
+            is_due = bool(waiting) and (is_typed or has_run)
+        if (is_due or len(waiting) > WAITING) and self.session.keep():
             self.log.say('a checkpoint of %d inputs' % self.session.acknowledged)
 
     def screen(self):
@@ -184,52 +179,38 @@ class Serving:
             return self.session.screen()
         except NotDone as fault:
             self.told = str(fault)
-            return self.rows or []
-
-    def new_faults(self):
-        """The errors that came behind those that were put away."""
-        for place in range(len(self.seen) + 1):
-            if self.faults[:len(self.seen) - place] == self.seen[place:]:
-                return self.faults[len(self.seen) - place:]
+            return self.rows
 
     def draw(self):
-        told = [self.told]
-        if self.reason:
-            told.append('A turn is refused: %s. %s' % (refusal_in_words(self.reason), self.way_past()))
-        faults = self.new_faults()
-        told += ['fault: ' + error_in_words(text) for text in faults[-MOST_FAULTS:]]
-        if faults and not self.reason:
-            told.append('Control-] puts the faults away.')
-        self.display.draw(self.rows, told, self.focus)
-
-    def way_past(self):
-        if self.reason == 'memory':
-            return 'It is tried again.'
-        if self.refused.window or self.refused.id:
-            return 'Control-] leaves it out: %s.' % self.refused.what
-        return 'It was not found out what it is: docs/OPERATION.md tells how to go on.'
+        self.display.draw(self.rows, [self.told] + self.blocked.told() + self.faults.told(), self.focus)
 
     # ---- a program that ended
 
     def mend(self, fault):
-        """Starts the program again where it was killed or wanted memory; else raises its end. What it had accepted is sent
-        again once, in case that was what ended it."""
+        """Starts the program again where it was killed or wanted memory; else raises its end."""
         if not fault.may_start_again or self.starts == len(DELAYS):
             raise fault
         self.log.say('%s Starting it again.' % fault)
         self.draw_alone('%s It is started again.' % fault)
         self.wait(DELAYS[self.starts])
-        is_first = self.starts == 0
         self.starts += 1
-        if self.is_ended() and not is_first:
+        if self.is_ended() and self.starts > 1:
             raise fault
         try:
-            lost = self.session.start_again(sends_again=is_first)
+            rest = self.session.start_again()
         except Ended as again:
             return self.mend(again)
-        self.reason = ''
-        if lost:
-            self.tell('The program ended twice over the last %d inputs: they were left out.' % lost)
+        self.blocked.forget()
+        self.send_again(rest)
+
+    def send_again(self, rest):
+        """Has what the program had accepted and not kept sent again; but once, in case that was what ended it."""
+        self.left.extendleft(reversed(rest))
+        if self.is_sent_again and self.left:
+            self.log.say('%d inputs were left out' % len(self.left))
+            self.tell('The program ended twice over the last %d inputs: they were left out.' % len(self.left))
+            self.left.clear()
+        self.is_sent_again = True
 
     def wait(self, seconds):
         """Waits; what is typed meanwhile is taken later."""
@@ -239,8 +220,7 @@ class Serving:
 
     def draw_alone(self, text):
         """Draws the form as it was, and one thing that is told."""
-        if self.rows:
-            self.display.draw(self.rows, [text], self.focus)
+        self.display.draw(self.rows, [text], self.focus)
 
     def hold(self, fault):
         """Where the program ended for good: says so, and takes no keys, until the terminal's own key or a signal."""

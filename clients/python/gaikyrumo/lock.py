@@ -50,6 +50,8 @@ def in_use(store, path):
 
 def holders(path):
     """The processes that have a file open, but for this one, as far as this user may see: the number and the words of each."""
+    if not os.path.isdir('/proc'):
+        return []
     wanted = os.stat(path)
     found = []
     for process in sorted(map(int, filter(str.isdigit, os.listdir('/proc')))):

@@ -3,13 +3,14 @@ import subprocess
 import tempfile
 
 from .answers import is_last, read
-from .faults import MEANINGS, Ended, NotDone, SessionFault, StoreChanged, Unstartable
+from .faults import MEANINGS, Ended, Fault, NotDone, SessionFault, StoreChanged, Unstartable
 from .growth import Growth
 from .start import start
 
 # So many inputs may wait for a commit, and so many turns may be asked for at once.
 ROOM = 64
 MOST_TURNS = 10_000
+MOST_LOADED = 1_048_576
 # What of the standard error of a program that ended is told: its last characters.
 SAID = 300
 # Seconds that it is waited for a program to end by the end of its input.
@@ -49,24 +50,27 @@ class Session:
         self.growth = Growth(self.store)
         self.waiting = []
         self.last = ''
-        self.commit()
+        try:
+            self.commit()
+        except Fault:
+            self.close()
+            raise
 
-    def start_again(self, sends_again=True):
-        """Starts the program anew, and sends what it had accepted and the store has not kept, unless `sends_again` is
-        false. Gives how many inputs of those that waited were left out.
+    def start_again(self):
+        """Starts the program anew, and gives the requests that it had accepted and the store has not kept, in their order:
+        they may be sent again. Where it ends at once, the next call gives them.
         """
         before, waiting = self.acknowledged, self.waiting
         self.close()
-        self.open()
+        try:
+            self.open()
+        except Fault:
+            self.acknowledged, self.waiting = before, waiting
+            raise
         if self.acknowledged < before:
             raise StoreChanged('The store %s holds %d inputs, and had acknowledged %d. Something else changed its files.'
                                % (self.store, self.acknowledged, before))
-        rest = waiting[self.acknowledged - before:]
-        if not sends_again:
-            return len(rest)
-        for request in rest:
-            self.send(request)
-        return 0
+        return waiting[self.acknowledged - before:]
 
     def close(self):
         """Ends the program, without a commit, by the end of its input; one that goes on for 5 seconds is killed. Gives its
@@ -136,14 +140,17 @@ class Session:
         return answer
 
     def line(self, line):
-        """Gives an input that is a line, such as `key a`. Raises ValueError where it is more than one."""
-        if '\n' in line:
-            raise ValueError('a line has no newline: a script with newlines is for `script`')
+        """Gives an input that is a line, such as `key a`. Raises ValueError where it is more than one, or a `load`."""
+        if '\n' in line or line.startswith('load '):
+            raise ValueError('a script with newlines is for `script`')
         return self.send(line)
 
     def script(self, script):
-        """Runs a script, of one line or of several, as one input."""
-        return self.send('load %d\n%s' % (len(script.encode()), script))
+        """Runs a script, of one line or of several, as one input. Raises ValueError where it has over 1,048,576 bytes."""
+        length = len(script.encode())
+        if length > MOST_LOADED:
+            raise ValueError('a script has %d bytes at most' % MOST_LOADED)
+        return self.send('load %d\n%s' % (length, script))
 
     def clock(self, milliseconds):
         """Sets the clock; the answer is refused where the session's clock is later."""
