@@ -45,12 +45,10 @@ class Session:
     def open(self):
         """Starts the program, and asks how many inputs the store holds."""
         self.errors = tempfile.TemporaryFile()
-        self.process = start(self.program, self.store, self.size, stdin=subprocess.PIPE, stdout=subprocess.PIPE,
-                             stderr=self.errors, env=self.environment)
-        self.growth = Growth(self.store)
-        self.waiting = []
-        self.last = ''
+        self.growth, self.waiting, self.last = Growth(self.store), [], ''
         try:
+            self.process = start(self.program, self.store, self.size, stdin=subprocess.PIPE, stdout=subprocess.PIPE,
+                                 stderr=self.errors, env=self.environment)
             self.commit()
         except Fault:
             self.close()
@@ -76,6 +74,7 @@ class Session:
         """Ends the program, without a commit, by the end of its input; one that goes on for 5 seconds is killed. Gives its
         status; None where it was closed before."""
         if self.process is None:
+            self.errors.close()
             return None
         process, self.process = self.process, None
         for stream in (process.stdin, process.stdout):
