@@ -72,8 +72,8 @@ class Display:
             above, below = '+' + '-' * self.size[0] + '+', '+' + focus.ljust(self.size[0], '-') + '+'
             shown = [above] + ['|%s|' % row for row in rows] + [below]
         else:
-            shown = self.wrapped('This terminal is too small: it has %d by %d cells, and the form needs %d by %d.' % (
-                self.columns, self.lines, *self.needs()))
+            shown = self.wrapped('Too small: %d by %d cells are needed, and %d by %d are there.' % (
+                *self.needs(), self.columns, self.lines))
         return shown + [line for one in told for line in self.wrapped(one)]
 
     def wrapped(self, text):

@@ -15,8 +15,9 @@ HOLDERS = ['Shift_L', 'Alt_L', 'Control_L']
 
 CLICK = re.compile(r'\x1b\[<(\d+);(\d+);(\d+)([Mm])')
 NAMED = re.compile(r'\x1b(?:O|\[)(?:(\d+)(?:;(\d+))?)?([A-Z~])')
+CONSOLE = re.compile(r'\x1b\[\[([A-E])')
 OTHER = re.compile(r'\x1b\[[\d;?<]*[A-Za-z~]')
-BEGUN = re.compile(r'\x1b(?:\[[\d;?<]*|O)?')
+BEGUN = re.compile(r'\x1b(?:\[\[|\[[\d;?<]*|O)?')
 
 # The terminal's own keys: Control-C and Control-].
 INTERRUPT, AWAY = '\x03', '\x1d'
@@ -72,11 +73,14 @@ class Keyboard:
         return length if character != '\ufffd' else 1, Typed(unknown=character if character.isprintable() else 'this key')
 
     def behind_escape(self, sent, is_whole, is_shown):
-        click, named, other = CLICK.match(sent), NAMED.match(sent), OTHER.match(sent)
+        """What begins with an escape: a click, a key that has a name, a key with Alt, or the key Escape."""
+        click, named, console, other = (form.match(sent) for form in (CLICK, NAMED, CONSOLE, OTHER))
         if click:
             return click.end(), self.click(*map(int, click.groups()[:3]), click[4] == 'M') if is_shown else Typed()
         if named:
             return named.end(), named_key(*named.groups())
+        if console:
+            return console.end(), Typed(held(['F%d' % ('ABCDE'.index(console[1]) + 1)]))
         if other:
             return other.end(), Typed(unknown='this key')
         if not is_whole and BEGUN.fullmatch(sent):

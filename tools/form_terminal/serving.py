@@ -18,6 +18,8 @@ MOST_TYPED = 5000
 DELAYS = (0, 1, 2, 4, 8)
 # Seconds that what is told stays at the least.
 TOLD = 3
+# Why a key isn't taken now, and will be.
+WAITS = {'large': '4,096 events wait already', 'memory': 'memory is wanting'}
 ASCII = 'a form takes the letters, digits and signs of ASCII'
 
 
@@ -29,7 +31,7 @@ class Serving:
         """`hint` is told where nothing else is; `focus` is the path of the window with the focus, as far as it is known."""
         self.session, self.display, self.keyboard = session, display, keyboard
         self.clock, self.log, self.hint, self.at_pauses = clock, log, hint, at_pauses
-        self.typed = collections.deque()
+        self.typed, self.waits = collections.deque(), []
         self.left, self.is_sent_again = collections.deque(), False
         self.told, self.told_until = hint, 0
         self.rows = [' ' * form.size[0]] * form.size[1]
@@ -125,14 +127,15 @@ class Serving:
     def give(self):
         """Gives what was typed, as far as it is taken; the rest stays for the next round. Lines that belong together are
         kept together, so that no key stays held where the program is killed between them."""
+        self.waits = []
         while self.typed:
             lines = self.typed[0]
             if not self.session.has_room(len(lines)):
                 self.session.commit()
             while lines:
                 answer = self.session.line(lines[0])
-                if answer.is_refused('large') or answer.is_refused('memory'):
-                    self.told = 'What was typed waits: %s.' % refusal_in_words(answer.text)
+                if answer.kind == 'refused' and answer.text in WAITS:
+                    self.waits = ['What was typed waits: %s.' % WAITS[answer.text]]
                     return
                 if not answer.is_accepted:
                     self.tell('%s: %s.' % (lines[0], refusal_in_words(answer.text)))
@@ -182,7 +185,8 @@ class Serving:
             return self.rows
 
     def draw(self):
-        self.display.draw(self.rows, [self.told] + self.blocked.told() + self.faults.told(), self.focus)
+        told = [self.told] + self.waits + self.blocked.told() + self.faults.told()
+        self.display.draw(self.rows, told, self.focus)
 
     # ---- a program that ended
 
