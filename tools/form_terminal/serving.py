@@ -78,10 +78,10 @@ class Serving:
 
     def work(self):
         """Gives the clock and what was typed, runs what waits, and keeps it."""
+        is_typed = bool(self.typed or self.left)
         if self.puts_away:
             self.puts_away = False
             self.put_away()
-        is_typed = bool(self.typed)
         while self.left:
             self.session.send(self.left[0])
             self.left.popleft()
