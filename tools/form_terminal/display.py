@@ -9,6 +9,8 @@ import tty
 # Another screen, no cursor, reports of buttons; and back.
 BEGIN = '\x1b[?1049h\x1b[2J\x1b[?25l\x1b[?1000h\x1b[?1006h'
 END = '\x1b[?1006l\x1b[?1000l\x1b[?25h\x1b[?1049l'
+# Lines behind the form in a terminal that doesn't tell how many it has.
+UNKNOWN = 6
 
 
 class Display:
@@ -22,11 +24,14 @@ class Display:
         self.write(BEGIN)
 
     def measure(self):
-        """Takes the terminal's size as it is now, and draws all anew next time."""
+        """Takes the terminal's size as it is now, and draws all anew next time. One that doesn't tell its size, as on a
+        serial line, counts as large enough."""
         try:
             self.columns, self.lines = os.get_terminal_size(sys.stdout.fileno())
         except OSError:
-            self.columns, self.lines = 80, 24
+            self.columns = self.lines = 0
+        if not self.columns or not self.lines:
+            self.columns, self.lines = max(80, self.needs()[0]), self.needs()[1] + UNKNOWN
         self.drawn = {}
 
     def close(self):
