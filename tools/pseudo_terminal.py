@@ -29,6 +29,7 @@ class PseudoTerminal:
                                         start_new_session=True, env=environment, preexec_fn=self.take_terminal)
 
     def take_terminal(self):
+        """Makes the terminal the command's own, so that it gets its signals."""
         fcntl.ioctl(0, termios.TIOCSCTTY, 0)
 
     def resize(self, columns, lines):
@@ -37,6 +38,7 @@ class PseudoTerminal:
         fcntl.ioctl(self.slave, termios.TIOCSWINSZ, struct.pack('HHHH', lines, columns, 0, 0))
 
     def clear(self):
+        """Takes all that is shown away."""
         self.cells = {}
         self.column = self.line = 0
 
@@ -76,6 +78,7 @@ class PseudoTerminal:
         self.rest = text[at:]
 
     def control(self, mark, numbers, letter):
+        """Does what a control sequence asks for: its mark, its numbers, its last letter."""
         numbers = [int(number or 1) for number in numbers.split(';')]
         if letter == 'H':
             self.line, self.column = numbers[0] - 1, (numbers + [1])[1] - 1
@@ -91,6 +94,7 @@ class PseudoTerminal:
             self.line += 1
 
     def put(self, sign):
+        """Shows a character at the cursor."""
         if self.column >= self.columns:
             self.line, self.column = self.line + 1, 0
         self.cells[self.line, self.column] = sign
@@ -103,6 +107,7 @@ class PseudoTerminal:
         return [''.join(self.cells.get((line, column), ' ') for column in columns).rstrip() for line in range(last + 1)]
 
     def text(self):
+        """What is shown, in lines."""
         return '\n'.join(self.rows())
 
     def waits_for(self, pattern, seconds=10):

@@ -15,6 +15,7 @@ class Blocked:
         self.forget()
 
     def forget(self):
+        """Knows of no refused turn any more; one that is still refused is noted anew."""
         self.reason, self.turn = '', None
 
     def note(self, reason):
@@ -54,6 +55,7 @@ class Blocked:
         return ['A turn is refused: %s. %s' % (refusal_in_words(self.reason), self.way_past())] if self.reason else []
 
     def way_past(self):
+        """What is to be done about the turn."""
         if self.reason == PASSING:
             return 'It is tried again.'
         if self.is_known():

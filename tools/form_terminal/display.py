@@ -51,6 +51,7 @@ class Display:
             pass
 
     def bell(self):
+        """Makes the sound of the terminal."""
         self.write('\a')
 
     def needs(self):
@@ -58,6 +59,7 @@ class Display:
         return self.size[0] + 2, self.size[1] + 3
 
     def is_large_enough(self):
+        """Whether the form, its frame and a line below it have room."""
         columns, lines = self.needs()
         return self.columns >= columns and self.lines >= lines
 
@@ -82,9 +84,11 @@ class Display:
         return shown + [line for one in told for line in self.wrapped(one)]
 
     def wrapped(self, text):
+        """A text as lines of the terminal's width."""
         return textwrap.wrap(text, max(self.columns, 1))
 
     def put(self, lines):
+        """Draws the lines that differ from those that are drawn."""
         for place in range(max(len(lines), len(self.drawn))):
             line = lines[place] if place < len(lines) else ''
             if self.drawn.get(place) != line:

@@ -25,15 +25,18 @@ class Ending:
         signal.signal(signal.SIGTSTP, signal.SIG_IGN)
 
     def ask(self, *_):
+        """Notes that the run is to end; asked twice, it ends at once."""
         if self.is_asked:
             self.force()
         self.is_asked = True
         signal.alarm(PATIENCE)
 
     def force(self, *_):
+        """Ends the run wherever it is."""
         sys.exit(1)
 
     def resize(self, *_):
+        """Notes that the terminal has another size."""
         self.is_resized = True
 
     def clear(self):

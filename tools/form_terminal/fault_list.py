@@ -17,6 +17,7 @@ class FaultList:
         return self.there[len(self.seen) - place:]
 
     def put_away(self):
+        """Tells those that are there no longer."""
         self.seen = self.there
 
     def told(self):

@@ -55,6 +55,7 @@ def checked(path, script):
 
 
 def line_at(text, place):
+    """The number of the line in which a place of a text stands, the first being 1."""
     return text.count('\n', 0, place) + 1
 
 

@@ -20,6 +20,7 @@ class FormClock:
         self.ahead = self.first - machine
 
     def now(self):
+        """The time of the form now."""
         return self.first + steady() - self.begun
 
 

@@ -10,6 +10,7 @@ class Log:
         self.file = open(path, 'a') if path else None
 
     def say(self, text):
+        """Writes one line, with the time."""
         if not self.file:
             return
         try:

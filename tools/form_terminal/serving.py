@@ -14,7 +14,8 @@ PAUSE, REST = 0.2, 0.05
 TURNS, WAITING = 200, 40
 # What was typed and can't be given yet, at most.
 MOST_TYPED = 5000
-# Seconds before each start of a program that was killed or wanted memory. The first sends again what waited.
+# Seconds before each start of a program that was killed or wanted memory. Before the last one what it had accepted and not
+# kept is left out, in case that is what ends it.
 DELAYS = (0, 1, 2, 4, 8)
 # Seconds that what is told stays at the least.
 TOLD = 3
@@ -32,12 +33,12 @@ class Serving:
         self.session, self.display, self.keyboard = session, display, keyboard
         self.clock, self.log, self.hint, self.at_pauses = clock, log, hint, at_pauses
         self.typed, self.waits = collections.deque(), []
-        self.left, self.is_sent_again = collections.deque(), False
+        self.left, self.is_giving = collections.deque(), False
         self.told, self.told_until = hint, 0
         self.rows = [' ' * form.size[0]] * form.size[1]
         self.focus = focus
         self.blocked, self.faults = Blocked(session, paths_in(form.script), log), FaultList()
-        self.starts = 0
+        self.starts = self.ends = 0
         self.is_over = self.puts_away = False
 
     # ---- the loop
@@ -65,6 +66,7 @@ class Serving:
         self.session.commit()
 
     def is_ended(self):
+        """Whether the run is to end."""
         return self.is_over or self.display.ending.is_asked
 
     def go_on(self):
@@ -79,19 +81,26 @@ class Serving:
     def work(self):
         """Gives the clock and what was typed, runs what waits, and keeps it."""
         is_typed = bool(self.typed or self.left)
+        self.give_left()
         if self.puts_away:
             self.puts_away = False
             self.put_away()
-        while self.left:
-            self.session.send(self.left[0])
-            self.left.popleft()
         self.session.clock(self.clock.now())
         self.give()
         has_run = self.drain()
         self.keep(is_typed, has_run)
         self.rows = self.screen()
         self.faults.there = self.session.faults()
-        self.starts, self.is_sent_again = 0, False
+        self.starts = self.ends = 0
+
+    def give_left(self):
+        """Gives again what the program had accepted and not kept, and keeps it, whatever comes of what is given next."""
+        if not self.left:
+            return
+        while self.left:
+            self.session.send(self.left[0])
+            self.left.popleft()
+        self.session.commit()
 
     # ---- what is typed
 
@@ -128,6 +137,7 @@ class Serving:
         """Gives what was typed, as far as it is taken; the rest stays for the next round. Lines that belong together are
         kept together, so that no key stays held where the program is killed between them."""
         self.waits = []
+        self.is_giving = True
         while self.typed:
             lines = self.typed[0]
             if not self.session.has_room(len(lines)):
@@ -136,11 +146,13 @@ class Serving:
                 answer = self.session.line(lines[0])
                 if answer.kind == 'refused' and answer.text in WAITS:
                     self.waits = ['What was typed waits: %s.' % WAITS[answer.text]]
+                    self.is_giving = False
                     return
                 if not answer.is_accepted:
                     self.tell('%s: %s.' % (lines[0], refusal_in_words(answer.text)))
                 lines.pop(0)
             self.typed.popleft()
+        self.is_giving = False
 
     # ---- turns
 
@@ -185,6 +197,7 @@ class Serving:
             return self.rows
 
     def draw(self):
+        """Draws the form, and what there is to tell."""
         told = [self.told] + self.waits + self.blocked.told() + self.faults.told()
         self.display.draw(self.rows, told, self.focus)
 
@@ -208,13 +221,18 @@ class Serving:
         self.send_again(rest)
 
     def send_again(self, rest):
-        """Has what the program had accepted and not kept sent again; but once, in case that was what ended it."""
+        """Has what the program had accepted and not kept sent again. Where it ended each time over that, or over the key that
+        was given, this is left out."""
         self.left.extendleft(reversed(rest))
-        if self.is_sent_again and self.left:
-            self.log.say('%d inputs were left out' % len(self.left))
-            self.tell('The program ended twice over the last %d inputs: they were left out.' % len(self.left))
+        self.ends += 1
+        if self.ends < len(DELAYS):
+            return
+        if self.is_giving and self.typed:
+            self.left.extend(self.typed.popleft())
+        if self.left:
+            self.tell('The program ended %d times over the last %d lines: they were left out.' % (self.ends, len(self.left)))
+            self.log.say(self.told)
             self.left.clear()
-        self.is_sent_again = True
 
     def wait(self, seconds):
         """Waits; what is typed meanwhile is taken later."""

@@ -36,6 +36,7 @@ class Growth:
 
 
 def number(file, size):
+    """The number that the next bytes of a file are, so many of them, the highest first."""
     return int.from_bytes(file.read(size), 'big')
 
 

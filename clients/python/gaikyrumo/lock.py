@@ -61,6 +61,7 @@ def holders(path):
 
 
 def has_open(process, wanted):
+    """Whether a process has this file open; a process that may not be looked into has not."""
     folder = '/proc/%d/fd' % process
     try:
         return any(is_same(os.path.join(folder, name), wanted) for name in os.listdir(folder))
@@ -69,6 +70,7 @@ def has_open(process, wanted):
 
 
 def is_same(path, wanted):
+    """Whether a path leads to this file."""
     try:
         return os.path.samestat(os.stat(path), wanted)
     except OSError:

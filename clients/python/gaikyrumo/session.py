@@ -192,6 +192,7 @@ class Session:
         return self.kept('checkpoint', 'checkpointed')
 
     def kept(self, request, kind):
+        """The number in the answer to a commit or a checkpoint; raises NotDone, or the end of the program."""
         answer = self.ask(request)[0]
         if answer.kind == kind:
             return answer.number
