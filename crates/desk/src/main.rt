@@ -6,6 +6,7 @@ ghost use Rattle.tks_app.specs.declared.answer.AppAnswer.{AppAnswer};
 ghost use Rattle.tks_desk.specs.Own.{next_of, swap_of};
 
 use std::alloc::{AllocError, Global};
+use std::fs::{Files, OpenOptions};
 use std::io;
 use std::io::{BufRead, BufReader, BufWriter, Write};
 use std::process::ExitCode;
@@ -48,8 +49,22 @@ fn main(rt: HostRuntime) -> ExitCode {
             let swap: AppClosure = swap;
             serve(rt, &words, next, swap)
         }
-        _ => ExitCode::from(NO_MEMORY),
+        _ => without_memory(&rt),
     }
+}
+
+// Tells that memory is wanting, and answers the status for it.
+fn without_memory<R: Print>(rt: &R) -> ExitCode {
+    let _ = rt.print("fault memory\n");
+    ExitCode::from(NO_MEMORY)
+}
+
+// A file of nothing, which has the place of a standard stream that was closed, so that no file of the store takes it.
+fn held_stream<R: Files>(rt: &R) -> io::Result<R::File> {
+    OpenOptions::new()
+        .read(true)
+        .write(true)
+        .open(rt, "/dev/null")
 }
 
 // Serves the standard streams, over the session in this store, with commands of these closures.
@@ -58,11 +73,12 @@ fn serve<B: AppBody>(rt: HostRuntime, words: &CommandLine, next: B, swap: B) -> 
     requires swap { B.callable swap × ((memory : List ℕ) (words : List (List ℕ)) (a : AppAnswer) → B.may_answer swap memory words a → a ≡ swap_of memory words) }
 {
     let alloc = rt.alloc();
+    let _held = [held_stream(&rt), held_stream(&rt), held_stream(&rt)];
     let Ok(mut reader) = BufReader::new(alloc, rt.stdin()) else {
-        return ExitCode::from(NO_MEMORY);
+        return without_memory(&rt);
     };
     let Ok(mut writer) = BufWriter::new(alloc, rt.stdout()) else {
-        return ExitCode::from(NO_MEMORY);
+        return without_memory(&rt);
     };
     match FileDisk::open(&rt, alloc, words.store.as_str()) {
         Ok(disk) => {

@@ -67,7 +67,10 @@ pub fn command_line<R: Env + AllocGlobal + Print + Eprint>(
         Err(error) if error.kind() == io::ErrorKind::OutOfMemory => {
             return Err(ExitCode::from(NO_MEMORY));
         }
-        Err(_) => return Err(ExitCode::from(BAD_USE)),
+        Err(_) => {
+            let _ = rt.eprintln("desk: a word of the command line is no text");
+            return Err(ExitCode::from(BAD_USE));
+        }
     };
     let Ok(words) = words.collect::<Vec<String>>(alloc) else {
         return Err(ExitCode::from(NO_MEMORY));
