@@ -363,7 +363,7 @@ fn committed_stands(alloc: Global) -> Option<bool> {
     let want =
         b"ok 3 5\n|        old         |\n|                    |\n|                    |\ncommitted 3\n";
     let disk = left_by(alloc, first)?;
-    crash_tells(alloc, &disk, (Left::Old, Left::Old), second, want)
+    crash_tells(alloc, &disk, Left::Old, second, want)
 }
 
 #[test]

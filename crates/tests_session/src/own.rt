@@ -162,16 +162,16 @@ pub fn left_by(alloc: Global, lines: &[u8]) -> Option<MemoryDisk> {
     left_on(alloc, MemoryDisk::new(alloc), setup, lines)
 }
 
-/// Whether what a crash leaves of a disk, on its two sides, opens to a session of this kind that answers lines so.
+/// Whether what a crash leaves of a disk opens to a session of this kind that answers lines so.
 pub fn crash_tells(
     alloc: Global,
     disk: &MemoryDisk,
-    left: (Left, Left),
+    left: Left,
     lines: &[u8],
     want: &[u8],
 ) -> Option<bool> {
     let setup = with_both(alloc, 3, Limits::format1())?;
-    match disk.crash(alloc, left.0, left.1) {
+    match disk.crash(alloc, left, Left::Old) {
         Ok(crashed) => opens_and_tells(alloc, crashed, setup, lines, want),
         Err(_) => None,
     }
