@@ -1,6 +1,6 @@
 pub mod DiskModel
+pub mod Failing
 pub mod FileDisk
-pub mod Fuse
 pub mod Memory
 pub mod MemorySide
 pub mod Once

@@ -2,6 +2,7 @@
 #![tactic(auto)]
 
 mod disk;
+mod failing;
 mod file;
 mod file_disk;
 mod fuse;
@@ -14,8 +15,9 @@ mod span;
 mod trail;
 
 pub use disk::{DeviceFault, Disk, Side};
+pub use failing::{Failing, Schedule};
 pub use file_disk::{FileDisk, FileDiskFault};
-pub use fuse::Fuse;
+pub use fuse::{EachAfter, Fuse};
 pub use left::Left;
 pub use memory::MemoryDisk;
-pub use once::Once;
+pub use once::{Once, OneAfter};
