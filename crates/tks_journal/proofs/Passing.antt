@@ -1,14 +1,14 @@
 -- Frames that are read one after the other.
 use Rattle.std.proofs.Common.{◌≡◌, ◌≢◌, ◌<◌, ◌≤◌, ℕ, ◌+◌, nat_le, false, cond, List, [], ◌∷◌, ◌++◌, length, get_or, take, drop, Option, Some, None, Result, Err, refl, sym, ◌∙◌, ap, arith, append_assoc, length-append, take-append-drop}
 use Rattle.std.proofs.lemmas.Bool.Decides.{nat_tests}
-use Rattle.std.proofs.lemmas.List.{length-drop, length-take, drop_more, drop_all, drop-drop, take_at, take-take, drop-take}
+use Rattle.std.proofs.lemmas.List.{length-drop, length-take, drop_more, drop-drop, take_at, take-take, drop-take}
 use Rattle.tks_spelling.specs.declared.header.Header.{Header}
 use Rattle.tks_disk.specs.DiskModel.{View, Images, on, beside}
 use Rattle.tks_disk.specs.declared.disk.Side.{Side}
 use Rattle.tks_journal.specs.Loading.{behind, with_behind, StoredAt, extended, so_far, FramesAt, ShutAt, FrameIs}
 use Rattle.tks_journal.specs.Moments.{IsSettled}
 use Rattle.tks_journal.specs.Resting.{IsLive, begun_as}
-use Rattle.tks_journal.specs.Sides.{size_at, with_front, frames_from, frames, Kept, kept, content, holds, with_frames, live_of, pair, framed}
+use Rattle.tks_journal.specs.Sides.{with_front, frames, Kept, kept, content, holds, with_frames, live_of, pair, framed}
 use Rattle.tks_journal.specs.declared.fault.SideFault.{SideFault}
 use Rattle.tks_journal.specs.declared.fault.SideFault.TheVariants.{Damaged}
 use Rattle.tks_journal.proofs.Faces.{one_frame, shut_frames, frames_framed, content_is}
