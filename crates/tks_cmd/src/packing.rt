@@ -141,7 +141,7 @@ fn unpack_all(world: &mut World, windows: &[WindowId]) -> Result<(), AllocError>
     ensures { OnOk result (world.new ≡ unpacked_all windows.now world.old) }
 {
     for window in windows {
-        world.forget(*window)?;
+        world.unpack(*window)?;
     }
     Ok(())
 }

@@ -10,6 +10,7 @@ mod kept;
 mod laws;
 mod layout;
 mod links;
+mod mark;
 mod restoring;
 mod widget;
 mod windows;
@@ -21,6 +22,7 @@ pub use laws::{
     widgets_of_one_variable_show_one_text, windows_are_shown_where_they_stand,
 };
 pub use layout::Placed;
+pub use mark::Mark;
 pub use restoring::{WindowParts, WorldParts};
 pub use widget::Widget;
 pub use world::World;

@@ -361,7 +361,7 @@ impl World {
     }
 
     /// Takes a window out of the container that it is packed in, if it is.
-    pub fn forget(&mut self, window: WindowId) -> Result<(), AllocError>
+    pub fn unpack(&mut self, window: WindowId) -> Result<(), AllocError>
         ensures ok { OnOk result (self.new ≡ unpacked self.old window) }
         ensures err { OnErr result (self.new ≡ self.old) }
     {

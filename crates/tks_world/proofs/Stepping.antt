@@ -1,5 +1,5 @@
 -- What the run of an input's script says of the step, and what doing one thing says of a turn.
-use Rattle.std.proofs.Common.{◌≡◌, ℕ, ◌≤◌, Bool, true, false, ltb, List, length, Some, Result, refl, sym, subst, ap, arith}
+use Rattle.std.proofs.Common.{◌≡◌, ℕ, ◌≤◌, Bool, true, false, if◌then◌else◌, ltb, List, length, Some, Result, refl, sym, subst, ap, arith}
 use Rattle.std.proofs.lemmas.Bool.{ltb-true}
 use Rattle.tks_text.specs.declared.limits.Limits.{Limits}
 use Rattle.tks_parse.specs.Tree as tree
@@ -11,15 +11,18 @@ use Rattle.tks_state.specs.World.{World}
 use Rattle.tks_eval.specs.Outcome.{Outcome}
 use Rattle.tks_eval.specs.Meets.{StopsSo}
 use Rattle.tks_app.specs.Applications.{Application, Meaning}
-use Rattle.tks_world.specs.Hosting.{Setting}
+use Rattle.tks_vars.specs.Table.{Map}
+use Rattle.tks_world.specs.Hosting.{Setting, stripped}
 use Rattle.tks_world.specs.Scripts.{concluded, script_ends, lent, script_step}
 use Rattle.tks_world.specs.Things.{next_thing}
 use Rattle.tks_world.specs.Telling.{told}
-use Rattle.tks_world.specs.Turns.{thing_does, finished, turned, turn_does, turn_step}
+use Rattle.tks_world.specs.Turns.{thing_does, finished, turned, turn_does}
+use Rattle.tks_world.specs.Stepped.{Refuses}
 use Rattle.tks_world.specs.Meets.{RefusedSo, ReachesSo, refused_by}
 use Rattle.tks_world.specs.declared.things.Thing.{Thing}
 use Rattle.tks_input.specs.declared.reply.Reply.{Reply}
 use Rattle.tks_input.specs.declared.reply.Refused.{Refused}
+use Rattle.tks_input.specs.declared.reply.Refused.TheVariants.{BadInput}
 
 -- a stop refuses the input
 pub refuses : (before : ℕ) (o : Outcome Setting) (why : Stop) → StopsSo o why → RefusedSo (refused_by why) (concluded before o)
@@ -36,11 +39,10 @@ not_over n limit le = by (ltb limit n) refl
     by true e = let l = ltb-true limit n e in absurd (omega (arith, l, le))
 
 -- a script within the limit is run in the world that it is lent
-pub runs : (app : Application) (w : World) (text : List ℕ) (limits : Limits) (script : tree.Script) (setting : Setting) (variables : Variables) → length text ≤ limits.text
-    → script ≡ script_of text → setting ≡ lent app.names limits w → variables ≡ w.variables
-    → script_step app w text limits ≡ concluded setting.world.accepted (script_ends app.meaning limits script setting variables)
-runs app w text limits script setting variables short read same given =
-    rw (not_over (length text) limits.text short) (λ i. concluded (sym same i).world.accepted (script_ends app.meaning limits (sym read i) (sym same i) (sym given i)))
+pub runs : (app : Application) (w : World) (text : List ℕ) (limits : Limits) → length text ≤ limits.text
+    → script_step app w text limits ≡ concluded w.accepted (script_ends app.meaning limits (script_of text) (lent app.names limits w) w.variables)
+runs app w text limits short =
+    ap (λ (b : Bool). if b then Refuses BadInput else concluded w.accepted (script_ends app.meaning limits (script_of text) (lent app.names limits w) w.variables)) (not_over (length text) limits.text short)
 
 -- what is taken out is done in the world without it, and what is told of it is told before
 pub does_next : (m : Meaning) (limits : Limits) (setting : Setting) (variables : Variables) (x : Thing) (left : World) (text : List ℕ) (result : Result Reply Refused) (new : World)
@@ -50,7 +52,23 @@ does_next m limits setting variables x left text result new next is h =
     subst (λ n. ReachesSo (turned m limits n setting variables) result new) (sym next)
     (subst (λ t. ReachesSo (finished setting.world.accepted t (thing_does m limits x (record setting { world = left }) variables)) result new) is h)
 
--- a turn is done in the world that it is lent
-pub turns_lent : (app : Application) (w : World) (limits : Limits) (setting : Setting) (variables : Variables) → setting ≡ lent app.names limits w → variables ≡ w.variables
-    → turn_step app limits w ≡ turn_does app.meaning limits setting variables
-turns_lent app w limits setting variables same given = λ i. turn_does app.meaning limits (sym same i) (sym given i)
+-- what holds of what was taken apart holds of the world as it is lent
+module _ (names : List (List ℕ)) (limits : Limits) (w left : World) (memories : Map (List ℕ)) (variables : Variables) (given : variables ≡ w.variables) (kept : memories ≡ w.memories)
+    (bare : left ≡ stripped w) where
+  whole : (P : Setting → Variables → Type 0) → P (record { world = left; memories = memories; limits = limits; names = names }) variables → P (lent names limits w) w.variables
+  whole P h =
+      subst (λ v. P (lent names limits w) v) given
+      (subst (λ m. P (record { world = stripped w; memories = m; limits = limits; names = names }) variables) kept
+      (subst (λ l. P (record { world = l; memories = memories; limits = limits; names = names }) variables) bare h))
+
+  -- a script in it
+  pub script_reaches : (m : Meaning) (script : tree.Script) (result : Result Reply Refused) (new : World)
+      → ReachesSo (concluded left.accepted (script_ends m limits script (record { world = left; memories = memories; limits = limits; names = names }) variables)) result new
+      → ReachesSo (concluded w.accepted (script_ends m limits script (lent names limits w) w.variables)) result new
+  script_reaches m script result new h = whole (λ s v. ReachesSo (concluded s.world.accepted (script_ends m limits script s v)) result new) h
+
+  -- a turn in it
+  pub turn_reaches : (m : Meaning) (result : Result Reply Refused) (new : World)
+      → ReachesSo (turn_does m limits (record { world = left; memories = memories; limits = limits; names = names }) variables) result new
+      → ReachesSo (turn_does m limits (lent names limits w) w.variables) result new
+  turn_reaches m result new h = whole (λ s v. ReachesSo (turn_does m limits s v) result new) h

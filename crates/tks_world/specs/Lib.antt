@@ -1,5 +1,6 @@
 -- The definitions that contracts cite.
 pub mod Hosting
+pub mod Hosts
 pub mod Stepped
 pub mod Scripts
 pub mod Gestures

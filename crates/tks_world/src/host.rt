@@ -4,6 +4,7 @@ ghost use Rattle.tks_app.specs.Applications.{has};
 ghost use Rattle.tks_app.specs.Memories.{memory_of};
 ghost use Rattle.tks_eval.specs.Meets.{AnswersSo};
 ghost use Rattle.tks_world.specs.Hosting.{hosting, is_of_world, world_does};
+ghost use Rattle.tks_world.specs.Hosts.{setting_of};
 ghost use Rattle.tks_world.specs.Meets.{CallsSo};
 
 use crate::applications::call_application;
@@ -14,22 +15,20 @@ use tks_cmd::command;
 use tks_eval::{Host, Plan};
 use tks_state::World;
 use tks_tcl::{Stop, is_built_in};
-use tks_text::{Limits, Txt};
+use tks_text::{Limits, Seq, Txt};
 use tks_tree::WindowId;
 use tks_vars::Vars;
 
-/// The world while a script runs in it, beside the memories and the commands of an application, and the limits that
-/// commands keep. Contracts see a `Setting`.
+/// What scripts change and look at beside variables, as contracts see it. There is no such value.
 #[derive(Drop)]
-pub struct WorldHost<'a, T: AppMeaning, B: AppBody> {
-    pub alloc: Global,
-    pub world: World,
-    pub memories: Memories,
-    pub limits: Limits,
-    pub apps: &'a Apps<T, B>,
+pub struct Lent {
+    world: World,
+    memories: Memories,
+    limits: Limits,
+    names: Seq<Txt>,
 }
 
-impl<'a, T: AppMeaning, B: AppBody> Model for WorldHost<'a, T, B> {
+impl Model for Lent {
     ghost use Rattle.std.specs.Coded.{codes};
     ghost use Rattle.tks_app.specs.Memories.{memories_code};
     ghost use Rattle.tks_state.specs.contracts.world.World.{the_row};
@@ -39,14 +38,25 @@ impl<'a, T: AppMeaning, B: AppBody> Model for WorldHost<'a, T, B> {
 
     ghost coded = { Prim.hlevel (codes, memories_code, the_row.coded) };
 
-    ghost view = { λ h. record { world = h.world; memories = h.memories; limits = h.limits; names = h.apps.now } };
+    ghost view = { λ s. record { world = s.world; memories = s.memories; limits = s.limits; names = s.names } };
+}
+
+/// The world while a script runs in it, beside the memories and the commands of an application, all of which are lent to it, and the
+/// limits that commands keep.
+#[derive(Drop)]
+pub struct WorldHost<'a, T: AppMeaning, B: AppBody> {
+    pub alloc: Global,
+    pub world: &'a mut World,
+    pub memories: &'a mut Memories,
+    pub limits: Limits,
+    pub apps: &'a Apps<T, B>,
 }
 
 impl<'a, T: AppMeaning, B: AppBody> WorldHost<'a, T, B> {
     // Whether a command is built in, or none of the application.
     fn is_of_world(&self, name: &Txt) -> bool
-        ensures value { result ≡ is_of_world self.now.names name.now }
-        ensures there { result ≡ false → has self.now.names name.now ≡ true }
+        ensures value { result ≡ is_of_world self.now.apps.now name.now }
+        ensures there { result ≡ false → has self.now.apps.now name.now ≡ true }
     {
         is_built_in(name) || !self.apps.has(name)
     }
@@ -54,21 +64,23 @@ impl<'a, T: AppMeaning, B: AppBody> WorldHost<'a, T, B> {
     // Runs a command on windows, bindings or events.
     #[tactic(auto, using(crate::proofs::Answers::in_setting_so))]
     fn call_world(&mut self, variables: &mut Vars, words: &[Txt]) -> Result<Option<Plan>, Stop>
-        ensures { AnswersSo (world_does self.old variables.old words.now) result self.old self.new variables.old variables.new }
+        ensures same_place { self.new.world.ghost_name ≡ self.old.world.ghost_name }
+        ensures answers { AnswersSo (world_does (setting_of self.old) variables.old words.now) result (setting_of self.old) (setting_of self.new) variables.old variables.new }
     {
-        command(self.alloc, &mut self.world, variables, words, &self.limits)
+        command(self.alloc, self.world, variables, words, &self.limits)
     }
 
     // Runs a command of the application.
     fn call_application(&mut self, name: &Txt, words: &[Txt]) -> Result<Plan, Stop>
-        requires { has self.old.names name.now ≡ true }
-        ensures called { CallsSo self.old.limits name.now (T.meaning name.now (memory_of self.old.memories name.now) words.now) result self.old.memories self.new.memories }
-        ensures others { self.new ≡ record self.old { memories = self.new.memories } }
+        requires { has self.old.apps.now name.now ≡ true }
+        ensures same_place { self.new.world.ghost_name ≡ self.old.world.ghost_name }
+        ensures called { CallsSo self.old.limits name.now (T.meaning name.now (memory_of self.old.memories.now name.now) words.now) result self.old.memories.now self.new.memories.now }
+        ensures others { setting_of self.new ≡ record (setting_of self.old) { memories = self.new.memories.now } }
     {
         call_application(
             self.alloc,
             self.apps,
-            &mut self.memories,
+            self.memories,
             name,
             words,
             &self.limits,
@@ -77,13 +89,16 @@ impl<'a, T: AppMeaning, B: AppBody> WorldHost<'a, T, B> {
 }
 
 impl<'a, T: AppMeaning, B: AppBody> Host for WorldHost<'a, T, B> {
-    type State = WorldHost<'a, T, B>;
+    ghost use Rattle.std.specs.Prelude.{ℕ};
+    ghost use Rattle.tks_world.specs.Hosts.{setting_of};
 
-    ghost state = { λ h. h };
+    type State = Lent;
 
-    ghost Place = { Unit {0} };
+    ghost state = { setting_of };
 
-    ghost place = { λ _. tt };
+    ghost Place = { ℕ };
+
+    ghost place = { λ h. h.world.ghost_name };
 
     ghost meaning = { hosting T.meaning };
 

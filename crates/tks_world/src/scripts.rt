@@ -1,9 +1,11 @@
 //! What the script of an input does.
-ghost use Rattle.std.specs.Prelude.{◌≡◌, ◌≤◌, [], IfOk, IfErr, OnErr};
+ghost use Rattle.std.specs.Prelude.{◌≡◌, ◌≤◌, [], IfOk, IfErr, OnErr, OnOk};
 ghost use Rattle.tks_text.specs.declared.fault.ErrorNumber.TheVariants.{OutsideLoop};
 ghost use Rattle.tks_tcl.specs.Cause.{bare};
 ghost use Rattle.tks_eval.specs.Meets.{EndsSo};
 ghost use Rattle.tks_world.specs.Stepped.{Accepts, counted, max_count};
+ghost use Rattle.tks_world.specs.Hosting.{stripped};
+ghost use Rattle.tks_world.specs.Hosts.{setting_of};
 ghost use Rattle.tks_world.specs.Scripts.{script_ends, concluded, lent, script_step};
 ghost use Rattle.tks_world.specs.Meets.{FailsSo, RefusedSo, ReachesSo};
 
@@ -17,34 +19,38 @@ use tks_input::{Refused, Reply};
 use tks_parse::{Script, parse};
 use tks_parse_table::ParseTable;
 use tks_share::Shared;
-use tks_state::World;
+use tks_state::{Mark, World};
 use tks_tcl::Stop;
 use tks_text::{ErrorNumber, Limits, ScriptFault, Txt, fits};
 use tks_vars::Vars;
 
-/// The world as scripts are lent it: a copy, without its memories and variables, which go beside it. No frame of these stands.
-pub fn lend<'a, T: AppMeaning, B: AppBody>(
-    alloc: Global,
-    world: &World,
-    apps: &'a Apps<T, B>,
-    limits: &Limits,
-) -> Result<(WorldHost<'a, T, B>, Vars), AllocError>
-    ensures { IfOk result (λ x. (x.0 ≡ lent apps.now limits.now world.now) × (x.1 ≡ world.now.variables) × (x.1.locals ≡ [])) }
+/// Takes variables and memories out of the world, beside which they go while scripts run. No frame of these stands.
+pub fn take_parts(alloc: Global, world: &mut World) -> Result<(Vars, Memories), AllocError>
+    ensures { IfOk result (λ parts. (parts.0 ≡ world.old.variables) × (parts.0.locals ≡ []) × (parts.1 ≡ world.old.memories) × (world.new ≡ stripped world.old)) }
 {
     // That no frame stands is asked for here.
     world.stands();
     let variables = world.variables().try_clone()?;
-    let mut copy = world.try_clone()?;
-    copy.replace_variables(Shared::new(alloc, Vars::new(alloc))?);
-    let memories = copy.replace_memories(Memories::none(alloc));
-    let host = WorldHost {
-        alloc,
-        world: copy,
-        memories,
-        limits: *limits,
-        apps,
-    };
-    Ok((host, variables))
+    world.replace_variables(Shared::new(alloc, Vars::new(alloc))?);
+    let memories = world.replace_memories(Memories::none(alloc));
+    Ok((variables, memories))
+}
+
+/// Keeps what became of the world where an input is accepted, and goes back to what was marked where it is refused.
+pub fn settle(
+    world: &mut World,
+    mark: Mark,
+    answer: Result<Reply, Refused>,
+) -> Result<Reply, Refused>
+    ensures answer { result ≡ answer }
+    ensures kept { OnOk answer (world.new ≡ world.old) }
+    ensures back { OnErr answer (world.new ≡ mark) }
+{
+    match answer {
+        Ok(_) => world.forget(mark),
+        Err(_) => world.back_to(mark),
+    }
+    answer
 }
 
 /// Counts an input behind so many, whose scripts ended, in the world that they left.
@@ -57,11 +63,12 @@ pub fn conclude<T: AppMeaning, B: AppBody>(
 ) -> Result<Reply, Refused>
     requires rests { variables.locals ≡ [] }
     requires bound { before ≤ max_count }
-    ensures { ReachesSo (counted before host.old.world host.old.memories code text variables) result host.new.world }
+    ensures same_place { host.new.world.ghost_name ≡ host.old.world.ghost_name }
+    ensures reaches { ReachesSo (counted before host.old.world.now host.old.memories.now code text variables) result host.new.world.now }
 {
     let memories = host.memories.share()?;
     let variables = Shared::new(host.alloc, variables)?;
-    accept(&mut host.world, before, memories, variables, code, text)
+    accept(host.world, before, memories, variables, code, text)
 }
 
 // What the script of an input comes to in the world that it was lent: a reply, and the world that it leaves.
@@ -75,7 +82,8 @@ fn run_lent<T: AppMeaning, B: AppBody>(
     limits: &Limits,
 ) -> Result<Reply, Refused>
     requires { variables.locals ≡ [] }
-    ensures { ReachesSo (concluded host.old.world.accepted (script_ends T.meaning limits.now script host.old variables)) result host.new.world }
+    ensures same_place { host.new.world.ghost_name ≡ host.old.world.ghost_name }
+    ensures reaches { ReachesSo (concluded host.old.world.now.accepted (script_ends T.meaning limits.now script (setting_of host.old) variables)) result host.new.world.now }
 {
     let before = host.world.accepted();
     let mut variables = variables;
@@ -88,7 +96,57 @@ fn run_lent<T: AppMeaning, B: AppBody>(
     }
 }
 
-/// What a script does to the world, run in a copy of it.
+// Runs the script of an input in the world, beside variables and memories that were taken out of it.
+fn run_beside<T: AppMeaning, B: AppBody>(
+    alloc: Global,
+    world: &mut World,
+    memories: &mut Memories,
+    variables: Vars,
+    apps: &Apps<T, B>,
+    parsed: &mut ParseTable,
+    script: Script,
+    limits: &Limits,
+) -> Result<Reply, Refused>
+    requires { variables.locals ≡ [] }
+    ensures { ReachesSo (concluded world.old.accepted (script_ends T.meaning limits.now script (record { world = world.old; memories = memories.old; limits = limits.now; names = apps.now }) variables)) result world.new }
+{
+    let mut host = WorldHost {
+        alloc,
+        world,
+        memories,
+        limits: *limits,
+        apps,
+    };
+    run_lent(alloc, &mut host, variables, parsed, script, limits)
+}
+
+// Runs the script of an input in the world, of which nothing is said where it is refused.
+#[tactic(auto, using(crate::proofs::Stepping::script_reaches))]
+fn run_marked<T: AppMeaning, B: AppBody>(
+    alloc: Global,
+    world: &mut World,
+    apps: &Apps<T, B>,
+    parsed: &mut ParseTable,
+    script: Script,
+    limits: &Limits,
+) -> Result<Reply, Refused>
+    ensures { ReachesSo (concluded world.old.accepted (script_ends T.meaning limits.now script (lent apps.now limits.now world.old) world.old.variables)) result world.new }
+{
+    let (variables, memories) = take_parts(alloc, world)?;
+    let mut memories = memories;
+    run_beside(
+        alloc,
+        world,
+        &mut memories,
+        variables,
+        apps,
+        parsed,
+        script,
+        limits,
+    )
+}
+
+/// What a script does to the world.
 pub fn step_script<T: AppMeaning, B: AppBody>(
     alloc: Global,
     world: &mut World,
@@ -100,34 +158,15 @@ pub fn step_script<T: AppMeaning, B: AppBody>(
     ensures refused { IfErr result (λ why. RefusedSo why (script_step (record { names = apps.now; meaning = T.meaning }) world.old text.now limits.now)) }
     ensures unchanged { OnErr result (world.new ≡ world.old) }
 {
-    let mut parsed = world.take_parsed();
-    let answer = run_in_copy(alloc, world, apps, &mut parsed, text, limits);
-    world.put_parsed(parsed);
-    answer
-}
-
-// The same, over what was parsed before.
-fn run_in_copy<T: AppMeaning, B: AppBody>(
-    alloc: Global,
-    world: &mut World,
-    apps: &Apps<T, B>,
-    parsed: &mut ParseTable,
-    text: &Txt,
-    limits: &Limits,
-) -> Result<Reply, Refused>
-    ensures accepted { IfOk result (λ reply. script_step (record { names = apps.now; meaning = T.meaning }) world.old text.now limits.now ≡ Accepts world.new reply) }
-    ensures refused { IfErr result (λ why. RefusedSo why (script_step (record { names = apps.now; meaning = T.meaning }) world.old text.now limits.now)) }
-    ensures unchanged { OnErr result (world.new ≡ world.old) }
-{
     if text.len() > limits.text as usize {
         return Err(Refused::BadInput);
     }
     let script = parse(alloc, text)?;
-    let (host, variables) = lend(alloc, world, apps, limits)?;
-    let mut host = host;
-    let reply = run_lent(alloc, &mut host, variables, parsed, script, limits)?;
-    *world = host.world;
-    Ok(reply)
+    let mark = world.mark()?;
+    let mut parsed = world.take_parsed();
+    let answer = run_marked(alloc, world, apps, &mut parsed, script, limits);
+    world.put_parsed(parsed);
+    settle(world, mark, answer)
 }
 
 /// Runs a script at top level. `return` ends it well; `break` and `continue` are errors.
@@ -139,7 +178,8 @@ pub fn run_script<T: AppMeaning, B: AppBody>(
     script: Script,
     limits: &Limits,
 ) -> Result<Ended, Stop>
-    ensures { EndsSo (script_ends T.meaning limits.now script host.old variables.old) result host.new variables.new }
+    ensures same_place { host.new.world.ghost_name ≡ host.old.world.ghost_name }
+    ensures ends { EndsSo (script_ends T.meaning limits.now script (setting_of host.old) variables.old) result (setting_of host.new) variables.new }
 {
     let ended = eval(alloc, host, variables, parsed, script, limits)?;
     match ended.code {

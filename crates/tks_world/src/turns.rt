@@ -1,17 +1,18 @@
 //! A turn: one thing that waits is done.
 ghost use Rattle.std.specs.Prelude.{◌≡◌, ◌≤◌, [], IfOk, IfErr, OnErr};
 ghost use Rattle.tks_eval.specs.Meets.{EndsSo};
+ghost use Rattle.tks_world.specs.Hosts.{setting_of};
 ghost use Rattle.tks_world.specs.Stepped.{Accepts, max_count};
 ghost use Rattle.tks_world.specs.Turns.{script_runs, event_runs, thing_does, finished, turn_does, turn_step};
 ghost use Rattle.tks_world.specs.Meets.{RefusedSo, ReachesSo};
 
 use crate::host::WorldHost;
 use crate::refusal::refused_by;
-use crate::scripts::{conclude, lend, run_script};
+use crate::scripts::{conclude, run_script, settle, take_parts};
 use crate::telling::told;
 use crate::things::{Thing, is_quiet, take_thing};
 use std::alloc::Global;
-use tks_app::{AppBody, AppMeaning, Apps};
+use tks_app::{AppBody, AppMeaning, Apps, Memories};
 use tks_cmd::begin;
 use tks_eval::{Ended, Host, eval_plan};
 use tks_event::Event;
@@ -31,7 +32,8 @@ fn run_later<T: AppMeaning, B: AppBody>(
     script: &Txt,
     limits: &Limits,
 ) -> Result<Ended, Stop>
-    ensures { EndsSo (script_runs T.meaning limits.now script.now host.old variables.old) result host.new variables.new }
+    ensures same_place { host.new.world.ghost_name ≡ host.old.world.ghost_name }
+    ensures ends { EndsSo (script_runs T.meaning limits.now script.now (setting_of host.old) variables.old) result (setting_of host.new) variables.new }
 {
     let script = parsed.script(alloc, script)?;
     let ended = run_script(alloc, host, variables, parsed, script, limits)?;
@@ -54,9 +56,10 @@ fn run_event<T: AppMeaning, B: AppBody>(
     event: Event,
     limits: &Limits,
 ) -> Result<Ended, Stop>
-    ensures { EndsSo (event_runs T.meaning limits.now event host.old variables.old) result host.new variables.new }
+    ensures same_place { host.new.world.ghost_name ≡ host.old.world.ghost_name }
+    ensures ends { EndsSo (event_runs T.meaning limits.now event (setting_of host.old) variables.old) result (setting_of host.new) variables.new }
 {
-    let plan = begin(alloc, &mut host.world, event, limits)?;
+    let plan = begin(alloc, host.world, event, limits)?;
     let ended = eval_plan(alloc, host, variables, parsed, plan, limits)?;
     Ok(ended)
 }
@@ -70,7 +73,8 @@ fn run_thing<T: AppMeaning, B: AppBody>(
     thing: Thing,
     limits: &Limits,
 ) -> Result<Ended, Stop>
-    ensures { EndsSo (thing_does T.meaning limits.now thing host.old variables.old) result host.new variables.new }
+    ensures same_place { host.new.world.ghost_name ≡ host.old.world.ghost_name }
+    ensures ends { EndsSo (thing_does T.meaning limits.now thing (setting_of host.old) variables.old) result (setting_of host.new) variables.new }
 {
     match thing {
         Thing::Event(event) => {
@@ -97,7 +101,8 @@ fn finish<T: AppMeaning, B: AppBody>(
 ) -> Result<Reply, Refused>
     requires rests { variables.locals ≡ [] }
     requires bound { before ≤ max_count }
-    ensures { ReachesSo (finished before text (thing_does T.meaning limits.now thing host.old variables)) result host.new.world }
+    ensures same_place { host.new.world.ghost_name ≡ host.old.world.ghost_name }
+    ensures reaches { ReachesSo (finished before text (thing_does T.meaning limits.now thing (setting_of host.old) variables)) result host.new.world.now }
 {
     let mut variables = variables;
     match run_thing(alloc, host, &mut variables, parsed, thing, limits) {
@@ -119,17 +124,57 @@ fn turn_lent<T: AppMeaning, B: AppBody>(
     limits: &Limits,
 ) -> Result<Reply, Refused>
     requires { variables.locals ≡ [] }
-    ensures { ReachesSo (turn_does T.meaning limits.now host.old variables) result host.new.world }
+    ensures same_place { host.new.world.ghost_name ≡ host.old.world.ghost_name }
+    ensures reaches { ReachesSo (turn_does T.meaning limits.now (setting_of host.old) variables) result host.new.world.now }
 {
     let before = host.world.accepted();
-    let Some(thing) = take_thing(&mut host.world)? else {
+    let Some(thing) = take_thing(host.world)? else {
         return Err(Refused::Quiet);
     };
-    let text = told(alloc, &host.world, &thing)?;
+    let text = told(alloc, host.world, &thing)?;
     finish(alloc, host, variables, parsed, before, thing, text, limits)
 }
 
-/// Does what comes next, in a copy of the world.
+// Runs a turn in the world, beside variables and memories that were taken out of it.
+fn turn_beside<T: AppMeaning, B: AppBody>(
+    alloc: Global,
+    world: &mut World,
+    memories: &mut Memories,
+    variables: Vars,
+    apps: &Apps<T, B>,
+    parsed: &mut ParseTable,
+    limits: &Limits,
+) -> Result<Reply, Refused>
+    requires { variables.locals ≡ [] }
+    ensures { ReachesSo (turn_does T.meaning limits.now (record { world = world.old; memories = memories.old; limits = limits.now; names = apps.now }) variables) result world.new }
+{
+    let mut host = WorldHost {
+        alloc,
+        world,
+        memories,
+        limits: *limits,
+        apps,
+    };
+    turn_lent(alloc, &mut host, variables, parsed, limits)
+}
+
+// Runs a turn in the world, of which nothing is said where it is refused.
+#[tactic(auto, using(crate::proofs::Stepping::turn_reaches))]
+fn turn_marked<T: AppMeaning, B: AppBody>(
+    alloc: Global,
+    world: &mut World,
+    apps: &Apps<T, B>,
+    parsed: &mut ParseTable,
+    limits: &Limits,
+) -> Result<Reply, Refused>
+    ensures { ReachesSo (turn_step (record { names = apps.now; meaning = T.meaning }) limits.now world.old) result world.new }
+{
+    let (variables, memories) = take_parts(alloc, world)?;
+    let mut memories = memories;
+    turn_beside(alloc, world, &mut memories, variables, apps, parsed, limits)
+}
+
+/// Does what comes next.
 pub fn step_turn<T: AppMeaning, B: AppBody>(
     alloc: Global,
     world: &mut World,
@@ -140,30 +185,12 @@ pub fn step_turn<T: AppMeaning, B: AppBody>(
     ensures refused { IfErr result (λ why. RefusedSo why (turn_step (record { names = apps.now; meaning = T.meaning }) limits.now world.old)) }
     ensures unchanged { OnErr result (world.new ≡ world.old) }
 {
-    let mut parsed = world.take_parsed();
-    let answer = turn_in_copy(alloc, world, apps, &mut parsed, limits);
-    world.put_parsed(parsed);
-    answer
-}
-
-// The same, over what was parsed before.
-fn turn_in_copy<T: AppMeaning, B: AppBody>(
-    alloc: Global,
-    world: &mut World,
-    apps: &Apps<T, B>,
-    parsed: &mut ParseTable,
-    limits: &Limits,
-) -> Result<Reply, Refused>
-    ensures accepted { IfOk result (λ reply. turn_step (record { names = apps.now; meaning = T.meaning }) limits.now world.old ≡ Accepts world.new reply) }
-    ensures refused { IfErr result (λ why. RefusedSo why (turn_step (record { names = apps.now; meaning = T.meaning }) limits.now world.old)) }
-    ensures unchanged { OnErr result (world.new ≡ world.old) }
-{
     if is_quiet(world) {
         return Err(Refused::Quiet);
     }
-    let (host, variables) = lend(alloc, world, apps, limits)?;
-    let mut host = host;
-    let reply = turn_lent(alloc, &mut host, variables, parsed, limits)?;
-    *world = host.world;
-    Ok(reply)
+    let mark = world.mark()?;
+    let mut parsed = world.take_parsed();
+    let answer = turn_marked(alloc, world, apps, &mut parsed, limits);
+    world.put_parsed(parsed);
+    settle(world, mark, answer)
 }
