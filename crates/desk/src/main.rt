@@ -8,7 +8,7 @@ ghost use Rattle.tks_desk.specs.Own.{next_of, swap_of};
 use std::alloc::{AllocError, Global};
 use std::fs::{Files, OpenOptions};
 use std::io;
-use std::io::{BufRead, BufReader, BufWriter, Write};
+use std::io::{BufRead, BufReader, BufWriter, ErrorKind, Write};
 use std::process::ExitCode;
 use tks_app::{AppAnswer, AppBody, AppClosure};
 use tks_desk::{
@@ -59,21 +59,37 @@ fn without_memory<R: Print>(rt: &R) -> ExitCode {
     ExitCode::from(NO_MEMORY)
 }
 
-// A file of nothing, which has the place of a standard stream that was closed, so that no file of the store takes it.
-fn held_stream<R: Files>(rt: &R) -> io::Result<R::File> {
+// Three files of nothing. Where standard streams were closed they have their places, so that no file of the store takes one.
+fn held_streams<R: Files>(rt: &R) -> io::Result<[R::File; 3]> {
+    Ok([nothing(rt)?, nothing(rt)?, nothing(rt)?])
+}
+
+// A file of nothing.
+fn nothing<R: Files>(rt: &R) -> io::Result<R::File> {
     OpenOptions::new()
         .read(true)
         .write(true)
         .open(rt, "/dev/null")
 }
 
-// Serves the standard streams, over the session in this store, with commands of these closures.
+// Serves the standard streams, none of which a file of the store has taken, over the session in this store, with commands of these
+// closures.
 fn serve<B: AppBody>(rt: HostRuntime, words: &CommandLine, next: B, swap: B) -> ExitCode
     requires next { B.callable next × ((memory : List ℕ) (words : List (List ℕ)) (a : AppAnswer) → B.may_answer next memory words a → a ≡ next_of memory words) }
     requires swap { B.callable swap × ((memory : List ℕ) (words : List (List ℕ)) (a : AppAnswer) → B.may_answer swap memory words a → a ≡ swap_of memory words) }
 {
+    match held_streams(&rt) {
+        Err(error) if error.kind() == ErrorKind::OutOfMemory => without_memory(&rt),
+        _held => serve_streams(rt, words, next, swap),
+    }
+}
+
+// The same, where no file of the store can take a stream's place.
+fn serve_streams<B: AppBody>(rt: HostRuntime, words: &CommandLine, next: B, swap: B) -> ExitCode
+    requires next { B.callable next × ((memory : List ℕ) (words : List (List ℕ)) (a : AppAnswer) → B.may_answer next memory words a → a ≡ next_of memory words) }
+    requires swap { B.callable swap × ((memory : List ℕ) (words : List (List ℕ)) (a : AppAnswer) → B.may_answer swap memory words a → a ≡ swap_of memory words) }
+{
     let alloc = rt.alloc();
-    let _held = [held_stream(&rt), held_stream(&rt), held_stream(&rt)];
     let Ok(mut reader) = BufReader::new(alloc, rt.stdin()) else {
         return without_memory(&rt);
     };

@@ -6,11 +6,21 @@
 //! them is a world, and with a byte changed they are another world or none. (`tools/rows/worlds.py` makes the bytes that are
 //! wanted from the table of docs/FORMAT.md.) What stands before the first session is passed over.
 //!
+//! Behind a line `== again WIDTH HEIGHT TITLE` a line `--` parts the lines of a session from those of the next, which is opened on
+//! what a crash leaves of the first one's disk, in whose answers it stands too.
+//!
+//! Behind a line `== crash WIDTH HEIGHT TITLE` stand three runs of lines with a line `--` between them. The first is answered. The
+//! second is stopped after each number of calls of the disk, up to the one with which it comes to its end; each time a word is
+//! written, `stopped` or `told`, and then what the third is answered behind six crashes: what wasn't synced is as it was, as it was
+//! written, or the byte 0, 1, 7 or 255. What is the same for several numbers in turn is written once.
+//!
 //! With the words `damage COUNT SEED` it draws so many damaged spellings of each world instead of changing its bytes in turn, and
 //! writes how many are worlds still, where each of them is sound: `tools/damaged_worlds` runs it so.
 #![tactic(auto)]
 
+mod crashes;
 mod damage;
+mod setup;
 mod sound;
 mod worlds;
 
@@ -18,12 +28,14 @@ ghost use Rattle.std.specs.Prelude.{◌≡◌, ℕ, List, IfOk};
 ghost use Rattle.tks_app.specs.declared.answer.AppAnswer.{AppAnswer};
 ghost use Rattle.tks_desk.specs.Own.{next_of, swap_of};
 
+use crashes::{put_again, put_stops};
+use setup::{Setup, answered, put_answers};
 use std::alloc::{AllocError, Global};
 use std::env;
 use std::io::{Read, Write};
 use std::process::ExitCode;
 use tks_app::{AppAnswer, AppBody, AppClosure};
-use tks_desk::{Own, next_number, own_apps, run, swap_word};
+use tks_desk::{Own, next_number, own_apps, swap_word};
 use tks_disk::{Disk, MemoryDisk};
 use tks_session::Session;
 use tks_text::{Limits, Size, Txt};
@@ -34,6 +46,15 @@ const HEADING: &str = "\n== ";
 
 /// How many inputs may wait for a commit: more than any session has.
 const PENDING: u32 = 10_000;
+
+/// What is written of a session.
+#[derive(Clone, Copy)]
+enum Wanted {
+    Answers,
+    World,
+    Again,
+    Crashes,
+}
 
 fn main(rt: HostRuntime) -> ExitCode {
     let alloc = rt.alloc();
@@ -63,8 +84,7 @@ fn main(rt: HostRuntime) -> ExitCode {
             (Ok(next), Ok(swap)) => {
                 let next: AppClosure = next;
                 let swap: AppClosure = swap;
-                let disk = MemoryDisk::new(alloc);
-                put_session(alloc, session, disk, next, swap, &task, &mut written).is_some()
+                put_session(alloc, session, next, swap, &task, &mut written).is_some()
             }
             _ => false,
         };
@@ -89,11 +109,10 @@ fn task_of(rt: &HostRuntime) -> Option<Task> {
     Some(Task { count, seed })
 }
 
-// Adds the heading of a session, and what it comes to on this disk, an empty one, with commands of these closures.
-fn put_session<D: Disk + Drop, B: AppBody>(
+// Adds the heading of a session, and what it comes to on an empty disk, with commands of these closures.
+fn put_session<B: AppBody>(
     alloc: Global,
     session: &str,
-    disk: D,
     next: B,
     swap: B,
     task: &Option<Task>,
@@ -104,19 +123,33 @@ fn put_session<D: Disk + Drop, B: AppBody>(
 {
     let (heading, lines) = session.split_once('\n').unwrap_or((session, ""));
     put_heading(heading, written)?;
-    let of_world = heading.strip_prefix("world ");
-    let limits = Limits {
-        pending: PENDING,
-        ..Limits::format1()
+    let (wanted, rest) = wanted_by(heading);
+    let setup = Setup {
+        grid: grid_of(rest)?,
+        apps: own_apps(alloc, next, swap).ok()?,
+        limits: Limits {
+            pending: PENDING,
+            ..Limits::format1()
+        },
     };
-    let grid = grid_of(of_world.unwrap_or(heading))?;
-    let apps = own_apps(alloc, next, swap).ok()?;
-    match Session::open(alloc, disk, apps, grid, limits) {
-        Ok(mut session) if of_world.is_some() => {
-            put_world_left(alloc, &mut session, lines, task, written)
-        }
-        Ok(mut session) => put_answers(alloc, &mut session, lines, written),
-        Err(_) => None,
+    match wanted {
+        Wanted::Answers => put_told(alloc, MemoryDisk::new(alloc), setup, lines, written),
+        Wanted::World => put_left(alloc, MemoryDisk::new(alloc), setup, lines, task, written),
+        Wanted::Again => put_again(alloc, setup, lines, written),
+        Wanted::Crashes => put_stops(alloc, setup, lines, written),
+    }
+}
+
+// What a heading asks for, and what stands behind the word for it.
+fn wanted_by(heading: &str) -> (Wanted, &str) {
+    if let Some(rest) = heading.strip_prefix("world ") {
+        (Wanted::World, rest)
+    } else if let Some(rest) = heading.strip_prefix("again ") {
+        (Wanted::Again, rest)
+    } else if let Some(rest) = heading.strip_prefix("crash ") {
+        (Wanted::Crashes, rest)
+    } else {
+        (Wanted::Answers, heading)
     }
 }
 
@@ -135,19 +168,34 @@ fn grid_of(heading: &str) -> Option<Size> {
     Size::new(width, height)
 }
 
-// Adds what a session answers to lines.
-fn put_answers<D: Disk, B: AppBody>(
+// Adds what a session answers to lines, where it comes to their end.
+fn put_told<D: Disk + Drop, B: AppBody>(
     alloc: Global,
-    session: &mut Session<D, Own, B>,
+    disk: D,
+    setup: Setup<B>,
     lines: &str,
     written: &mut Vec<u8>,
 ) -> Option<()> {
-    let mut lines = lines.as_bytes();
-    run(alloc, &mut lines, written, session).ok()?;
-    Some(())
+    let (is_told, _, _) = answered(alloc, disk, setup, lines, written);
+    is_told.then_some(())
 }
 
 // Adds the bytes of the world that lines leave, and what is told of them.
+fn put_left<D: Disk + Drop, B: AppBody>(
+    alloc: Global,
+    disk: D,
+    setup: Setup<B>,
+    lines: &str,
+    task: &Option<Task>,
+    written: &mut Vec<u8>,
+) -> Option<()> {
+    match setup.open(alloc, disk) {
+        Ok(mut session) => put_world_left(alloc, &mut session, lines, task, written),
+        Err(_) => None,
+    }
+}
+
+// The same of a session that is open.
 fn put_world_left<D: Disk, B: AppBody>(
     alloc: Global,
     session: &mut Session<D, Own, B>,
@@ -156,6 +204,9 @@ fn put_world_left<D: Disk, B: AppBody>(
     written: &mut Vec<u8>,
 ) -> Option<()> {
     let mut answers = Vec::new(alloc);
-    put_answers(alloc, session, lines, &mut answers)?;
-    put_world(alloc, session.world(), task, written)
+    if put_answers(alloc, session, lines, &mut answers) {
+        put_world(alloc, session.world(), task, written)
+    } else {
+        None
+    }
 }

@@ -3,9 +3,12 @@ ghost use Rattle.std.specs.Prelude.{◌≡◌, ℕ, List, IfOk};
 ghost use Rattle.tks_app.specs.declared.answer.AppAnswer.{AppAnswer};
 ghost use Rattle.tks_desk.specs.Own.{swap_of};
 
+use crate::own::{Setup, answered_on, fault_of, left_by, opens_and_tells, with_both, with_refused};
 use std::alloc::{AllocError, Global};
 use tks_app::{AppAnswer, AppBody, AppClosure, AppCommand, Apps};
 use tks_desk::{Own, swap_word};
+use tks_disk::{Disk, MemoryDisk};
+use tks_session::SessionFault;
 use tks_text::{Limits, Size, Txt};
 use tks_world::{Input, Refused, World, step};
 
@@ -71,4 +74,49 @@ fn a_command_that_is_refused_memory(rt: HostRuntime) {
         Err(_) => false,
     };
     assert!(rt; refuses);
+}
+
+// A form whose entry calls `app.next` behind a key, and a call of its own.
+const CALLS: &[u8] =
+    b"cmd entry .e -textvariable v; pack .e; bind .e <Key-a> {event generate .e <<V>>; app.next}; bind .e <<V>> {lappend q %W; after 0 {incr n}}; focus .e\nkey a\nclock 1\ndrain 9\ncmd app.next\ncommit\n";
+
+// What is answered where the first of the two calls is refused memory, and the second with it.
+const FIRST_REFUSED: &[u8] =
+    b"ok 1\nok 2\nok 3\nok 4 event FocusOut .\nok 5 event FocusIn .e\nrefused memory\ndrained 2\nrefused memory\ncommitted 5\n";
+
+// The same of the second call alone.
+const SECOND_REFUSED: &[u8] =
+    b"ok 1\nok 2\nok 3\nok 4 event FocusOut .\nok 5 event FocusIn .e\nok 6 event KeyPress .e\nok 7 timer after#0\ndrained 4\nrefused memory\ncommitted 7\n";
+
+// Whether a store isn't opened for want of memory, and then opens with a command that isn't refused any.
+fn opens_later<D: Disk + Drop, B: AppBody>(
+    alloc: Global,
+    disk: D,
+    refused: Setup<B>,
+    other: Setup<B>,
+) -> Option<bool> {
+    match fault_of(alloc, disk, refused) {
+        Some((SessionFault::NoMemory, disk)) => {
+            let lines = b"cmd list $q $n $v\ncmd app.next\n";
+            opens_and_tells(alloc, disk, other, lines, b"ok 9 .e 1 a\nok 10 3\n")
+        }
+        _ => Some(false),
+    }
+}
+
+// Whether a call is refused memory where its own memory has so many bytes: in lines, which answer so then, and where what they
+// left is opened.
+fn call_is_refused(alloc: Global, refused_at: usize, want: &[u8]) -> Option<bool> {
+    let limits = Limits::format1();
+    let refused = with_refused(alloc, 3, limits, Some(refused_at))?;
+    answered_on(alloc, MemoryDisk::new(alloc), refused, CALLS, want)?;
+    let again = with_refused(alloc, 3, limits, Some(refused_at))?;
+    let disk = left_by(alloc, CALLS)?;
+    opens_later(alloc, disk, again, with_both(alloc, 3, limits)?)
+}
+
+#[test]
+fn each_call_is_refused_memory_in_turn(rt: HostRuntime) {
+    assert_eq!(rt; call_is_refused(rt.alloc(), 0, FIRST_REFUSED), Some(true));
+    assert_eq!(rt; call_is_refused(rt.alloc(), 1, SECOND_REFUSED), Some(true));
 }

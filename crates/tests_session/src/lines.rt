@@ -1,12 +1,12 @@
 //! Runs over readers and writers that a row has not: such as break, are narrow, or hold long lines.
 
-use crate::own::{Setup, crash_tells, left_by, with_both};
+use crate::own::{Setup, with_both};
 use std::alloc::Global;
 use std::io;
 use std::io::{BufRead, ErrorKind, Read, Write};
 use tks_app::AppBody;
 use tks_desk::{Own, RunEnd, RunFault, run};
-use tks_disk::{Disk, Left, MemoryDisk};
+use tks_disk::{Disk, MemoryDisk};
 use tks_session::Session;
 use tks_text::Limits;
 
@@ -354,19 +354,4 @@ fn no_more_than_64_inputs_wait(rt: HostRuntime) {
     let want = b"\nok 63\nok 64\nrefused pending\ncommitted 64\nok 65\nend".as_slice();
     assert!(rt; answers.as_slice().starts_with(b"ok 1\nok 2\n"));
     assert!(rt; answers.as_slice().ends_with(want));
-}
-
-// Whether what was committed stands behind a crash, and what was not is gone.
-fn committed_stands(alloc: Global) -> Option<bool> {
-    let first = b"cmd set x 5\ncmd label .l -text old; pack .l\ncommit\ncmd set x 6\n";
-    let second = b"cmd set x\nscreen\ncommit\n";
-    let want =
-        b"ok 3 5\n|        old         |\n|                    |\n|                    |\ncommitted 3\n";
-    let disk = left_by(alloc, first)?;
-    crash_tells(alloc, &disk, Left::Old, second, want)
-}
-
-#[test]
-fn what_was_committed_stands(rt: HostRuntime) {
-    assert_eq!(rt; committed_stands(rt.alloc()), Some(true));
 }

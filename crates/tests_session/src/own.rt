@@ -6,7 +6,7 @@ ghost use Rattle.tks_desk.specs.Own.{next_of, swap_of};
 use std::alloc::{AllocError, Global};
 use tks_app::{AppAnswer, AppBody, AppCommand, Apps};
 use tks_desk::{Own, next_number, own_apps, run, swap_word};
-use tks_disk::{Disk, Left, MemoryDisk, Side};
+use tks_disk::{Disk, MemoryDisk, Side};
 use tks_session::{OpenFault, Session, SessionFault};
 use tks_text::{Limits, Size, Txt};
 
@@ -15,6 +15,8 @@ use tks_text::{Limits, Size, Txt};
 pub struct Body {
     pub alloc: Global,
     pub swaps: bool,
+    /// Where its memory has this many bytes, it is refused memory.
+    pub refused_at: Option<usize>,
 }
 
 impl AppBody for Body {
@@ -25,6 +27,9 @@ impl AppBody for Body {
     ghost may_answer = { λ b memory words answer. answer ≡ (if b.swaps then swap_of memory words else next_of memory words) };
 
     fn run(&self, memory: &Txt, words: &[Txt]) -> Result<AppAnswer, AllocError> {
+        if self.refused_at == Some(memory.len()) {
+            return Err(AllocError);
+        }
         if self.swaps {
             swap_word(self.alloc, memory, words)
         } else {
@@ -55,11 +60,26 @@ impl<B: AppBody> Setup<B> {
 
 /// One with both commands, on a grid of 20 by so many cells.
 pub fn with_both(alloc: Global, height: u16, limits: Limits) -> Option<Setup<Body>> {
+    with_refused(alloc, height, limits, None)
+}
+
+/// The same where `app.next` is refused memory once its own memory has so many bytes.
+pub fn with_refused(
+    alloc: Global,
+    height: u16,
+    limits: Limits,
+    refused_at: Option<usize>,
+) -> Option<Setup<Body>> {
     let next = Body {
         alloc,
         swaps: false,
+        refused_at,
     };
-    let swap = Body { alloc, swaps: true };
+    let swap = Body {
+        alloc,
+        swaps: true,
+        refused_at: None,
+    };
     Some(Setup {
         limits,
         grid: Size::new(20, height)?,
@@ -72,6 +92,7 @@ pub fn counting(alloc: Global) -> Option<Setup<Body>> {
     let next = Body {
         alloc,
         swaps: false,
+        refused_at: None,
     };
     let mut apps: Apps<Own, Body> = Apps::new(alloc);
     let command = AppCommand::new(Txt::from_text(alloc, b"app.next").ok()?, next);
@@ -85,8 +106,8 @@ pub fn counting(alloc: Global) -> Option<Setup<Body>> {
     })
 }
 
-/// What a session answers to lines.
-pub fn told<D: Disk, B: AppBody>(
+// What a session answers to lines.
+fn told<D: Disk, B: AppBody>(
     alloc: Global,
     session: &mut Session<D, Own, B>,
     lines: &[u8],
@@ -160,21 +181,6 @@ fn left_on<D: Disk + Drop, B: AppBody>(
 pub fn left_by(alloc: Global, lines: &[u8]) -> Option<MemoryDisk> {
     let setup = with_both(alloc, 3, Limits::format1())?;
     left_on(alloc, MemoryDisk::new(alloc), setup, lines)
-}
-
-/// Whether what a crash leaves of a disk opens to a session of this kind that answers lines so.
-pub fn crash_tells(
-    alloc: Global,
-    disk: &MemoryDisk,
-    left: Left,
-    lines: &[u8],
-    want: &[u8],
-) -> Option<bool> {
-    let setup = with_both(alloc, 3, Limits::format1())?;
-    match disk.crash(alloc, left, Left::Old) {
-        Ok(crashed) => opens_and_tells(alloc, crashed, setup, lines, want),
-        Err(_) => None,
-    }
 }
 
 /// Why a disk isn't opened, and the disk that is handed back.
