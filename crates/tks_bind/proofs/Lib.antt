@@ -6,8 +6,10 @@ mod Values
 mod Placing
 mod Virtually
 mod Turning
-mod Latter
 mod Winning
+mod Passing
+mod OneChosen
+mod Trying
 mod Order
 mod Deciding
 mod Winner

@@ -14,5 +14,6 @@ pub mod VirtualIndexes
 pub mod Chosen
 pub mod Ways
 pub mod Choosing
+pub mod Passes
 pub mod Pieces
 pub mod Others
