@@ -8,6 +8,11 @@ mod Virtually
 mod Turning
 mod Winning
 mod Passing
+mod Members
+mod Grouping
+mod Grouped
+mod Leading
+mod Sequences
 mod OneChosen
 mod Trying
 mod Order

@@ -1,15 +1,18 @@
 -- How the code finds the chosen binding: one pass finds a way that none beats, and a second one looks among those that were
 -- set later, and that this way doesn't beat.
-use Rattle.std.specs.Prelude.{◌&&◌, not, nat_lt, Bool, true, if◌then◌else◌, List, [], ◌∷◌, ◌++◌, Option, Some, None}
-use Rattle.tks_text.specs.Text.{same_text}
+use Rattle.std.specs.Prelude.{◌&&◌, not, nat_lt, Bool, true, false, if◌then◌else◌, List, [], ◌∷◌, ◌++◌, Option, Some, None}
+use Rattle.std.specs.List.{filter}
 use Rattle.tks_event.specs.declared.pattern.Pattern.{Pattern}
 use Rattle.tks_bind.specs.declared.binding.Binding.{Binding}
+use Rattle.tks_bind.specs.declared.through.Through.{Through}
 use Rattle.tks_bind.specs.declared.trial.Trial.{Trial as Held}
 use Rattle.tks_bind.specs.Choice.{Way}
 use Rattle.tks_bind.specs.Beating.{beats}
 use Rattle.tks_bind.specs.Ways.{way_of}
 use Rattle.tks_bind.specs.Chosen.{Scene}
-use Rattle.tks_bind.specs.Choosing.{meets, tried, is_through, way}
+use Rattle.tks_bind.specs.Choosing.{meets, way}
+use Rattle.tks_bind.specs.Endings.{named, is_under}
+use Rattle.tks_bind.specs.Ends.{Ends}
 
 -- a binding, and a way to meet it that is tried
 pub record Trial : Type 0 where
@@ -26,15 +29,26 @@ trial_in (Some t) = Some (trial_of t)
 
 -- ---- what is tried
 
--- a binding by each of some sequences
-abbrev pub trials_by : Binding → Bool → List (List Pattern) → List Trial
-trials_by b virtual [] = []
-trials_by b virtual (q ∷ qs) = record { binding = b; way = way virtual q } ∷ trials_by b virtual qs
+-- a binding by its own sequence, or through one of a virtual event
+abbrev pub trial_by : Option (List Pattern) → Binding → Trial
+trial_by None b = record { binding = b; way = way false b.sequence }
+trial_by (Some sequence) b = record { binding = b; way = way true sequence }
 
--- the bindings of the tag, each by its sequences
-abbrev pub trials : Scene → List Binding → List Trial
-trials s [] = []
-trials s (b ∷ bs) = if same_text b.tag s.tag then trials_by b (is_through s b) (tried s b) ++ trials s bs else trials s bs
+abbrev pub trials_by : Option (List Pattern) → List Binding → List Trial
+trials_by through [] = []
+trials_by through (b ∷ bs) = trial_by through b ∷ trials_by through bs
+
+-- the bindings of the tag for virtual events, each through a sequence
+abbrev pub trials_through : Scene → List Through → List Trial
+trials_through s [] = []
+trials_through s (t ∷ ts) = trials_by (Some t.sequence) (filter (is_under s.tag (named t.name)) s.bindings) ++ trials_through s ts
+
+abbrev pub trials_at : Scene → Ends → List Trial
+trials_at s e = trials_by None e.bindings ++ trials_through s e.sequences
+
+-- all that ends in the event, with its detail and without one
+abbrev pub trials : Scene → Ends → Ends → List Trial
+trials s full bare = trials_at s full ++ trials_at s bare
 
 -- ---- the first pass
 

@@ -3,8 +3,11 @@
 
 mod binding;
 mod bindings;
+mod ending;
+mod ends;
 mod fault;
 mod field;
+mod groups;
 mod history;
 mod laws;
 mod matching;
@@ -13,6 +16,8 @@ mod physical;
 mod scene;
 mod search;
 mod substitution;
+mod tag_groups;
+mod through;
 mod trial;
 mod virtual_event;
 mod virtuals;
