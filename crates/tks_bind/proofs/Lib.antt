@@ -1,5 +1,6 @@
 mod Latest
-mod Rows
+mod Begun
+mod Noting
 mod Finding
 mod Digits
 mod Values

@@ -4,7 +4,7 @@ ghost use Rattle.tks_bind.specs.Choosing.{scene_of, is_this, meets};
 
 use crate::bindings::Bindings;
 use crate::ending::name_of;
-use crate::search::ends_there;
+use crate::search::occurs;
 use crate::virtuals::Virtuals;
 use tks_event::{Event, Sequence, is_virtual};
 use tks_text::Txt;
@@ -28,7 +28,7 @@ impl<'a> Scene<'a> {
         if is_virtual(self.event.kind) {
             is_this(name_of(sequence), &self.event.detail)
         } else {
-            ends_there(sequence.as_slice(), self.history)
+            occurs(sequence.as_slice(), self.history)
         }
     }
 }
