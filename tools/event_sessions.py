@@ -419,6 +419,18 @@ class Draw:
             self.generate()
         return self.rows
 
+    def crowd(self, most=200, events=20):
+        """Scripts and answers: up to so many bindings, some of virtual events with sequences, all bound before the first
+        event."""
+        self.answer('frame .a -width 2 -height 1; frame .b -width 2 -height 1; pack .a .b')
+        for _ in range(self.random.randint(1, most)):
+            self.bind()
+            if self.virtuals and self.random.random() < .05:
+                self.change_virtual()
+        for _ in range(events):
+            self.generate()
+        return self.rows
+
     def session(self, events=40):
         """Scripts and answers; the faults stand behind them in `plain.faults`."""
         self.answer('frame .a -width 2 -height 1; frame .b -width 2 -height 1; pack .a .b')

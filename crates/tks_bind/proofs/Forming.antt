@@ -172,3 +172,6 @@ removed_below next tag s bs i h =
 
 pub all_below : (next : ℕ) (tag : List ℕ) (s : List Pattern) (bs : List Binding) → are_bindings next bs ≡ true → others_are_below next tag s bs ≡ true
 all_below next tag s bs h = others_below next tag s bs (both (are_below next bs) (all_differ differ bs) h).0
+
+pub apart : (next : ℕ) (bs : List Binding) → are_bindings next bs ≡ true → all_differ differ bs ≡ true
+apart next bs h = (both (are_below next bs) (all_differ differ bs) h).1

@@ -1,6 +1,6 @@
 -- Bindings by their index.
 use Rattle.std.specs.List.{remove}
-use Rattle.std.proofs.Common.{◌≡◌, ◌≤◌, ◌<◌, ℕ, suc, Bool, true, false, List, [], ◌∷◌, ◌++◌, length, slice_set, refl, ap, arith}
+use Rattle.std.proofs.Common.{◌≡◌, ◌≤◌, ◌<◌, ℕ, zero, suc, Bool, true, false, List, [], ◌∷◌, ◌++◌, length, slice_get, slice_set, Some, refl, ap, arith}
 use Rattle.tks_event.specs.declared.pattern.Pattern.{Pattern}
 use Rattle.tks_bind.specs.declared.binding.Binding.{Binding}
 use Rattle.tks_bind.specs.Binding.{is_for, placed, without}
@@ -44,3 +44,19 @@ none_taken tag s (c ∷ cs) h = by (is_for tag s c) refl h (none_taken tag s cs)
         → c ∷ cs ≡ without tag s (c ∷ cs)
     by true e i rest = absurd (let j : suc (length cs) ≤ 0 = rw e at i in omega arith)
     by false e i rest = rw e (let j : suc (length cs) ≤ suc (index_of tag s cs) = rw e at i in ap (λ r. c ∷ r) (rest (omega arith)))
+
+-- what was placed is there
+pub there_set : (b : Binding) (bs : List Binding) (i : ℕ) → i < length bs → slice_get (slice_set bs i b) i ≡ Some b
+there_set b [] i h = absurd (omega arith)
+there_set b (c ∷ cs) zero h = refl
+there_set b (c ∷ cs) (suc i) h = there_set b cs i (omega arith)
+
+pub there_last : (b : Binding) (bs : List Binding) → length bs ≤ index_of b.tag b.sequence bs → slice_get (bs ++ b ∷ []) (index_of b.tag b.sequence bs) ≡ Some b
+there_last b [] h = refl
+there_last b (c ∷ cs) h = by (is_for b.tag b.sequence c) refl h (there_last b cs)
+  where
+    by : (t : Bool) → is_for b.tag b.sequence c ≡ t → suc (length cs) ≤ index_of b.tag b.sequence (c ∷ cs)
+        → (length cs ≤ index_of b.tag b.sequence cs → slice_get (cs ++ b ∷ []) (index_of b.tag b.sequence cs) ≡ Some b)
+        → slice_get ((c ∷ cs) ++ b ∷ []) (index_of b.tag b.sequence (c ∷ cs)) ≡ Some b
+    by true e i rest = absurd (let j : suc (length cs) ≤ 0 = rw e at i in omega arith)
+    by false e i rest = rw e (let j : suc (length cs) ≤ suc (index_of b.tag b.sequence cs) = rw e at i in rest (omega arith))

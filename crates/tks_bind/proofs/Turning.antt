@@ -1,8 +1,10 @@
 -- Patterns in the opposite order.
 use Rattle.std.proofs.Common.{◌≡◌, ◌+◌, ◌-◌, ◌<◌, ℕ, zero, suc, List, [], ◌∷◌, take, length, get_or, slice_get, Option, Some, None, ap, sym, subst, arith}
 use Rattle.tks_event.specs.Sequences.{is_some_text}
+use Rattle.tks_event.specs.Kinds.{kind_name}
 use Rattle.tks_event.specs.declared.pattern.Pattern.{Pattern}
 use Rattle.tks_bind.specs.Occurs.{turned}
+use Rattle.tks_bind.specs.Endings.{first_ending, last_ending}
 use Rattle.tks_bind.specs.Choice.{has_detail, last_has_detail}
 
 -- one more of the first ones comes first
@@ -23,3 +25,6 @@ turned_last (q ∷ r ∷ ps) done p h =
 
 pub last_told : (ps : List Pattern) (p : Pattern) → slice_get ps (length ps - 1) ≡ Some p → last_has_detail ps ≡ is_some_text p.detail
 last_told ps p h = let t = turned_last ps [] p h in ap has_detail t.1
+
+pub ending_told : (ps : List Pattern) (p : Pattern) → slice_get ps (length ps - 1) ≡ Some p → last_ending ps ≡ record { kind = kind_name p.kind; detail = p.detail }
+ending_told ps p h = let t = turned_last ps [] p h in ap first_ending t.1

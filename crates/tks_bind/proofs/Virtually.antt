@@ -1,6 +1,6 @@
 -- Virtual events by their index.
 use Rattle.std.specs.List.{remove}
-use Rattle.std.proofs.Common.{rules, ◌≡◌, ◌≤◌, ◌<◌, ◌==◌, ℕ, suc, Bool, true, false, List, [], ◌∷◌, ◌++◌, length, slice_set, Option, Some, None, refl, ap, sym, subst, ◌∙◌, arith}
+use Rattle.std.proofs.Common.{rules, ◌≡◌, ◌<◌, ◌==◌, ℕ, suc, Bool, true, false, List, [], ◌∷◌, ◌++◌, length, slice_set, Option, Some, None, refl, ap, sym, subst, ◌∙◌, arith}
 use Rattle.tks_event.specs.declared.pattern.Pattern.{Pattern}
 use Rattle.tks_bind.specs.declared.virtual_event.VirtualEvent.{VirtualEvent}
 use Rattle.tks_bind.specs.VirtualEvents.{is_named, has_sequence, sequences_of, added, deleted, other_sequences, with_sequences, deleted_sequence}
@@ -74,13 +74,13 @@ module _ (name : List ℕ) where
       by true e f rest = rw e refl
       by false e f rest = rw e (let j : suc (index_of name vs) < suc (length vs) = rw e at f in ap (λ r. u ∷ r) (rest (omega arith)))
 
-  pub deleted_none : (vs : List VirtualEvent) → length vs ≤ index_of name vs → vs ≡ deleted name vs
+  pub deleted_none : (vs : List VirtualEvent) → found name vs ≡ None → vs ≡ deleted name vs
   deleted_none [] f = refl
   deleted_none (u ∷ vs) f = by (is_named name u) refl f (deleted_none vs)
     where
-      by : (t : Bool) → is_named name u ≡ t → length (u ∷ vs) ≤ index_of name (u ∷ vs) → (length vs ≤ index_of name vs → vs ≡ deleted name vs) → (u ∷ vs) ≡ deleted name (u ∷ vs)
-      by true e f rest = absurd (let j : suc (length vs) ≤ 0 = rw e at f in omega arith)
-      by false e f rest = rw e (let j : suc (length vs) ≤ suc (index_of name vs) = rw e at f in ap (λ r. u ∷ r) (rest (omega arith)))
+      by : (t : Bool) → is_named name u ≡ t → found name (u ∷ vs) ≡ None → (found name vs ≡ None → vs ≡ deleted name vs) → (u ∷ vs) ≡ deleted name (u ∷ vs)
+      by true e f rest = absurd (let g : Some u ≡ Nothing = rw e at f in cc)
+      by false e f rest = rw e (ap (λ r. u ∷ r) (rest (rw e at f)))
 
   pub none_deleted : (s : List Pattern) (vs : List VirtualEvent) → found name vs ≡ None → vs ≡ deleted_sequence name s vs
   none_deleted s [] f = refl

@@ -28,7 +28,7 @@ no_name name e = cc
 one_name : (m n : List ℕ) → ◌≡◌ {A = Option (List ℕ)} (Some m) (Some n) → m ≡ n
 one_name m n e = cc
 
-this_so : (o : Option (List ℕ)) (name : List ℕ) → Decides (is_this o name) (o ≡ Some name)
+pub this_so : (o : Option (List ℕ)) (name : List ℕ) → Decides (is_this o name) (o ≡ Some name)
 this_so None name = never (no_name name)
 this_so (Some n) name = Decides-like (same_text n name) (λ e. ap (λ x. Some x) e) (one_name n name) (bytes_decides n name)
 

@@ -1,4 +1,4 @@
--- How the code chooses.
+-- The choice as a function.
 use Rattle.std.specs.Prelude.{ℕ, ◌-◌, ◌&&◌, ◌||◌, not, nat_lt, Bool, false, if◌then◌else◌, List, [], ◌∷◌, length, Option, Some, None, is_some}
 use Rattle.tks_text.specs.Text.{same_text}
 use Rattle.tks_event.specs.Kinds.{is_virtual}
@@ -13,9 +13,9 @@ use Rattle.tks_bind.specs.Choice.{Way}
 use Rattle.tks_bind.specs.Beating.{beats}
 use Rattle.tks_bind.specs.Chosen.{Scene, name_of}
 
--- the scene that the code holds
+-- what contracts see of the code's scenes
 abbrev pub scene_of : Held → Scene
-scene_of s = record { bindings = s.bindings.now; tag = s.tag.now; event = s.event.now; history = s.history.now; virtuals = s.virtuals.now }
+scene_of s = record { bindings = s.bindings.now.bindings; tag = s.tag.now; event = s.event.now; history = s.history.now; virtuals = s.virtuals.now }
 
 -- whether a name is this one
 abbrev pub is_this : Option (List ℕ) → List ℕ → Bool

@@ -14,5 +14,10 @@ pub mod VirtualIndexes
 pub mod Chosen
 pub mod Ways
 pub mod Choosing
+pub mod Endings
+pub mod Groups
+pub mod Throughs
+pub mod Ends
+pub mod Passes
 pub mod Pieces
 pub mod Others

@@ -1,13 +1,12 @@
 -- Which events a pattern fits, and what may lie between those of a sequence (bind(n), "Event patterns"; what may lie
 -- between, and how near repeats are, are this project's own rules).
-use Rattle.std.specs.Prelude.{◌+◌, Bool, true, false, ◌&&◌, ◌||◌, not, ◌==◌, nat_le, bit_and}
+use Rattle.std.specs.Prelude.{◌+◌, Bool, ◌&&◌, ◌||◌, not, ◌==◌, nat_le, bit_and}
 use Rattle.std.specs.Ordering.{int_eq}
 use Rattle.tks_text.specs.Text.{same_text}
 use Rattle.tks_event.specs.Keysyms.{is_modifier_key}
 use Rattle.tks_event.specs.Kinds.{is_of_button, same_kind}
 use Rattle.tks_event.specs.Sequences.{is_some_text}
 use Rattle.tks_event.specs.Event.{Event}
-use Rattle.tks_event.specs.declared.kind.Kind.{Kind}
 use Rattle.tks_event.specs.declared.kind.Kind.TheVariants as kind
 use Rattle.tks_event.specs.declared.pattern.Pattern.{Pattern}
 

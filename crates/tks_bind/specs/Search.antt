@@ -1,8 +1,13 @@
--- How the code finds whether a sequence occurs: pattern by pattern, for each place whether the patterns so far end there.
-use Rattle.std.specs.Prelude.{◌≡◌, ℕ, zero, suc, ◌<◌, Bool, false, ◌&&◌, ◌||◌, List, [], ◌∷◌, get_or, slice_get, Option, Some, None}
+-- How the code finds whether a sequence occurs: from the last pattern back, for each place whether its event may be chosen
+-- for a pattern, with events behind it for those that follow.
+use Rattle.std.specs.Prelude.{◌≡◌, ◌⊎◌, ℕ, zero, suc, ◌-◌, Bool, true, false, ◌&&◌, ◌||◌, List, [], ◌∷◌, length, get_or, slice_get, Option, Some, None}
+use Rattle.std.specs.Bool.{Decides}
 use Rattle.tks_event.specs.Event.{Event}
 use Rattle.tks_event.specs.declared.pattern.Pattern.{Pattern}
 use Rattle.tks_bind.specs.Matching.{fits, may_follow, may_lie_before}
+use Rattle.tks_bind.specs.Occurs.{FitsAt, Follows}
+
+-- ---- as a function, from the first pattern on
 
 -- going back from a chosen event: this event is chosen before it, or may lie between
 abbrev pub goes_back : Pattern → Event → Bool → Option Event → Bool → Bool
@@ -32,11 +37,27 @@ abbrev pub ends_at : List Pattern → List Event → ℕ → Bool
 ends_at [] history place = false
 ends_at (p ∷ before) history place = ends_behind p before (λ n. ends_at before history n) history place
 
--- ---- rows: for each place, whether the patterns so far end there
+-- ---- as the code does it, from the last pattern back
 
-abbrev pub reached_in : List Bool → ℕ → Bool
-reached_in row n = get_or row n false
+-- the patterns behind one, the next one first, have events behind its own, the last of them the last event
+abbrev pub Succeeded : List Pattern → List Event → ℕ → Event → Type 0
+Succeeded [] history place e = place ≡ length history - 1
+Succeeded (q ∷ later) history place e = (to : ℕ) × (d : Event) × Follows q history place e to d × FitsAt q history to d × Succeeded later history to d
 
--- a row tells this of the first places
-abbrev pub Tells : List Bool → (ℕ → Bool) → ℕ → Type 0
-Tells row test count = (n : ℕ) → n < count → get_or row n false ≡ test n
+-- an event may be chosen for a pattern, with events behind it for those that follow
+abbrev pub MayBegin : Pattern → List Pattern → List Event → ℕ → Type 0
+MayBegin p later history n = (e : Event) × FitsAt p history n e × Succeeded later history n e
+
+-- it fits a pattern, and may be chosen before that of a place
+abbrev pub Precedes : Pattern → Pattern → List Event → ℕ → ℕ → Type 0
+Precedes earlier later history n place = (d : Event) × (e : Event) × FitsAt earlier history n d × (slice_get history place ≡ Some e) × Follows later history n d place e
+
+-- what is noted in a row: what was there, and where this is so
+pub record Joins (before after : List Bool) (so : ℕ → Type 0) : Type 0 where
+  pub from : (n : ℕ) → get_or after n false ≡ true → (get_or before n false ≡ true) ⊎ so n
+  pub stays : (n : ℕ) → get_or before n false ≡ true → get_or after n false ≡ true
+  pub joins : (n : ℕ) → so n → get_or after n false ≡ true
+
+-- a row tells where a pattern may begin, with these behind it
+abbrev pub Tells : List Bool → Pattern → List Pattern → List Event → Type 0
+Tells row p later history = (n : ℕ) → Decides (get_or row n false) (MayBegin p later history n)

@@ -1,5 +1,5 @@
 //! The bindings.
-ghost use Rattle.std.specs.Prelude.{◌≡◌, ◌≢◌, ◌↔◌, ◌≤◌, ◌<◌, ◌^◌, Bool, true, [], ◌∷◌, ◌++◌, length, map, Some, None, Err, IfOk, OnOk, OnErr, option_copied};
+ghost use Rattle.std.specs.Prelude.{◌≡◌, ◌≢◌, ◌↔◌, ◌≤◌, ◌<◌, ◌^◌, Bool, true, [], ◌∷◌, ◌++◌, length, map, slice_get, Some, None, Err, IfOk, OnOk, OnErr, option_copied};
 ghost use Rattle.std.specs.List.{filter};
 ghost use Rattle.tks_share.specs.Lists.{Says, Decides};
 ghost use Rattle.tks_text.specs.Text.{IsText};
@@ -7,25 +7,33 @@ ghost use Rattle.tks_event.specs.Canonical.{canonical};
 ghost use Rattle.tks_bind.specs.Binding.{Content, nothing, script_for, placed, without, set, unset, made, appended, bound, spelled};
 ghost use Rattle.tks_bind.specs.Chosen.{ChosenSo};
 ghost use Rattle.tks_bind.specs.Choosing.{chosen};
+ghost use Rattle.tks_bind.specs.Distinct.{all_differ};
+ghost use Rattle.tks_bind.specs.Endings.{ending_seen, is_under};
+ghost use Rattle.tks_bind.specs.Groups.{Groups};
 ghost use Rattle.tks_bind.specs.Indexes.{index_of};
 ghost use Rattle.tks_bind.specs.declared.binding.Binding.{Binding};
-ghost use Rattle.tks_bind.specs.WellFormed.{are_bindings, others_are_below, AreBindings};
+ghost use Rattle.tks_bind.specs.WellFormed.{differ, are_bindings, others_are_below, AreBindings};
 
 use crate::binding::Binding;
+use crate::ending::Ending;
 use crate::fault::BindFault;
 use crate::history::History;
+use crate::passes::Passes;
 use crate::scene::Scene;
+use crate::tag_groups::{TagGroups, group_of, with_binding, without_binding};
 use crate::virtuals::Virtuals;
 use std::alloc::{AllocError, Global};
 use std::marker::Model;
 use tks_event::{Event, Sequence};
-use tks_share::{Items, SharedList};
+use tks_share::{Items, Shared, SharedList, SharedMap};
 use tks_text::{MAX_NUMBER, Seq, Txt};
 
 /// The bindings, in the order in which they were made. Copies share what they have in common.
 pub struct Bindings {
     alloc: Global,
     bindings: SharedList<Binding>,
+    // The same ones, by their tags and the endings of their sequences.
+    tags: TagGroups,
     next: u64,
 }
 
@@ -35,6 +43,7 @@ impl Drop for Bindings {
         let Bindings {
             alloc: _,
             bindings: _,
+            tags: _,
             next: _,
         } = self;
     }
@@ -48,8 +57,9 @@ impl Model for Bindings {
     ghost view = { λ b. record { bindings = b.bindings; next = b.next } };
 
     ghost use Rattle.tks_bind.specs.WellFormed.{AreBindings};
+    ghost use Rattle.tks_bind.specs.Groups.{Groups};
 
-    ghost invariant = { λ b. AreBindings (record { bindings = b.bindings; next = b.next }) };
+    ghost invariant = { λ b. AreBindings (record { bindings = b.bindings; next = b.next }) × Groups b.tags b.bindings };
 }
 
 impl Bindings {
@@ -60,6 +70,7 @@ impl Bindings {
         Bindings {
             alloc,
             bindings: SharedList::new(alloc),
+            tags: SharedMap::new(alloc),
             next: 0,
         }
     }
@@ -71,9 +82,12 @@ impl Bindings {
         requires formed { are_bindings next bindings.items ≡ true }
         ensures { IfOk result (λ made. made ≡ record { bindings = bindings.items; next = next }) }
     {
+        let bindings = SharedList::of(alloc, bindings)?;
+        let tags = grouped(alloc, &bindings)?;
         Ok(Bindings {
             alloc,
-            bindings: SharedList::of(alloc, bindings)?,
+            bindings,
+            tags,
             next,
         })
     }
@@ -85,6 +99,7 @@ impl Bindings {
         Ok(Bindings {
             alloc: self.alloc,
             bindings: self.bindings.share()?,
+            tags: self.tags.share()?,
             next: self.next,
         })
     }
@@ -147,14 +162,27 @@ impl Bindings {
         ensures value { option_copied result ≡ chosen (record { bindings = self.now.bindings; tag = tag.now; event = event.now; history = history.now; virtuals = virtuals.now }) }
         ensures so { ChosenSo (record { bindings = self.now.bindings; tag = tag.now; event = event.now; history = history.now; virtuals = virtuals.now }) (option_copied result) }
     {
+        let _ = self.next();
         let scene = Scene {
-            bindings: &self.bindings,
+            bindings: self,
             tag,
             event,
             history: history.events(),
             virtuals,
         };
-        scene.latest()
+        let passes = Passes {
+            scene,
+            full: scene.full_ends(),
+            bare: scene.bare_ends(),
+        };
+        passes.latest()
+    }
+
+    // The bindings of a tag whose sequences end so, in the order in which they were made.
+    pub(crate) fn group(&self, tag: &Txt, ending: Ending<'_>) -> &[Shared<Binding>]
+        ensures { result.now ≡ filter (is_under tag.now (ending_seen ending.entry)) self.now.bindings }
+    {
+        group_of(&self.tags, tag, ending)
     }
 
     /// Sets the script that a tag has for a sequence. An empty script takes the binding away; one that begins with a
@@ -192,7 +220,10 @@ impl Bindings {
         ensures ok { OnOk result ((p : Binding → Bool) → Says (F.post keep) p → self.new ≡ record self.old { bindings = filter p self.old.bindings }) }
         ensures err { OnErr result (self.new ≡ self.old) }
     {
-        self.bindings.retain(keep)
+        let tags = left(self.alloc, &self.tags, &self.bindings, &keep)?;
+        self.bindings.retain(keep)?;
+        self.tags = tags;
+        Ok(())
     }
 
     // Takes a binding away, if it is there.
@@ -204,7 +235,10 @@ impl Bindings {
     {
         let index = index_of(&self.bindings, tag, sequence);
         if index < self.bindings.len() {
-            self.bindings.remove(index)?;
+            let mut bindings = self.bindings.share()?;
+            bindings.remove(index)?;
+            self.tags = without_binding(self.alloc, &self.tags, tag, sequence)?;
+            self.bindings = bindings;
         }
         Ok(())
     }
@@ -222,7 +256,11 @@ impl Bindings {
             sequence,
             script,
         };
-        place(&mut self.bindings, binding)?;
+        let mut bindings = self.bindings.share()?;
+        let index = place(&mut bindings, binding)?;
+        let binding = held_at(&bindings, index)?;
+        self.tags = with_binding(self.alloc, &self.tags, &binding)?;
+        self.bindings = bindings;
         self.next += 1;
         Ok(())
     }
@@ -258,10 +296,11 @@ fn script_for<'a>(
     None
 }
 
-// Puts a binding into the place of the one of its tag and sequence, or at the end.
-#[tactic(auto, using(crate::proofs::Placing::placed_there, crate::proofs::Placing::placed_last))]
-fn place(bindings: &mut SharedList<Binding>, binding: Binding) -> Result<(), AllocError>
+// Puts a binding into the place of the one of its tag and sequence, or at the end, and tells where that is.
+#[tactic(auto, using(crate::proofs::Placing::placed_there, crate::proofs::Placing::placed_last, crate::proofs::Placing::there_set))]
+fn place(bindings: &mut SharedList<Binding>, binding: Binding) -> Result<usize, AllocError>
     ensures ok { OnOk result (bindings.new ≡ placed binding bindings.old) }
+    ensures there { IfOk result (λ index. slice_get bindings.new index ≡ Some binding) }
     ensures err { OnErr result (bindings.new ≡ bindings.old) }
 {
     let index = index_of(bindings, &binding.tag, &binding.sequence);
@@ -270,7 +309,48 @@ fn place(bindings: &mut SharedList<Binding>, binding: Binding) -> Result<(), All
     } else {
         bindings.push(binding)?;
     }
-    Ok(())
+    Ok(index)
+}
+
+// The binding at an index, held once more. It is taken out of a copy of the list, since a list hands out just what is taken
+// out of it.
+fn held_at(bindings: &SharedList<Binding>, index: usize) -> Result<Shared<Binding>, AllocError>
+    requires { index < length bindings.now }
+    ensures { IfOk result (λ binding. slice_get bindings.now index ≡ Some binding) }
+{
+    let mut copy = bindings.share()?;
+    copy.remove(index)
+}
+
+// These bindings by their tags and endings.
+fn grouped(alloc: Global, bindings: &SharedList<Binding>) -> Result<TagGroups, AllocError>
+    ensures { IfOk result (λ tags. all_differ differ bindings.now ≡ true → Groups tags bindings.now) }
+{
+    let mut tags = SharedMap::new(alloc);
+    for index in 0..bindings.len() {
+        let binding = held_at(bindings, index)?;
+        tags = with_binding(alloc, &tags, &binding)?;
+    }
+    Ok(tags)
+}
+
+// Those bindings by their tags and endings that the closure accepts.
+fn left<F: Fn(&Binding) -> bool>(
+    alloc: Global,
+    tags: &TagGroups,
+    bindings: &SharedList<Binding>,
+    keep: &F,
+) -> Result<TagGroups, AllocError>
+    requires callable { F.IsAlwaysCallable keep.now }
+    ensures { IfOk result (λ left. (p : Binding → Bool) → Says (F.post keep.now) p → all_differ differ bindings.now ≡ true → Groups tags.now bindings.now → Groups left (filter p bindings.now)) }
+{
+    let mut left = tags.share()?;
+    for binding in bindings.iter() {
+        if !keep(binding) {
+            left = without_binding(alloc, &left, &binding.tag, &binding.sequence)?;
+        }
+    }
+    Ok(left)
 }
 
 // The script that is set where this one is there and that one is given: one behind a plus sign is appended.

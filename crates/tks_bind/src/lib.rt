@@ -3,15 +3,22 @@
 
 mod binding;
 mod bindings;
+mod ending;
+mod ends;
 mod fault;
 mod field;
+mod groups;
 mod history;
 mod laws;
 mod matching;
+mod passes;
 mod physical;
 mod scene;
 mod search;
 mod substitution;
+mod tag_groups;
+mod through;
+mod trial;
 mod virtual_event;
 mod virtuals;
 mod way;

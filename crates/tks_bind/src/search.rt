@@ -1,81 +1,97 @@
 //! Whether a sequence occurs in a history.
-ghost use Rattle.std.specs.Prelude.{◌≡◌, ◌&&◌, ◌≤◌, ◌<◌, ◌-◌, [], length, slice_get};
+ghost use Rattle.std.specs.Prelude.{ℕ, ◌≡◌, ◌&&◌, ◌≤◌, ◌<◌, ◌-◌, ◌+◌, true, false, [], length, drop, get_or, slice_get, Some};
 ghost use Rattle.std.specs.Bool.{Decides};
 ghost use Rattle.tks_bind.specs.Occurs.{turned, Occurs};
 ghost use Rattle.tks_bind.specs.Matching.{fits, may_follow};
-ghost use Rattle.tks_bind.specs.Search.{comes_before, fits_at, goes_on_at, ends_at, reached_in, Tells};
+ghost use Rattle.tks_bind.specs.Search.{ends_at, Precedes, Joins, Tells};
 
 use crate::history::MAX_HISTORY;
 use crate::matching::{fits, may_follow, may_lie_before};
 use tks_event::{Event, Pattern};
 
-/// For each event of a history, whether some patterns end there.
+/// For each event of a history, whether it may be chosen for a pattern, with events behind it for those that follow.
 type Row = [bool; MAX_HISTORY];
 
-// Whether an event is chosen before another, where some patterns end at it or don't.
-fn is_chosen(reached: bool, pattern: &Pattern, earlier: &Event, event: &Event) -> bool
-    ensures { result ≡ (reached && may_follow pattern.now earlier.now event.now) }
+// Whether an event may be chosen for a pattern, where this one is chosen for the pattern behind it, if what lies between
+// may lie there.
+fn is_chosen(earlier: &Pattern, later: &Pattern, before: &Event, event: &Event) -> bool
+    ensures { result ≡ (fits earlier.now before.now && may_follow later.now before.now event.now) }
 {
-    reached && may_follow(pattern, earlier, event)
+    fits(earlier, before) && may_follow(later, before, event)
 }
 
-// Whether the patterns that end as the row tells come before a place whose event is chosen for the next pattern.
-fn comes_before(
-    pattern: &Pattern,
-    event: &Event,
-    row: &Row,
-    history: &[Event],
-    place: usize,
-) -> bool
-    requires place { place ≤ length history.now }
+// Goes back from an event that is chosen for a pattern, and notes those that may be chosen for the pattern before it.
+fn note_before(earlier: &Pattern, later: &Pattern, history: &[Event], place: usize, row: &mut Row)
+    requires place { place < length history.now }
     requires small { length history.now ≤ 32 }
-    ensures { result ≡ comes_before pattern.now event.now (reached_in row.now) history.now place }
+    ensures { Joins row.old row.new (λ n. Precedes earlier.now later.now history.now n place) }
 {
+    let event = &history[place];
     let mut from = place;
     while from > 0 {
         from -= 1;
-        let earlier = &history[from];
-        if is_chosen(row[from], pattern, earlier, event) {
-            return true;
+        let before = &history[from];
+        row[from] = row[from] | is_chosen(earlier, later, before, event);
+        if !may_lie_before(event, before) {
+            return;
         }
-        if !may_lie_before(event, earlier) {
-            return false;
+    }
+}
+
+// The row of a pattern, from that of the pattern behind it.
+fn row_before(earlier: &Pattern, later: &Pattern, history: &[Event], behind: &Row) -> Row
+    requires { length history.now ≤ 32 }
+    ensures { (n : ℕ) → Decides (get_or result n false) ((place : ℕ) × (place < length history.now) × (get_or behind.now place false ≡ true) × Precedes earlier.now later.now history.now n place) }
+{
+    let mut row = [false; MAX_HISTORY];
+    for place in 0..history.len() {
+        if behind[place] {
+            note_before(earlier, later, history, place, &mut row);
+        }
+    }
+    row
+}
+
+// The row of the last pattern, which has the last event.
+fn last_row(pattern: &Pattern, history: &[Event]) -> Row
+    requires some { 0 < length history.now }
+    requires small { length history.now ≤ 32 }
+    ensures { Tells result pattern.now [] history.now }
+{
+    let mut row = [false; MAX_HISTORY];
+    let last = history.len() - 1;
+    row[last] = fits(pattern, &history[last]);
+    row
+}
+
+// Whether some event may be chosen.
+fn is_any(row: &Row) -> bool
+    ensures { Decides result ((n : ℕ) × (get_or row.now n false ≡ true)) }
+{
+    for is_chosen in row {
+        if *is_chosen {
+            return true;
         }
     }
     false
 }
 
-// Where a pattern has an event, as the first of all.
-fn first_row(pattern: &Pattern, history: &[Event]) -> Row
-    requires { length history.now ≤ 32 }
-    ensures { Tells result (λ n. fits_at pattern.now (slice_get history.now n)) (length history.now) }
-{
-    let mut row = [false; MAX_HISTORY];
-    for (place, event) in history.iter().enumerate() {
-        row[place] = fits(pattern, event);
-    }
-    row
-}
-
-// Whether the event at a place fits a pattern, and those that the row tells of come before it.
-fn goes_on(pattern: &Pattern, event: &Event, row: &Row, history: &[Event], place: usize) -> bool
-    requires place { place ≤ length history.now }
+// Whether events may be chosen for all patterns: for each of them, from the last one back, it is found which may be chosen
+// with those behind it.
+fn are_chosen(sequence: &[Pattern], history: &[Event]) -> bool
+    requires patterns { 0 < length sequence.now }
+    requires some { 0 < length history.now }
     requires small { length history.now ≤ 32 }
-    ensures { result ≡ (fits pattern.now event.now && comes_before pattern.now event.now (reached_in row.now) history.now place) }
+    ensures { Decides result (Occurs sequence.now history.now) }
 {
-    fits(pattern, event) && comes_before(pattern, event, row, history, place)
-}
-
-// Where a pattern has an event behind those that the row tells of.
-fn next_row(pattern: &Pattern, history: &[Event], row: &Row) -> Row
-    requires { length history.now ≤ 32 }
-    ensures { Tells result (λ n. goes_on_at pattern.now (reached_in row.now) history.now n (slice_get history.now n)) (length history.now) }
-{
-    let mut next = [false; MAX_HISTORY];
-    for (place, event) in history.iter().enumerate() {
-        next[place] = goes_on(pattern, event, row, history, place);
+    let mut at = sequence.len() - 1;
+    let mut row = last_row(&sequence[at], history);
+    while at > 0 {
+        let later = &sequence[at];
+        at -= 1;
+        row = row_before(&sequence[at], later, history, &row);
     }
-    next
+    is_any(&row)
 }
 
 /// Whether a sequence occurs in a history of at most 32 events, the latest last.
@@ -83,23 +99,12 @@ pub fn occurs(sequence: &[Pattern], history: &[Event]) -> bool
     requires { length history.now ≤ 32 }
     ensures { Decides result (Occurs sequence.now history.now) }
 {
-    ends_there(sequence, history)
-}
-
-/// Whether the patterns of a sequence end at the last event.
-pub fn ends_there(sequence: &[Pattern], history: &[Event]) -> bool
-    requires { length history.now ≤ 32 }
-    ensures { result ≡ ends_at (turned sequence.now []) history.now (length history.now - 1) }
-{
-    let Some((first, rest)) = sequence.split_first() else {
+    let Some(last) = history.last() else {
         return false;
     };
-    let Some(last) = history.len().checked_sub(1) else {
-        return false;
-    };
-    let mut row = first_row(first, history);
-    for pattern in rest {
-        row = next_row(pattern, history, &row);
+    match sequence {
+        [] => false,
+        [pattern] => fits(pattern, last),
+        _ => are_chosen(sequence, history),
     }
-    row[last]
 }

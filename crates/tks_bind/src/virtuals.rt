@@ -5,19 +5,27 @@ ghost use Rattle.tks_bind.specs.VirtualIndexes.{index_of, found};
 ghost use Rattle.std.specs.List.{AllByRecursion};
 ghost use Rattle.tks_event.specs.Sequences.{is_name};
 ghost use Rattle.tks_bind.specs.WellFormed.{is_virtual_event, are_virtuals, AreVirtuals};
+ghost use Rattle.tks_bind.specs.Endings.{ending_seen};
+ghost use Rattle.tks_bind.specs.Groups.{Tells, Leads};
 
+use crate::ending::Ending;
+use crate::groups::{Groups, group};
 use crate::physical::PhysicalSequence;
+use crate::through::{Through, with_sequences, without_sequences};
 use crate::virtual_event::{VirtualEvent, has_sequence, others, with_one_more};
 use std::alloc::{AllocError, Global};
 use std::marker::Model;
+use std::slice::from_ref;
 use tks_event::{Sequence, VirtualName};
-use tks_share::{Items, SharedList};
+use tks_share::{Items, Shared, SharedList, SharedMap};
 use tks_text::{Seq, Txt};
 
 /// The virtual events that have sequences, in the order in which they were added. Copies share what they have in common.
 pub struct Virtuals {
     alloc: Global,
     events: SharedList<VirtualEvent>,
+    // Their sequences, by their endings.
+    groups: Groups<Through>,
 }
 
 // Written out, so that to let go of it is one step for whoever owns it.
@@ -26,6 +34,7 @@ impl Drop for Virtuals {
         let Virtuals {
             alloc: _,
             events: _,
+            groups: _,
         } = self;
     }
 }
@@ -39,8 +48,9 @@ impl Model for Virtuals {
     ghost view = { λ v. v.events };
 
     ghost use Rattle.tks_bind.specs.WellFormed.{AreVirtuals};
+    ghost use Rattle.tks_bind.specs.Groups.{Leads};
 
-    ghost invariant = { λ v. AreVirtuals v.events };
+    ghost invariant = { λ v. AreVirtuals v.events × Leads v.groups v.events };
 }
 
 impl Virtuals {
@@ -51,6 +61,7 @@ impl Virtuals {
         Virtuals {
             alloc,
             events: SharedList::new(alloc),
+            groups: SharedMap::new(alloc),
         }
     }
 
@@ -61,9 +72,12 @@ impl Virtuals {
         requires legal { AllByRecursion (λ v. is_virtual_event v ≡ true) events.items }
         ensures { IfOk result (λ made. made ≡ events.items) }
     {
+        let events = SharedList::of(alloc, events)?;
+        let groups = grouped(alloc, &events)?;
         Ok(Virtuals {
             alloc,
-            events: SharedList::of(alloc, events)?,
+            events,
+            groups,
         })
     }
 
@@ -74,6 +88,7 @@ impl Virtuals {
         Ok(Virtuals {
             alloc: self.alloc,
             events: self.events.share()?,
+            groups: self.groups.share()?,
         })
     }
 
@@ -103,6 +118,13 @@ impl Virtuals {
         }
     }
 
+    // The sequences by which virtual events are met, and whose last pattern ends so.
+    pub(crate) fn group(&self, ending: Ending<'_>) -> &[Shared<Through>]
+        ensures { Tells self.now (ending_seen ending.entry) result.now }
+    {
+        group(&self.groups, ending)
+    }
+
     /// Adds a sequence of physical events to a virtual event. One that is there stays where it is.
     pub fn event_add(
         &mut self,
@@ -125,7 +147,9 @@ impl Virtuals {
         let index = index_of(&self.events, name);
         let Some(event) = found(&self.events, name) else {
             let event = first(self.alloc, name, sequence)?;
+            let groups = with_sequences(self.alloc, &self.groups, name, from_ref(sequence))?;
             self.events.push(event)?;
+            self.groups = groups;
             return Ok(());
         };
         if has_sequence(event.sequences.as_slice(), sequence) {
@@ -135,20 +159,25 @@ impl Virtuals {
             name: event.name.try_clone()?,
             sequences: with_one_more(self.alloc, event.sequences.as_slice(), sequence)?,
         };
+        let groups = with_sequences(self.alloc, &self.groups, name, from_ref(sequence))?;
         self.events.set(index, more)?;
+        self.groups = groups;
         Ok(())
     }
 
     /// Takes a virtual event's sequences away.
-    #[tactic(auto, using(crate::proofs::Virtually::deleted_there, crate::proofs::Virtually::deleted_none))]
     pub fn event_delete(&mut self, name: &Txt) -> Result<(), AllocError>
         ensures ok { OnOk result (self.new ≡ deleted name.now self.old) }
         ensures err { OnErr result (self.new ≡ self.old) }
     {
         let index = index_of(&self.events, name);
-        if index < self.events.len() {
-            self.events.remove(index)?;
-        }
+        let Some(event) = found(&self.events, name) else {
+            return Ok(());
+        };
+        let sequences = event.sequences.as_slice();
+        let groups = without_sequences(self.alloc, &self.groups, name, sequences)?;
+        self.events.remove(index)?;
+        self.groups = groups;
         Ok(())
     }
 
@@ -166,8 +195,10 @@ impl Virtuals {
             return Ok(());
         };
         let left = others(self.alloc, event.sequences.as_slice(), sequence)?;
+        let groups = without_sequences(self.alloc, &self.groups, name, from_ref(sequence))?;
         if left.is_empty() {
             self.events.remove(index)?;
+            self.groups = groups;
             return Ok(());
         }
         let event = VirtualEvent {
@@ -175,6 +206,7 @@ impl Virtuals {
             sequences: left,
         };
         self.events.set(index, event)?;
+        self.groups = groups;
         Ok(())
     }
 }
@@ -189,6 +221,17 @@ fn first(alloc: Global, name: &Txt, sequence: &Sequence) -> Result<VirtualEvent,
         name: name.try_clone()?,
         sequences,
     })
+}
+
+// The sequences of these virtual events, by their endings.
+fn grouped(alloc: Global, events: &SharedList<VirtualEvent>) -> Result<Groups<Through>, AllocError>
+    ensures { IfOk result (λ groups. are_virtuals events.now ≡ true → Leads groups events.now) }
+{
+    let mut groups = SharedMap::new(alloc);
+    for event in events.iter() {
+        groups = with_sequences(alloc, &groups, &event.name, event.sequences.as_slice())?;
+    }
+    Ok(groups)
 }
 
 // The index of the virtual event of a name, or the end.

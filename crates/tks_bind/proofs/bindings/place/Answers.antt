@@ -1,8 +1,14 @@
-use Rattle.std.proofs.Common.{rules}
-use Rattle.tks_bind.proofs.Placing.{placed_there}
+use Rattle.std.proofs.Common.{rules, ◌≤◌, length}
+use Rattle.tks_bind.specs.Indexes.{index_of}
+use Rattle.tks_bind.proofs.Placing.{placed_there, there_last}
 use Rattle.tks_bind.proofs.bindings.place.Goals as goal
 
 pub returns-in_ok-set-clause-ok : goal.returns-in_ok-set-clause-ok
 returns-in_ok-set-clause-ok c =
     let put = placed_there c.args.binding c.args.bindings.now (search rules) in
     search rules
+
+pub returns-in_ok-push-clause-there : goal.returns-in_ok-push-clause-there
+returns-in_ok-push-clause-there c =
+    let past : length c.args.bindings.now ≤ index_of c.args.binding.tag c.args.binding.sequence c.args.bindings.now = search rules in
+    rw (c.in_ok-push.ensures.ok, c.index_of-index.ensures) (there_last c.args.binding c.args.bindings.now past)
