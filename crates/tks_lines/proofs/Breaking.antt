@@ -1,15 +1,15 @@
 -- Lines are found by where they end, and where they end goes with a change of the text.
-use Rattle.std.proofs.Common.{◌≡◌, ℕ, zero, suc, ◌+◌, ◌-◌, ◌<◌, ◌≤◌, nat_lt, max, not, Bool, true, false, if◌then◌else◌, List, [], ◌∷◌, ◌++◌, length, get_or, take, drop, map, Option, Some, None, ◌⊎◌, inl, inr, refl, sym, ap, ◌∙◌, arith}
+use Rattle.std.proofs.Common.{◌≡◌, ℕ, zero, suc, ◌+◌, ◌-◌, ◌<◌, ◌≤◌, nat_lt, max, not, Bool, true, false, if◌then◌else◌, List, [], ◌∷◌, ◌++◌, length, get_or, take, drop, map, Option, Some, None, ◌⊎◌, inl, inr, refl, sym, ap, ◌∙◌, append_assoc, arith}
 use Rattle.std.specs.Prelude.{slice_get}
-use Rattle.std.specs.List.{prefix_len, count_by, AllByRecursion}
+use Rattle.std.specs.List.{prefix_len, suffix_len, count_by, AllByRecursion}
 use Rattle.std.specs.List.Sorted.{IsNonDecreasingBy, IsPartitionedBy, IsPartitionPoint}
 use Rattle.std.proofs.lemmas.Bool.{cases_lt}
 use Rattle.std.proofs.lemmas.Bool.Decides.{nat_tests}
-use Rattle.std.proofs.lemmas.List.{length-take-le, drop_all}
+use Rattle.std.proofs.lemmas.List.{length-take-le, length-drop, drop_all, append-nil, reverse-append, take-append-le}
 use Rattle.std.proofs.lemmas.List.Sums.{sum_by-cons, prefix_len_is, count_by-le-length}
-use Rattle.tks_lines.specs.Places.{is_newline, is_inner, within_line, place_at}
+use Rattle.tks_lines.specs.Places.{is_newline, is_inner, within_line, place_at, column_of, line_end}
 use Rattle.tks_lines.specs.Lines.{spliced, cut}
-use Rattle.tks_lines.specs.Breaks.{breaks_from, breaks_of, below, behind_break, line_begin, line_break, breaks_with, breaks_without}
+use Rattle.tks_lines.specs.Breaks.{breaks_from, breaks_of, below, behind_break, break_or_end, line_begin, line_break, breaks_with, breaks_without}
 use Rattle.tks_lines.proofs.Far.{this_line}
 
 -- the places, where the first character is a newline or isn't
@@ -261,3 +261,78 @@ cut_breaks first last text =
         let none : drop (max first last) text ≡ [] = drop_all (max first last) text (omega arith) in
         ap (breaks_from (0 + length (take first text))) none ∙ sym (ap (breaks_from first) none)
     at (inr h) = let same : 0 + length (take first text) ≡ first = omega (arith, length-take-le first text h) in ap (λ n. breaks_from n (drop (max first last) text)) same
+
+-- ---- the line of a place
+
+got_first : {X : Type 0} (n : ℕ) (xs : List X) → slice_get (drop n xs) 0 ≡ slice_get xs n
+got_first zero xs = refl
+got_first (suc n) [] = refl
+got_first (suc n) (x ∷ xs) = got_first n xs
+
+-- where it ends
+pub line_ends : (text : List ℕ) (place : ℕ) → place ≤ length text → line_end text place ≡ line_break (length text) (breaks_of text) (below place (breaks_of text))
+line_ends text place inside =
+    let behind = drop place text in
+    let long : length text ≡ place + length behind = omega (arith, length-drop place text) in
+    sym (first_break place (length text) behind long)
+    ∙ ap (λ bs. line_break (length text) bs 0) (back_from 0 place place text (omega arith))
+    ∙ ap (break_or_end (length text)) (got_first (below place (breaks_of text)) (breaks_of text))
+
+-- how many characters stand before the place so far on, where so many stand before the first
+column_on : ℕ → List ℕ → ℕ → ℕ
+column_on before text zero = before
+column_on before [] (suc k) = before
+column_on before (c ∷ text) (suc k) = column_on (if is_inner c then 1 + before else 0) text k
+
+one_behind : (xs : List ℕ) (c : ℕ) → suffix_len is_inner (xs ++ c ∷ []) ≡ (if is_inner c then 1 + suffix_len is_inner xs else 0)
+one_behind xs c = ap (prefix_len is_inner) (reverse-append xs (c ∷ []))
+
+columns : (xs text : List ℕ) (k : ℕ) → column_on (suffix_len is_inner xs) text k ≡ suffix_len is_inner (xs ++ take k text)
+unfolding column_on
+columns xs text zero = ap (suffix_len is_inner) (sym (append-nil xs))
+columns xs [] (suc k) = ap (suffix_len is_inner) (sym (append-nil xs))
+columns xs (c ∷ text) (suc k) =
+    ap (λ n. column_on n text k) (sym (one_behind xs c))
+    ∙ columns (xs ++ c ∷ []) text k
+    ∙ ap (suffix_len is_inner) (append_assoc xs (c ∷ []) (take k text))
+
+-- where the line begins that goes on before the text
+abbrev begun : ℕ → ℕ → List ℕ → ℕ → ℕ
+begun start len bs zero = start
+begun start len bs (suc n) = behind_break len (slice_get bs n)
+
+column_from : (p start len k q : ℕ) (text : List ℕ) → start ≤ p → k ≤ length text → q ≡ p + k → column_on (p - start) text k ≡ q - begun start len (breaks_from p text) (below q (breaks_from p text))
+unfolding column_on
+column_from p start len zero q text s le e =
+    let same : p - start ≡ q - start = omega arith in
+    same ∙ ap (λ n. q - begun start len (breaks_from p text) n) (sym (none_below q p text (omega arith)))
+column_from p start len (suc k) q [] s le e = absurd (omega arith)
+column_from p start len (suc k) q (c ∷ text) s le e = by (is_newline c) (λ first h. column_from (suc p) first len k q text h (omega arith) (omega arith))
+  where
+    by : (b : Bool) → ((first : ℕ) → first ≤ suc p → column_on (suc p - first) text k ≡ q - begun first len (breaks_from (suc p) text) (below q (breaks_from (suc p) text)))
+        → column_on (if not b then 1 + (p - start) else 0) text k ≡ q - begun start len (step b p text) (below q (step b p text))
+    by true rest =
+        let none : 0 ≡ suc p - suc p = omega arith in
+        ap (λ n. column_on n text k) none ∙ rest (suc p) (omega arith) ∙ ap (λ n. q - n) (same (below q (breaks_from (suc p) text)))
+        ∙ sym (ap (λ n. q - begun start len (p ∷ breaks_from (suc p) text) n) (one_below p q (breaks_from (suc p) text) (omega arith)))
+      where
+        same : (n : ℕ) → begun (suc p) len (breaks_from (suc p) text) n ≡ begun start len (p ∷ breaks_from (suc p) text) (suc n)
+        same zero = omega arith
+        same (suc n) = refl
+    by false rest =
+        let more : 1 + (p - start) ≡ suc p - start = omega arith in
+        ap (λ n. column_on n text k) more ∙ rest start (omega arith)
+
+-- where it begins, so how many characters stand before the place on it
+pub column_is : (text : List ℕ) (place : ℕ) → place ≤ length text → column_of text place ≡ place - line_begin (length text) (breaks_of text) (below place (breaks_of text))
+column_is text place inside =
+    let none : 0 ≡ 0 - 0 = omega arith in
+    ap (suffix_len is_inner) (take-append-le place text (10 ∷ []) inside)
+    ∙ sym (columns [] text place)
+    ∙ ap (λ n. column_on n text place) none
+    ∙ column_from 0 0 (length text) place place text (omega arith) inside (omega arith)
+    ∙ ap (λ n. place - n) (same (below place (breaks_of text)))
+  where
+    same : (n : ℕ) → begun 0 (length text) (breaks_of text) n ≡ line_begin (length text) (breaks_of text) n
+    same zero = refl
+    same (suc n) = refl

@@ -5,7 +5,7 @@ ghost use Rattle.std.specs.List.Sorted.{IsNonDecreasingBy};
 ghost use Rattle.tks_text.specs.Short.{IsShort};
 ghost use Rattle.tks_lines.specs.Places.{is_newline, end_place};
 ghost use Rattle.tks_lines.specs.Lines.{spliced, cut};
-ghost use Rattle.tks_lines.specs.Breaks.{breaks_of, line_begin, line_break};
+ghost use Rattle.tks_lines.specs.Breaks.{breaks_of, below, line_begin, line_break};
 
 use crate::breaks::Breaks;
 use std::alloc::{AllocError, Global};
@@ -79,6 +79,7 @@ impl<'a> Lined<'a> {
     #[tactic(auto, using(crate::proofs::Breaking::count_before, crate::proofs::Breaking::few_breaks))]
     pub(crate) fn newlines_before(&self, place: usize) -> usize
         ensures value { result ≡ count_by is_newline (take place self.now) }
+        ensures breaks { result ≡ below place (breaks_of self.now) }
         ensures bound { result ≤ length self.now }
     {
         self.breaks().below(place)

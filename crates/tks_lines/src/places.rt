@@ -1,6 +1,6 @@
 //! Places in a text: before so many of its characters; behind the last newline is the end.
 ghost use Rattle.std.specs.Prelude.{◌≡◌, ◌+◌, ◌-◌, ◌<◌, ◌≤◌, ◌^◌, length, min};
-ghost use Rattle.std.specs.List.{prefix_len, suffix_len};
+ghost use Rattle.std.specs.List.{prefix_len};
 ghost use Rattle.tks_lines.specs.Places.{is_newline, is_inner, end_place, lines_before, column_of, line_start, line_end, within_line, place_at, place_of_line, along, changed};
 
 use crate::lined::Lined;
@@ -21,17 +21,6 @@ pub(crate) fn inner_len(text: &[u8]) -> usize
     text.iter().take_while(|byte| !is_newline(**byte)).count()
 }
 
-// How many characters stand behind the last newline.
-fn last_line_len(text: &[u8]) -> usize
-    ensures value { result ≡ suffix_len is_inner text.now }
-    ensures bound { result ≤ length text.now }
-{
-    text.iter()
-        .rev()
-        .take_while(|byte| !is_newline(**byte))
-        .count()
-}
-
 /// How many lines end before a place.
 pub(crate) fn lines_before(text: &Lined<'_>, place: usize) -> usize
     ensures value { result ≡ lines_before text.now place }
@@ -45,12 +34,13 @@ pub(crate) fn lines_before(text: &Lined<'_>, place: usize) -> usize
 }
 
 /// How many characters stand before a place on its line.
+#[tactic(auto, using(crate::proofs::Breaking::column_is))]
 pub(crate) fn column_of(text: &Lined<'_>, place: usize) -> usize
     ensures value { result ≡ column_of text.now place }
     ensures bound { result ≤ length text.now }
 {
     if place <= text.len() {
-        last_line_len(&text.as_bytes()[..place])
+        place.saturating_sub(text.line_begin(text.newlines_before(place)))
     } else {
         0
     }
@@ -64,13 +54,14 @@ fn line_start(text: &Lined<'_>, place: usize) -> usize
 }
 
 // The place of the newline that ends a line.
+#[tactic(auto, using(crate::proofs::Breaking::line_ends))]
 fn line_end(text: &Lined<'_>, place: usize) -> usize
     requires { place ≤ end_place text.now }
     ensures value { result ≡ line_end text.now place }
     ensures bound { result ≤ end_place text.now }
 {
     if place <= text.len() {
-        place + inner_len(&text.as_bytes()[place..])
+        text.line_break(text.newlines_before(place))
     } else {
         place
     }
