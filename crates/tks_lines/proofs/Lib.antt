@@ -1,4 +1,5 @@
 pub mod Far
+pub mod Breaking
 pub mod Moving
 pub mod Inside
 pub mod Decimals

@@ -1,6 +1,6 @@
 -- Indices (text(n), "INDICES"): a base, `L.C`, `L.end`, `end` or a mark, then modifiers. That keywords are written in full,
 -- that white space may stand around each part, and that numbers are decimal, are this project's own rules.
-use Rattle.std.specs.Prelude.{ℕ, zero, suc, ◌+◌, ◌-◌, ◌^◌, ◌==◌, ◌||◌, ◌&&◌, min, not, Bool, false, if◌then◌else◌, List, [], ◌∷◌, length, take, drop, codes, Option, Some, None, option_and_then, Result, Ok, Err}
+use Rattle.std.specs.Prelude.{ℕ, zero, suc, ◌+◌, ◌-◌, ◌^◌, ◌==◌, ◌||◌, min, not, Bool, false, if◌then◌else◌, List, [], ◌∷◌, length, take, drop, codes, Option, Some, None, option_and_then, Result, Ok, Err}
 use Rattle.std.specs.Char.{is_digit}
 use Rattle.std.specs.List.{prefix_len}
 use Rattle.std.specs.Option.{option_map}

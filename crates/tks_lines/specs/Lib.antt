@@ -1,4 +1,5 @@
 pub mod Places
+pub mod Breaks
 pub mod Ranges
 pub mod Lines
 pub mod Restoring

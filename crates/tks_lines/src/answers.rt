@@ -3,6 +3,7 @@ ghost use Rattle.std.specs.Prelude.{◌≡◌, ◌≤◌, ◌<◌, ◌^◌, ◌+
 ghost use Rattle.std.specs.Fmt.{decimal};
 ghost use Rattle.tks_lines.specs.Commands.{names_on, spelled, between, edges, flags_of};
 
+use crate::lined::Lined;
 use crate::parts::{Mark, Tag};
 use crate::places::{column_of, lines_before};
 use itoa::Buffer;
@@ -19,8 +20,7 @@ fn decimal_of_count(alloc: Global, count: usize) -> Result<Txt, AllocError>
 }
 
 /// A place as an index.
-pub(crate) fn spelled(alloc: Global, text: &[u8], place: usize) -> Result<Txt, AllocError>
-    requires { length text.now < 2 ^ 63 }
+pub(crate) fn spelled(alloc: Global, text: &Lined<'_>, place: usize) -> Result<Txt, AllocError>
     ensures { IfOk result (λ t. t ≡ spelled text.now place) }
 {
     let mut index = decimal_of_count(alloc, lines_before(text, place) + 1)?;
@@ -38,13 +38,13 @@ pub(crate) fn between(
 ) -> Result<Txt, AllocError>
     ensures { IfOk result (λ t. t ≡ between first last text.now) }
 {
-    let mut front = Txt::new(alloc);
-    front.append(text)?;
-    front.push_byte(b'\n')?;
-    let mut cut = Txt::new(alloc);
-    cut.append_front(&front, last)?;
-    let bytes = cut.as_bytes();
-    Txt::from_text(alloc, bytes.split_at(first.min(bytes.len())).1)
+    let bytes = text.as_bytes();
+    let front = bytes.split_at(last.min(bytes.len())).0;
+    let mut cut = Txt::from_text(alloc, front.split_at(first.min(front.len())).1)?;
+    if bytes.len() < last && first <= bytes.len() {
+        cut.push_byte(b'\n')?;
+    }
+    Ok(cut)
 }
 
 /// The names of all marks.
@@ -116,10 +116,9 @@ pub(crate) fn edges(alloc: Global, flags: &[bool]) -> Result<Seq<usize>, AllocEr
 /// Places as indices.
 pub(crate) fn all_spelled(
     alloc: Global,
-    text: &[u8],
+    text: &Lined<'_>,
     places: &[usize],
 ) -> Result<Seq<Txt>, AllocError>
-    requires { length text.now < 2 ^ 63 }
     ensures { IfOk result (λ all. all ≡ map (spelled text.now) places.now) }
 {
     let mut all = Seq::new(alloc);

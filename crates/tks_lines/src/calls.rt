@@ -26,12 +26,12 @@ impl TextWidget {
         match words {
             [index] => {
                 let first = self.place_in(index)?;
-                Ok(Said::Text(between(self.alloc, &self.text, first, first + 1)?))
+                Ok(Said::Text(between(self.alloc, self.text.text(), first, first + 1)?))
             }
             [index, behind] => {
                 let first = self.place_in(index)?;
                 let last = self.place_in(behind)?;
-                Ok(Said::Text(between(self.alloc, &self.text, first, last)?))
+                Ok(Said::Text(between(self.alloc, self.text.text(), first, last)?))
             }
             _ => Err(wrong_words(path)),
         }
@@ -44,7 +44,8 @@ impl TextWidget {
         match words {
             [index] => {
                 let place = self.place_in(index)?;
-                Ok(Said::Text(spelled(self.alloc, self.text.as_bytes(), place)?))
+                let text = self.text.lined(self.alloc)?;
+                Ok(Said::Text(spelled(self.alloc, &text, place)?))
             }
             _ => Err(wrong_words(path)),
         }

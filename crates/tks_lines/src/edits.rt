@@ -1,35 +1,14 @@
 //! Changes of a text widget's text, marks and tags.
-ghost use Rattle.std.specs.Prelude.{◌≡◌, ◌≤◌, ◌<◌, ◌^◌, ◌+◌, true, false, length, map, IfOk, OnOk, OnErr};
-ghost use Rattle.tks_lines.specs.Lines.{cut, spliced, at_most_last, inserted, inserted_with, deleted, with_mark, without_marks, turned_marks, with_tag, without_tags, tagged};
+ghost use Rattle.std.specs.Prelude.{◌≡◌, ◌≤◌, ◌<◌, ◌^◌, true, false, length, map, OnOk, OnErr};
+ghost use Rattle.tks_lines.specs.Lines.{at_most_last, inserted, inserted_with, deleted, with_mark, without_marks, turned_marks, with_tag, without_tags, tagged};
 
 use crate::lines::TextWidget;
 use crate::marks::{all_moved_back, all_moved_on, all_turned, with_mark, without_marks};
 use crate::tags::{
     all_grown_among, all_grown_around, all_shrunk, all_tagged, with_tag, with_tags, without_tags,
 };
-use std::alloc::{AllocError, Global};
-use tks_text::{Seq, Txt};
-
-// A text with more at a place.
-fn text_with(alloc: Global, text: &Txt, place: usize, more: &Txt) -> Result<Txt, AllocError>
-    ensures { IfOk result (λ t. t ≡ spliced place more.now text.now) }
-{
-    let mut made = Txt::new(alloc);
-    made.append_front(text, place)?;
-    made.append(more)?;
-    made.append_behind(text, place)?;
-    Ok(made)
-}
-
-// A text without what stands between two places.
-fn text_without(alloc: Global, text: &Txt, first: usize, last: usize) -> Result<Txt, AllocError>
-    ensures { IfOk result (λ t. t ≡ cut first last text.now) }
-{
-    let mut made = Txt::new(alloc);
-    made.append_front(text, first)?;
-    made.append_behind(text, last.max(first))?;
-    Ok(made)
-}
+use std::alloc::AllocError;
+use tks_text::Txt;
 
 impl TextWidget {
     // How many characters there are but the last newline.
@@ -37,7 +16,7 @@ impl TextWidget {
         ensures value { result ≡ length self.now.text }
         ensures bound { result < 2 ^ 63 }
     {
-        self.text.as_bytes().len()
+        self.text.len()
     }
 
     // A place, or that of the last newline for one behind it.
@@ -60,7 +39,7 @@ impl TextWidget {
         let len = self.len();
         let place = self.at_most_last(place);
         let count = more.as_bytes().len();
-        let text = text_with(self.alloc, &self.text, place, more)?;
+        let text = self.text.with_more(self.alloc, place, more)?;
         let tags = all_grown_around(self.alloc, self.tags.as_slice(), place, count)?;
         let marks = all_moved_on(self.alloc, self.marks.as_slice(), len, place, count)?;
         self.text = text;
@@ -86,7 +65,7 @@ impl TextWidget {
         let len = self.len();
         let place = self.at_most_last(place);
         let count = more.as_bytes().len();
-        let text = text_with(self.alloc, &self.text, place, more)?;
+        let text = self.text.with_more(self.alloc, place, more)?;
         let tags = with_tags(self.alloc, self.tags.as_slice(), names, len)?;
         let tags = all_grown_among(self.alloc, tags.as_slice(), place, count, names)?;
         let marks = all_moved_on(self.alloc, self.marks.as_slice(), len, place, count)?;
@@ -106,7 +85,7 @@ impl TextWidget {
         if !self.options.is_editable() {
             return Ok(());
         }
-        let text = text_without(self.alloc, &self.text, first, last)?;
+        let text = self.text.without(self.alloc, first, last)?;
         let tags = all_shrunk(self.alloc, self.tags.as_slice(), first, last)?;
         let marks = all_moved_back(self.alloc, self.marks.as_slice(), first, last)?;
         self.text = text;

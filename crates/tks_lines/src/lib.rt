@@ -2,11 +2,14 @@
 #![tactic(auto)]
 
 mod answers;
+mod breaks;
 mod calls;
 mod edits;
 mod flag_list;
 mod index;
 mod laws;
+mod lined;
+mod lined_text;
 mod lines;
 mod mark_calls;
 mod marks;

@@ -6,6 +6,7 @@ ghost use Rattle.tks_text.specs.declared.class.Class.TheVariants as class;
 ghost use Rattle.tks_opt.specs.Options.{configured};
 ghost use Rattle.tks_lines.specs.Lines.{Formed, first_mark, first_lines};
 
+use crate::lined_text::LinedText;
 use crate::parts::{Mark, Tag};
 use crate::{marks, tags};
 use std::alloc::{AllocError, Global};
@@ -17,7 +18,7 @@ use tks_text::{Class, Failure, Seq, Txt};
 pub struct TextWidget {
     pub(crate) alloc: Global,
     pub(crate) options: Options,
-    pub(crate) text: Txt,
+    pub(crate) text: LinedText,
     pub(crate) tags: Seq<Tag>,
     pub(crate) marks: Seq<Mark>,
 }
@@ -68,7 +69,7 @@ impl TextWidget {
         Ok(TextWidget {
             alloc,
             options,
-            text: Txt::new(alloc),
+            text: LinedText::of(Txt::new(alloc)),
             tags: Seq::new(alloc),
             marks,
         })
@@ -86,7 +87,7 @@ impl TextWidget {
     pub fn text(&self) -> &Txt
         ensures { result.now ≡ self.now.text }
     {
-        &self.text
+        self.text.text()
     }
 
     /// Its tags, in the order in which they were made.
@@ -125,7 +126,7 @@ impl TextWidget {
         Ok(TextWidget {
             alloc: self.alloc,
             options: self.options.try_clone()?,
-            text: self.text.try_clone()?,
+            text: self.text.try_clone(self.alloc)?,
             tags: tags::copied(self.alloc, self.tags.as_slice())?,
             marks: marks::copied(self.alloc, self.marks.as_slice())?,
         })

@@ -1,8 +1,9 @@
 //! Places in a text: before so many of its characters; behind the last newline is the end.
 ghost use Rattle.std.specs.Prelude.{◌≡◌, ◌+◌, ◌-◌, ◌<◌, ◌≤◌, ◌^◌, length, min};
-ghost use Rattle.std.specs.List.{prefix_len, suffix_len, count_by};
+ghost use Rattle.std.specs.List.{prefix_len};
 ghost use Rattle.tks_lines.specs.Places.{is_newline, is_inner, end_place, lines_before, column_of, line_start, line_end, within_line, place_at, place_of_line, along, changed};
 
+use crate::lined::Lined;
 use crate::modifier::{Modifier, Step};
 
 // Whether a character ends a line.
@@ -10,14 +11,6 @@ fn is_newline(byte: u8) -> bool
     ensures { result ≡ is_newline byte }
 {
     byte == b'\n'
-}
-
-// How many newlines there are.
-fn newlines(text: &[u8]) -> usize
-    ensures value { result ≡ count_by is_newline text.now }
-    ensures bound { result ≤ length text.now }
-{
-    text.iter().filter(|byte| is_newline(**byte)).count()
 }
 
 /// How many characters stand before the first newline.
@@ -28,58 +21,47 @@ pub(crate) fn inner_len(text: &[u8]) -> usize
     text.iter().take_while(|byte| !is_newline(**byte)).count()
 }
 
-// How many characters stand behind the last newline.
-fn last_line_len(text: &[u8]) -> usize
-    ensures value { result ≡ suffix_len is_inner text.now }
-    ensures bound { result ≤ length text.now }
-{
-    text.iter()
-        .rev()
-        .take_while(|byte| !is_newline(**byte))
-        .count()
-}
-
 /// How many lines end before a place.
-pub(crate) fn lines_before(text: &[u8], place: usize) -> usize
-    requires { length text.now < 2 ^ 63 }
+pub(crate) fn lines_before(text: &Lined<'_>, place: usize) -> usize
     ensures value { result ≡ lines_before text.now place }
-    ensures bound { result ≤ length text.now + 1 }
+    ensures bound { result < 2 ^ 63 }
 {
     if place <= text.len() {
-        newlines(&text[..place])
+        text.newlines_before(place)
     } else {
-        newlines(text) + 1
+        text.newlines() + 1
     }
 }
 
 /// How many characters stand before a place on its line.
-pub(crate) fn column_of(text: &[u8], place: usize) -> usize
+#[tactic(auto, using(crate::proofs::Breaking::column_is))]
+pub(crate) fn column_of(text: &Lined<'_>, place: usize) -> usize
     ensures value { result ≡ column_of text.now place }
     ensures bound { result ≤ length text.now }
 {
     if place <= text.len() {
-        last_line_len(&text[..place])
+        place.saturating_sub(text.line_begin(text.newlines_before(place)))
     } else {
         0
     }
 }
 
 // The place at which a line begins.
-fn line_start(text: &[u8], place: usize) -> usize
+fn line_start(text: &Lined<'_>, place: usize) -> usize
     ensures { result ≡ line_start text.now place }
 {
     place.saturating_sub(column_of(text, place))
 }
 
 // The place of the newline that ends a line.
-fn line_end(text: &[u8], place: usize) -> usize
-    requires short { length text.now < 2 ^ 63 }
-    requires inside { place ≤ end_place text.now }
+#[tactic(auto, using(crate::proofs::Breaking::line_ends))]
+fn line_end(text: &Lined<'_>, place: usize) -> usize
+    requires { place ≤ end_place text.now }
     ensures value { result ≡ line_end text.now place }
     ensures bound { result ≤ end_place text.now }
 {
     if place <= text.len() {
-        place + inner_len(&text[place..])
+        text.line_break(text.newlines_before(place))
     } else {
         place
     }
@@ -97,30 +79,17 @@ fn within_line(column: Option<usize>, len: usize) -> usize
 }
 
 /// The place of a column of the line that comes behind so many others.
-pub(crate) fn place_at(text: &[u8], lines: usize, column: Option<usize>) -> usize
-    requires { length text.now < 2 ^ 63 }
+#[tactic(auto, using(crate::proofs::Breaking::found_line))]
+pub(crate) fn place_at(text: &Lined<'_>, lines: usize, column: Option<usize>) -> usize
     ensures value { result ≡ place_at text.now lines column }
     ensures bound { result ≤ end_place text.now }
 {
-    let mut left = lines;
-    for (place, byte) in text.iter().enumerate() {
-        if left == 0 {
-            return place + within_line(column, inner_len(&text[place..]));
-        }
-        if is_newline(*byte) {
-            left -= 1;
-        }
-    }
-    if left == 0 {
-        text.len()
-    } else {
-        text.len() + 1
-    }
+    let begin = text.line_begin(lines);
+    begin + within_line(column, text.line_break(lines).saturating_sub(begin))
 }
 
 /// The place of a column of a line, counted from 1; a line below that is the first place.
-pub(crate) fn place_of_line(text: &[u8], line: usize, column: Option<usize>) -> usize
-    requires { length text.now < 2 ^ 63 }
+pub(crate) fn place_of_line(text: &Lined<'_>, line: usize, column: Option<usize>) -> usize
     ensures value { result ≡ place_of_line text.now line column }
     ensures bound { result ≤ end_place text.now }
 {
@@ -142,16 +111,16 @@ fn along(step: Step, from: usize) -> usize
     }
 }
 
-#[tactic(auto, using(crate::proofs::Far::kept_line))]
 /// The place that a modifier makes of another.
-pub(crate) fn changed(text: &[u8], place: usize, modifier: Modifier) -> usize
-    requires short { length text.now < 2 ^ 63 }
-    requires inside { place ≤ end_place text.now }
+#[tactic(auto, using(crate::proofs::Far::kept_line))]
+pub(crate) fn changed(text: &Lined<'_>, place: usize, modifier: Modifier) -> usize
+    requires { place ≤ end_place text.now }
     ensures value { result ≡ changed text.now place modifier }
     ensures bound { result ≤ end_place text.now }
 {
+    let len = text.len();
     match modifier {
-        Modifier::Chars(step) => along(step, place).min(text.len() + 1),
+        Modifier::Chars(step) => along(step, place).min(len + 1),
         Modifier::Lines(step) => {
             let lines = along(step, lines_before(text, place));
             place_at(text, lines, Some(column_of(text, place)))

@@ -4,6 +4,7 @@ ghost use Rattle.std.specs.List.{list_all};
 ghost use Rattle.tks_lines.specs.Lines.{is_listed};
 ghost use Rattle.tks_lines.specs.Restoring.{differ, begins_with_cursor, are_tags, are_marks, restored};
 
+use crate::lined_text::LinedText;
 use crate::lines::TextWidget;
 use crate::parts::{Mark, Tag};
 use std::alloc::Global;
@@ -124,7 +125,7 @@ impl TextWidget {
             Class::Text => Some(TextWidget {
                 alloc,
                 options,
-                text,
+                text: LinedText::of(text),
                 tags,
                 marks,
             }),

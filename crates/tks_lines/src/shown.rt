@@ -3,6 +3,7 @@ ghost use Rattle.std.specs.Prelude.{◌≡◌, ◌≤◌, ◌<◌, ◌^◌, ◌+
 ghost use Rattle.tks_opt.specs.Cells.{row, rows};
 ghost use Rattle.tks_lines.specs.Shown.{asked, requested_width, requested_height, cursor_place, first_seen, front_line, line_text, line_seen, shown};
 
+use crate::lined::Lined;
 use crate::lines::TextWidget;
 use crate::marks::mark_named;
 use crate::places::{inner_len, lines_before, place_at};
@@ -18,26 +19,25 @@ fn front_line(text: &[u8]) -> &[u8]
 }
 
 // The line behind so many others, or none.
-fn line_text(text: &[u8], lines: usize) -> &[u8]
-    requires { length text.now < 2 ^ 63 }
+fn line_text<'a>(text: &Lined<'a>, lines: usize) -> &'a [u8]
     ensures { result.now ≡ line_text text.now lines }
 {
     let start = place_at(text, lines, Some(0)).min(text.len());
-    front_line(text.split_at(start).1)
+    front_line(text.as_bytes().split_at(start).1)
 }
 
 // A row of an area that shows lines from one on.
 #[tactic(auto, using(crate::proofs::Far::kept_line))]
 fn row_of(
     alloc: Global,
-    text: &[u8],
+    text: &Lined<'_>,
     first: usize,
     width: usize,
     index: usize,
 ) -> Result<Seq<u8>, AllocError>
-    requires { length text.now < 2 ^ 63 }
     ensures { IfOk result (λ cells. cells ≡ row (λ x. line_seen text.now first x index) width) }
 {
+    let _len = text.len();
     let line = line_text(text, first.saturating_add(index));
     let cells = line_row(alloc, line, 0, width)?;
     Ok(cells)
@@ -46,12 +46,11 @@ fn row_of(
 // The rows of an area that shows lines from one on.
 fn rows_of(
     alloc: Global,
-    text: &[u8],
+    text: &Lined<'_>,
     first: usize,
     width: usize,
     height: usize,
 ) -> Result<Seq<Seq<u8>>, AllocError>
-    requires { length text.now < 2 ^ 63 }
     ensures { IfOk result (λ cells. cells ≡ rows (line_seen text.now first) width height) }
 {
     let mut cells = Seq::new(alloc);
@@ -97,10 +96,11 @@ impl TextWidget {
     }
 
     // How many lines are above the first one that is seen.
-    fn first_seen(&self) -> usize
+    fn first_seen(&self, text: &Lined<'_>) -> usize
+        requires { text.now ≡ self.now.text }
         ensures { result ≡ first_seen self.now }
     {
-        let lines = lines_before(self.text.as_bytes(), self.cursor_place());
+        let lines = lines_before(text, self.cursor_place());
         (lines + 1).saturating_sub(self.requested_height())
     }
 
@@ -109,13 +109,8 @@ impl TextWidget {
     pub fn shown(&self, width: usize, height: usize) -> Result<Seq<Seq<u8>>, AllocError>
         ensures { IfOk result (λ cells. cells ≡ shown self.now width height) }
     {
-        let cells = rows_of(
-            self.alloc,
-            self.text.as_bytes(),
-            self.first_seen(),
-            width,
-            height,
-        )?;
+        let text = self.text.lined(self.alloc)?;
+        let cells = rows_of(self.alloc, &text, self.first_seen(&text), width, height)?;
         Ok(cells)
     }
 }

@@ -71,7 +71,8 @@ impl TextWidget {
         match words {
             [name] => {
                 let places = edges(self.alloc, flags_of(name, self.tags.as_slice()))?;
-                let all = all_spelled(self.alloc, self.text.as_bytes(), places.as_slice())?;
+                let text = self.text.lined(self.alloc)?;
+                let all = all_spelled(self.alloc, &text, places.as_slice())?;
                 Ok(Said::Text(join(self.alloc, all.as_slice())?))
             }
             _ => Err(wrong_words(path)),

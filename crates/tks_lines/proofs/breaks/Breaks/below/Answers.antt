@@ -1,0 +1,12 @@
+use Rattle.std.proofs.Common.{nat_lt, sym, rules, of_calls, ap, ◌∙◌, ◌≡◌}
+use Rattle.std.proofs.lemmas.List.Sorted.{IsPartitionPoint-from_clause}
+use Rattle.tks_lines.specs.Breaks.{below}
+use Rattle.tks_lines.proofs.Breaking.{parted, below_point}
+use Rattle.tks_lines.proofs.breaks.Breaks.below.Goals as goal
+
+pub returns-clause-value : goal.returns-clause-value
+returns-clause-value c =
+    let places = c.as_slice.result.now in
+    let same : places ≡ c.args.self.now = c.as_slice.ensures.value ∙ c.self.view_is in
+    let point = IsPartitionPoint-from_clause (λ b. nat_lt b c.args.place) places c.partition_point.result c.partition_point.ensures.partitioned (parted c.args.place places (rw same c.requires)) (λ a r q k. search (rules, of_calls)) in
+    sym (ap (below c.args.place) (sym same) ∙ below_point c.args.place places c.partition_point.result c.partition_point.ensures.bound point)

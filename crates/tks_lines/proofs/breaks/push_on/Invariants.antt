@@ -1,0 +1,10 @@
+use Rattle.std.proofs.Common.{◌≡◌, ◌+◌, ◌<◌, ◌^◌, ◌++◌, drop, map}
+use Rattle.std.specs.List.{AllByRecursion}
+use Rattle.tks_lines.proofs.breaks.push_on.Given as goal
+
+-- those so far, and those further on, are all
+abbrev pub invariant-loop-place : goal.invariant-loop-place
+invariant-loop-place l = record {
+  all : l.places.items ++ map (λ b. b + l.count) (drop l.place-index l.more) ≡ l.fn.places.items ++ map (λ b. b + l.count) l.more;
+  small : AllByRecursion (λ b. b + l.count < 2 ^ 64) (drop l.place-index l.more);
+}
