@@ -1,11 +1,9 @@
 -- Runs, in the words of steps.
-use Rattle.std.proofs.Common.{◌≡◌, ℕ, List, [], ◌∷◌, ◌++◌, Result, Ok, Err, refl, sym, ◌∙◌, ap}
+use Rattle.std.proofs.Common.{◌≡◌, ℕ, List, [], ◌∷◌, Result, Ok, Err, refl, sym, ◌∙◌, ap}
 use Rattle.tks_text.specs.Size.{Extent}
 use Rattle.tks_text.specs.declared.limits.Limits.{Limits}
 use Rattle.tks_disk.specs.DiskModel.{Images}
 use Rattle.tks_input.specs.declared.input.Input.{Input}
-use Rattle.tks_input.specs.declared.reply.Reply.{Reply}
-use Rattle.tks_input.specs.declared.reply.Refused.{Refused}
 use Rattle.tks_durable.specs.Crash.{OpensToCount, OpensToPrefix}
 use Rattle.tks_durable.specs.Opening.{opens, run, reached, fault_of}
 use Rattle.tks_durable.specs.declared.fault.SessionFault.{SessionFault}

@@ -1,5 +1,5 @@
 -- A world of the machine is stored in its bytes.
-use Rattle.std.proofs.Common.{◌≡◌, ◌<◌, ◌≤◌, ◌==◌, ◌&&◌, Bool, true, false, drop, length, List, [], ◌∷◌, ◌++◌, ℕ, suc, zero, Option, Some, None, IfSome, Ok, Err, refl, sym, ap, ◌∙◌, subst, arith, append-nil}
+use Rattle.std.proofs.Common.{◌≡◌, ◌<◌, ◌==◌, ◌&&◌, Bool, true, false, drop, length, List, [], ◌∷◌, ℕ, suc, zero, Some, IfSome, Ok, refl, sym, ap, ◌∙◌, arith, append-nil}
 use Rattle.std.specs.Bool.{then_some}
 use Rattle.std.proofs.lemmas.Bool.{and_from, and_parts, eqb-true}
 use Rattle.std.proofs.lemmas.Bool.Decides.{nat_tests}

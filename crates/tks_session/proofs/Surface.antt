@@ -18,7 +18,7 @@ use Rattle.tks_durable.proofs.Runs.{run_fault}
 use Rattle.tks_state.specs.World.{World}
 use Rattle.tks_world.specs.Step.{Stepped, Accepts, Refuses, step}
 use Rattle.tks_session.specs.Crash.{LeadsOn, opens}
-use Rattle.tks_session.specs.Draining.{DrainsSo, StopsSo, Turns, TurnsTo}
+use Rattle.tks_session.specs.Draining.{DrainsSo, StopsSo, TurnsTo}
 use Rattle.tks_session.specs.Refusing.{PostRefused, Tried}
 use Rattle.tks_session.specs.Sessions.{Made, SessionState, Setting, seen_as, terminal_in}
 use Rattle.tks_session.specs.Terminals.{as_machine}

@@ -1,5 +1,5 @@
 -- What a store opens to, and what a crash leaves of a session, in the words of steps.
-use Rattle.std.specs.Prelude.{◌≡◌, ◌<◌, ◌≤◌, ℕ, ◌+◌, List, [], ◌∷◌, ◌++◌, length, Result, Ok, true}
+use Rattle.std.specs.Prelude.{◌≡◌, ◌≤◌, ℕ, ◌+◌, List, [], ◌∷◌, ◌++◌, length, Result, Ok}
 use Rattle.tks_text.specs.declared.limits.Limits.{Limits}
 use Rattle.tks_disk.specs.DiskModel.{Images, View}
 use Rattle.tks_input.specs.declared.input.Input.{Input}
