@@ -274,7 +274,8 @@ def dump(world):
         at += len(part)
 
 
-if sys.argv[1] == 'told':
-    dump(SMALL)
-else:
-    rows(sys.argv[1])
+if __name__ == '__main__':
+    if sys.argv[1] == 'told':
+        dump(SMALL)
+    else:
+        rows(sys.argv[1])
