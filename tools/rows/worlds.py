@@ -7,32 +7,13 @@ Each world is told twice: by the lines that lead to it, and field by field, work
 bytes of the fields follow the tables of docs/FORMAT.md, and the options of a class those of docs/WIDGETS.md. Nothing here
 comes from the program.
 """
+import os
 import sys
 
-# ---- the tables
-
-ROOT, FRAME, LABEL, BUTTON, CHECKBUTTON, ENTRY, LISTBOX, TEXT = range(8)
-SIDES = 'top bottom left right'.split()
-FILLS = 'none x y both'.split()
-ANCHORS = 'center n ne e se s sw w nw'.split()
-KEY_DOWN, KEY_UP, DOWN, UP, FOCUS_IN, FOCUS_OUT, VIRTUAL = range(1, 8)
-SHIFT, LOCK, CONTROL, BUTTON_1, BUTTON_3 = 1, 2, 4, 256, 1024
-COMMON = [('background', ''), ('foreground', ''), ('font', ''), ('relief', ''), ('borderwidth', '')]
-AREA = [('width', '0'), ('height', '0')]
-CAPTION = [('text', ''), ('textvariable', ''), ('width', '0'), ('anchor', 'center')]
-INVOKED = CAPTION + [('command', ''), ('state', 'normal')]
-# The options of each class behind the common ones; whether it takes the focus stands between.
-OWN = {
-    ROOT: ('0', AREA),
-    FRAME: ('0', AREA),
-    LABEL: ('0', CAPTION),
-    BUTTON: ('1', INVOKED),
-    CHECKBUTTON: ('1', INVOKED + [('variable', ''), ('onvalue', '1'), ('offvalue', '0')]),
-    ENTRY: ('1', [('textvariable', ''), ('show', ''), ('width', '20'), ('state', 'normal')]),
-    LISTBOX: ('1', [('width', '20'), ('height', '10'), ('state', 'normal'), ('selectmode', 'browse')]),
-    TEXT: ('1', [('width', '80'), ('height', '24'), ('state', 'normal'), ('wrap', 'char')]),
-}
-MODIFIER_KEYS = 'Shift_L Shift_R Control_L Control_R Alt_L Alt_R Caps_Lock'.split()
+sys.path.insert(0, os.path.dirname(os.path.dirname(os.path.realpath(__file__))))
+from format_tables import (ANCHORS, BUTTON, BUTTON_1, BUTTON_3, CHECKBUTTON, CONTROL, DOWN, ENTRY, FILLS, FOCUS_IN, FOCUS_OUT,
+                           FRAME, KEY_DOWN, KEY_UP, LABEL, LISTBOX, LOCK, MODIFIER_KEYS, ROOT, SHIFT, SIDES, TEXT, UP, VIRTUAL,
+                           options_of)
 
 
 # ---- worlds, field by field
@@ -183,9 +164,7 @@ def maybe(value, told):
 
 
 def options(kind, given):
-    focus, own = OWN[kind]
-    names = COMMON + [('takefocus', focus)] + own
-    return many([text(given.get(name, first), name) for name, first in names], 'options')
+    return many([text(given.get(name, first), name) for name, first in options_of(kind)], 'options')
 
 
 def packing(given):
@@ -295,7 +274,8 @@ def dump(world):
         at += len(part)
 
 
-if sys.argv[1] == 'told':
-    dump(SMALL)
-else:
-    rows(sys.argv[1])
+if __name__ == '__main__':
+    if sys.argv[1] == 'told':
+        dump(SMALL)
+    else:
+        rows(sys.argv[1])
