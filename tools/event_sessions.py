@@ -263,13 +263,15 @@ class Draw:
         return found[:5]
 
     def variant(self, sequence):
-        """A sequence without its first pattern, with other modifiers in one place, or without a detail."""
+        """A sequence without its first pattern, with another in front, with other modifiers in one place, or without a detail. What
+        is repeated is never cut: the rest of it would be spelled as the repetition of what stands in front."""
         place, change = self.random.randrange(len(sequence)), self.random.random()
         if change < .15 and len(sequence) > 1 and not sequence[1].near:
             return sequence[1:]
         old = sequence[place]
         if old.near or place + 1 < len(sequence) and sequence[place + 1].near:
-            return sequence if self.as_wish else [self.pattern()] + sequence[-4:]
+            is_cut = len(sequence) > 4 and sequence[-4].near
+            return sequence if self.as_wish or is_cut else [self.pattern()] + sequence[-4:]
         turned = set(self.random.sample(MODIFIERS, self.one(1, 2, 2)))
         other = self.modifiers() if self.as_wish else old.modifiers ^ turned
         changed = Pattern(old.kind, old.modifiers, None) if change > .8 else Pattern(old.kind, other, old.detail)
