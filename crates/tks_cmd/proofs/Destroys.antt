@@ -2,7 +2,6 @@
 use Rattle.std.proofs.Common.{◌≡◌, ℕ, ◌==◌, Bool, true, false, not, if◌then◌else◌, List, Option, Some, None, Ok, Err, refl, sym, ap, ◌∙◌, true≢false}
 use Rattle.tks_text.specs.Text.{same_text}
 use Rattle.tks_text.specs.declared.fault.ErrorNumber.TheVariants.{NotAllowedOnRoot}
-use Rattle.tks_text.specs.declared.fault.ScriptFault.{ScriptFault}
 use Rattle.tks_opt.specs.Options.{after}
 use Rattle.tks_tree.specs.Path.{root_path}
 use Rattle.tks_tree.specs.Windows.{Window, of_path, on_window}

@@ -1,5 +1,5 @@
 -- The events that `event generate` makes are events that there are.
-use Rattle.std.proofs.Common.{◌≡◌, ◌≤◌, ◌<◌, ◌^◌, ◌+◌, ℕ, ℤ, pos, negsuc, zero, suc, Bool, true, false, not, ◌||◌, ◌&&◌, ◌==◌, List, [], ◌∷◌, Option, Some, None, Result, Ok, Err, refl, sym, ap, ◌∙◌, subst, true≢false, arith}
+use Rattle.std.proofs.Common.{◌≡◌, ◌≤◌, ◌<◌, ◌^◌, ◌+◌, ℕ, ℤ, pos, negsuc, Bool, true, false, not, ◌||◌, ◌&&◌, ◌==◌, List, [], ◌∷◌, Option, Some, None, Result, Ok, Err, refl, sym, ap, ◌∙◌, subst, true≢false, arith}
 use Rattle.std.specs.Prelude.{nat_le, nat_lt, decimal, option_map, if◌then◌else◌}
 use Rattle.std.proofs.lemmas.Fmt.{decimal_digit}
 use Rattle.std.proofs.lemmas.Bool.{cond_both, and_from, and_parts, or_right, le-leb, leb-true, ltb-true}
@@ -8,11 +8,11 @@ use Rattle.tks_text.specs.declared.integer.Range.{Range}
 use Rattle.tks_tcl.specs.Cause.{Cause, after}
 use Rattle.tks_opt.specs.Values.{number_among, number_within}
 use Rattle.tks_event.specs.Keysyms.{is_keysym}
-use Rattle.tks_event.specs.Kinds.{same_kind, is_button, is_detail, is_of_button, is_of_key, is_virtual}
+use Rattle.tks_event.specs.Kinds.{same_kind, is_button, is_of_button, is_of_key, is_virtual}
 use Rattle.tks_event.specs.Legality.{max_number, max_time, is_empty, is_place, is_somewhere, is_nowhere, suits_focus, suits_name, goes_with, is_event}
 use Rattle.tks_event.specs.Modifiers.{all_bits}
 use Rattle.tks_event.specs.Sequences.{is_some_text, is_name, is_physical}
-use Rattle.tks_event.specs.Spelling.{virtual_one, SpellsPattern, physical, virtual}
+use Rattle.tks_event.specs.Spelling.{SpellsPattern, physical, virtual}
 use Rattle.tks_event.specs.Event.{Event}
 use Rattle.tks_event.specs.declared.kind.Kind.{Kind}
 use Rattle.tks_event.specs.declared.kind.Kind.TheVariants as kind
@@ -24,7 +24,7 @@ use Rattle.tks_bind.specs.declared.field.Field.{Field}
 use Rattle.tks_bind.specs.declared.field.Field.TheVariants as field
 use Rattle.tks_tree.specs.WellFormed.{is_widget_class}
 use Rattle.tks_state.specs.Widget.{class_of}
-use Rattle.tks_cmd.specs.Events.{Wanted, time_among, time_of, place_among, place_of, with_field, state_of, or_bad_value, with_field_option_for, with_field_option, option_named, is_when, when_given, with_option, with_options, has_detail, first_state, first_time, first_event, is_incomplete, complete, not_so, event_of}
+use Rattle.tks_cmd.specs.Events.{Wanted, time_among, time_of, place_among, place_of, with_field, state_of, or_bad_value, with_field_option_for, with_field_option, option_named, is_when, when_given, with_option, with_options, has_detail, first_event, is_incomplete, complete, not_so, event_of}
 use Rattle.tks_cmd.specs.Focus.{focus_event}
 use Rattle.tks_cmd.specs.VirtualEvents.{bad_sequence, name_in}
 use Rattle.tks_cmd.specs.Windows.{first_widget}

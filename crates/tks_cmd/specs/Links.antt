@@ -10,7 +10,6 @@ use Rattle.tks_tcl.specs.Cause.{Cause, OverLimit, after}
 use Rattle.tks_text.specs.Limits.{fits}
 use Rattle.tks_tcl.specs.Variables.{is_missing, stores_global}
 use Rattle.tks_button.specs.declared.caption.Assignment.{Assignment}
-use Rattle.tks_state.specs.Widget as widgets
 use Rattle.tks_state.specs.Links.{link_of, text_of, with_text, seen, first_assigned}
 use Rattle.tks_state.specs.declared.widget.Widget.{Widget}
 use Rattle.tks_cmd.specs.Contents.{holds_within}

@@ -1,5 +1,5 @@
 -- The timer that is run is the first that is due, and the script that is cancelled has the least id.
-use Rattle.std.proofs.Common.{◌≡◌, ◌<◌, ◌≤◌, ◌⊎◌, inl, inr, ℕ, Bool, true, false, cond, List, [], ◌∷◌, ◌++◌, Option, Some, None, refl, ap, subst, sym, ◌∙◌, arith, true≢false}
+use Rattle.std.proofs.Common.{◌≡◌, ◌<◌, ◌≤◌, inl, inr, ℕ, Bool, true, false, cond, List, [], ◌∷◌, Option, Some, None, refl, ap, subst, sym, ◌∙◌, arith, true≢false}
 use Rattle.std.specs.Prelude.{nat_lt, option_map}
 use Rattle.std.specs.List.{AllByRecursion}
 use Rattle.std.specs.Cmp.Lexicographic.{bytes_decides}
@@ -9,7 +9,7 @@ use Rattle.tks_text.specs.Text.{same_text}
 use Rattle.tks_timer.specs.declared.entry.Timer.{Timer}
 use Rattle.tks_timer.specs.declared.entry.Idle.{Idle}
 use Rattle.tks_timer.specs.After.{Content, is_sooner, soonest, first_due, due_at, lesser, timer_with, idle_with, with_script}
-use Rattle.tks_timer.specs.Firsts.{IsAmong, NoSooner, IsNextDue, RunsNext, HasScript, NoLesser, NoneHas, IsLeast, CancelsLeast}
+use Rattle.tks_timer.specs.Firsts.{IsAmong, NoSooner, RunsNext, HasScript, NoLesser, NoneHas, IsLeast, CancelsLeast}
 
 all_then : {X : Type 0} {P Q : X → Type 0} → ((x : X) → P x → Q x) → (xs : List X) → AllByRecursion P xs → AllByRecursion Q xs
 all_then f [] h = tt

@@ -1,26 +1,25 @@
 -- A turn is quiet just where nothing waits.
-use Rattle.std.proofs.Common.{◌≡◌, ◌<◌, ◌==◌, ◌↔◌, ◌+◌, ℕ, suc, Bool, true, false, cond, List, [], ◌∷◌, ◌++◌, Option, Some, None, refl, ap, sym, ◌∙◌, subst, arith}
-use Rattle.std.specs.Prelude.{nat_lt, option_map}
+use Rattle.std.proofs.Common.{◌≡◌, ◌<◌, ◌==◌, ◌↔◌, ◌+◌, ℕ, Bool, true, false, cond, List, [], ◌∷◌, ◌++◌, Option, Some, None, refl, ap, sym, ◌∙◌, subst}
+use Rattle.std.specs.Prelude.{option_map}
 use Rattle.std.specs.List.{AllByRecursion}
 use Rattle.std.proofs.lemmas.Bool.{eq-eqb, lt-ltb}
 use Rattle.tks_text.specs.declared.limits.Limits.{Limits}
-use Rattle.tks_event.specs.Event.{Event}
 use Rattle.tks_queue.specs.declared.queued.Queued.{Queued}
 use Rattle.tks_queue.specs.EventQueue.{first}
 use Rattle.tks_timer.specs.declared.entry.Timer.{Timer}
 use Rattle.tks_timer.specs.declared.entry.Idle.{Idle}
-use Rattle.tks_timer.specs.After.{Content, first_due, due_at, first_idle, timer_script, idle_script, idle_kept, timer_kept, kept_under, script_in}
+use Rattle.tks_timer.specs.After.{first_due, due_at, first_idle, timer_script, idle_script, idle_kept, timer_kept, kept_under, script_in}
 use Rattle.tks_timer.specs.Firsts.{IsNextDue, RunsNext}
 use Rattle.tks_timer.proofs.Firsts.{runs_next}
-use Rattle.tks_app.specs.Applications.{Application, Meaning}
+use Rattle.tks_app.specs.Applications.{Application}
 use Rattle.tks_vars.specs.Variables.{Variables}
-use Rattle.tks_state.specs.World.{World, without_event, without_id}
+use Rattle.tks_state.specs.World.{World, without_id}
 use Rattle.tks_eval.specs.Outcome.{Outcome, Why, End, Stopped, OutOfSteps, TooDeep}
 use Rattle.tks_eval.specs.Outcome as outcome
 use Rattle.tks_world.specs.Hosting.{Setting}
 use Rattle.tks_world.specs.Laws.{NothingWaits}
 use Rattle.tks_world.specs.Scripts.{lent}
-use Rattle.tks_world.specs.Step.{Stepped, Refuses, step}
+use Rattle.tks_world.specs.Step.{Refuses, step}
 use Rattle.tks_world.specs.Stepped.{Accepts, counted, max_count}
 use Rattle.tks_world.specs.Things.{Next, script_taken, idle_or_none, timer_or_idle, event_or_script, next_thing}
 use Rattle.tks_world.specs.Telling.{told}
@@ -28,7 +27,6 @@ use Rattle.tks_world.specs.Turns.{finished, thing_does, turned, turn_step}
 use Rattle.tks_world.specs.declared.things.Thing.{Thing}
 use Rattle.tks_world.specs.declared.things.Thing.TheVariants as thing
 use Rattle.tks_input.specs.declared.input.Input.TheVariants.{Turn}
-use Rattle.tks_input.specs.declared.reply.Reply.{Reply}
 use Rattle.tks_input.specs.declared.reply.Refused.TheVariants.{Quiet, TooLarge}
 
 -- ---- what is there is taken out

@@ -1,8 +1,6 @@
-use Rattle.std.proofs.Common.{◌≡◌, ℕ, drop, Some, None}
-use Rattle.std.specs.Prelude.{Option}
+use Rattle.std.proofs.Common.{◌≡◌, ℕ, drop}
 use Rattle.std.specs.BTreeMap.{get}
 use Rattle.std.specs.Ordering.{nat_cmp}
-use Rattle.tks_pack.specs.declared.settings.Settings.{Settings}
 use Rattle.tks_codec_windows.specs.Places.{settings_of}
 use Rattle.tks_codec_windows.proofs.ByNumber.{or_said}
 use Rattle.tks_codec_windows.proofs.packed.settings_by_number.Given as goal
