@@ -3,3 +3,4 @@ pub mod AtFork
 pub mod Mapped
 pub mod Going
 pub mod AtPlace
+pub mod Alike

@@ -5,6 +5,7 @@ ghost use Rattle.tks_share.specs.Lists.{Fits, Rises, Says};
 
 use crate::change::Change;
 use crate::copied::Copied;
+use crate::held::Held;
 use crate::items::Items;
 use crate::map::MAX_LEN;
 use crate::numbered::Numbered;
@@ -208,6 +209,12 @@ impl<T: Numbered> SharedList<T> {
             return Ok(());
         };
         places::remove(&mut self.tree, index)
+    }
+}
+
+impl<T: Drop> Held for SharedList<T> {
+    fn share(&self) -> Result<SharedList<T>, AllocError> {
+        SharedList::share(self)
     }
 }
 

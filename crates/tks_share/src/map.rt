@@ -4,6 +4,7 @@ ghost use Rattle.std.specs.FinMap as map;
 
 use crate::change::Change;
 use crate::copied::Copied;
+use crate::held::Held;
 use crate::iter::Iter;
 use crate::names::{self, Entry};
 use crate::shared::Shared;
@@ -153,6 +154,12 @@ impl<V: Copied> SharedMap<V> {
         ensures err { OnErr result (self.new ≡ self.old) }
     {
         names::change(&mut self.tree, self.alloc, name, change)
+    }
+}
+
+impl<V: Drop> Held for SharedMap<V> {
+    fn share(&self) -> Result<SharedMap<V>, AllocError> {
+        SharedMap::share(self)
     }
 }
 
