@@ -5,6 +5,7 @@ ghost use Rattle.tks_app.specs.Memories.{first_memories, remembering};
 
 use std::alloc::{AllocError, Global};
 use std::marker::Model;
+use tks_share::Share;
 use tks_text::Txt;
 use tks_vars::Table;
 
@@ -63,15 +64,6 @@ impl Memories {
         Memories { texts }
     }
 
-    /// The same, held once more. It takes no memory, whatever they hold.
-    pub fn share(&self) -> Result<Memories, AllocError>
-        ensures { IfOk result (λ m. m ≡ self.now) }
-    {
-        Ok(Memories {
-            texts: self.texts.share()?,
-        })
-    }
-
     /// The text under each name.
     pub fn texts(&self) -> &Table<Txt>
         ensures { result.now ≡ self.now }
@@ -95,5 +87,13 @@ impl Memories {
             self.texts.insert(name.as_bytes(), text)?;
         }
         Ok(())
+    }
+}
+
+impl Share for Memories {
+    fn share(&self) -> Result<Memories, AllocError> {
+        Ok(Memories {
+            texts: self.texts.share()?,
+        })
     }
 }

@@ -32,6 +32,14 @@ names_there o (e ∷ es) = by (same_name o e.0) (names_there o es)
 pub own_there : (t : Options) (o : OptionName) → Legal t → has_option t.class o ≡ true → is_some (value_in t.values o) ≡ true
 own_there t o legal h = sym (names_there o t.values) ∙ ap (list_any (same_name o)) legal.names ∙ h
 
+-- an option that the class lacks has none
+pub none_there : (t : Options) (o : OptionName) → Legal t → has_option t.class o ≡ false → value_in t.values o ≡ None
+none_there t o legal h = by (value_in t.values o) (sym (names_there o t.values) ∙ ap (list_any (same_name o)) legal.names ∙ h)
+  where
+    by : (value : Option (List ℕ)) → is_some value ≡ false → value ≡ None
+    by None lacks = refl
+    by (Some value) lacks = absurd (true≢false lacks)
+
 -- a value in the place of one that is there
 pub put_there : (o : OptionName) (value : List ℕ) (es : List (OptionName × List ℕ)) → is_some (value_in es o) ≡ true → insert_entry same_name es o value ≡ replaced es o value
 put_there o value [] h = absurd (true≢false (sym h))

@@ -11,7 +11,7 @@ use crate::settings::Settings;
 use crate::stretch::Stretch;
 use std::alloc::{AllocError, Global};
 use std::marker::Model;
-use tks_share::{Items, SharedList};
+use tks_share::{Items, Share, SharedList};
 use tks_text::{ErrorNumber, Failure, ScriptFault, Txt};
 use tks_tree::WindowId;
 
@@ -221,18 +221,6 @@ impl Packing {
         self.propagates = propagates;
     }
 
-    /// The same packing, held once more. It takes no memory, whatever is packed.
-    pub fn share(&self) -> Result<Packing, AllocError>
-        ensures { IfOk result (λ p. p ≡ self.now) }
-    {
-        Ok(Packing {
-            alloc: self.alloc,
-            contents: self.contents.share()?,
-            newest: self.newest,
-            propagates: self.propagates,
-        })
-    }
-
     // How a window is packed, or would be if no option were given.
     #[tactic(auto, using(crate::proofs::Contents::settings_new))]
     fn settings_of(&self, window: WindowId) -> Settings
@@ -351,5 +339,16 @@ impl Packing {
         let down = spans(self.alloc, &down, container.height)?;
         let areas = areas(self.alloc, &across, &down)?;
         Ok(areas)
+    }
+}
+
+impl Share for Packing {
+    fn share(&self) -> Result<Packing, AllocError> {
+        Ok(Packing {
+            alloc: self.alloc,
+            contents: self.contents.share()?,
+            newest: self.newest,
+            propagates: self.propagates,
+        })
     }
 }

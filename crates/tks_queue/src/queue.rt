@@ -12,7 +12,7 @@ use crate::queued::{Queued, waiting};
 use std::alloc::{AllocError, AllocFailed, Global};
 use std::marker::Model;
 use tks_event::Event;
-use tks_share::{Items, SharedList};
+use tks_share::{Items, Share, SharedList};
 
 /// The events that wait to be delivered, the next one first; one of a key waits under `.`. Copies share what they have in common.
 pub struct Queue {
@@ -56,15 +56,6 @@ impl Queue {
     {
         Ok(Queue {
             events: SharedList::of(alloc, events)?,
-        })
-    }
-
-    /// The same queue, held once more. It takes no memory, whatever waits.
-    pub fn share(&self) -> Result<Queue, AllocError>
-        ensures { IfOk result (λ same. same ≡ self.now) }
-    {
-        Ok(Queue {
-            events: self.events.share()?,
         })
     }
 
@@ -147,6 +138,14 @@ impl Queue {
                 ensures { result ≡ not (queued.now.event.window == window) }
             { queued.event.window != window },
         )
+    }
+}
+
+impl Share for Queue {
+    fn share(&self) -> Result<Queue, AllocError> {
+        Ok(Queue {
+            events: self.events.share()?,
+        })
     }
 }
 

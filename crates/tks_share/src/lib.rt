@@ -3,7 +3,6 @@
 
 mod change;
 mod copied;
-mod held;
 mod items;
 mod iter;
 mod list;
@@ -13,12 +12,12 @@ mod name;
 mod names;
 mod numbered;
 mod places;
+mod share;
 mod shared;
 mod tree;
 
 pub use change::Change;
 pub use copied::{Copied, copies_of};
-pub use held::Held;
 pub use items::Items;
 pub use iter::Iter;
 pub use list::SharedList;
@@ -26,4 +25,5 @@ pub use map::SharedMap;
 pub use mark::{Mark, Marked};
 pub use name::Name;
 pub use numbered::Numbered;
+pub use share::Share;
 pub use shared::Shared;

@@ -5,11 +5,11 @@ ghost use Rattle.tks_share.specs.Lists.{Fits, Rises, Says};
 
 use crate::change::Change;
 use crate::copied::Copied;
-use crate::held::Held;
 use crate::items::Items;
 use crate::map::MAX_LEN;
 use crate::numbered::Numbered;
 use crate::places;
+use crate::share::Share;
 use crate::shared::Shared;
 use crate::tree::Tree;
 use std::alloc::{AllocError, Global};
@@ -212,7 +212,7 @@ impl<T: Numbered> SharedList<T> {
     }
 }
 
-impl<T: Drop> Held for SharedList<T> {
+impl<T: Drop> Share for SharedList<T> {
     fn share(&self) -> Result<SharedList<T>, AllocError> {
         SharedList::share(self)
     }

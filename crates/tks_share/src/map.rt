@@ -4,9 +4,9 @@ ghost use Rattle.std.specs.FinMap as map;
 
 use crate::change::Change;
 use crate::copied::Copied;
-use crate::held::Held;
 use crate::iter::Iter;
 use crate::names::{self, Entry};
+use crate::share::Share;
 use crate::shared::Shared;
 use crate::tree::Tree;
 use std::alloc::{AllocError, Global};
@@ -157,7 +157,7 @@ impl<V: Copied> SharedMap<V> {
     }
 }
 
-impl<V: Drop> Held for SharedMap<V> {
+impl<V: Drop> Share for SharedMap<V> {
     fn share(&self) -> Result<SharedMap<V>, AllocError> {
         SharedMap::share(self)
     }

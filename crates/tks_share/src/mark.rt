@@ -1,7 +1,7 @@
 //! What a value was, to go back to.
 ghost use Rattle.std.specs.Prelude.{◌≡◌, IfOk};
 
-use crate::held::Held;
+use crate::share::Share;
 use std::alloc::AllocError;
 use std::marker::Model;
 
@@ -33,7 +33,7 @@ pub trait Marked: Drop {
         ensures { self.new ≡ self.old };
 }
 
-impl<T: Held> Marked for T {
+impl<T: Share> Marked for T {
     fn mark(&self) -> Result<Mark<T>, AllocError>
         ensures { IfOk result (λ mark. mark ≡ self.now) }
     {

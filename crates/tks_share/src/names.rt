@@ -6,8 +6,8 @@ ghost use Rattle.tks_share.specs.Tree.{front};
 
 use crate::change::Change;
 use crate::copied::Copied;
-use crate::held::Held;
 use crate::name::Name;
+use crate::share::Share;
 use crate::shared::Shared;
 use crate::tree::{Tree, balance, close, lone};
 use std::alloc::{AllocError, Global};
@@ -17,7 +17,7 @@ use std::rc::Rc;
 /// A name with the value under it.
 pub(crate) type Entry<V> = (Shared<Name>, Shared<V>);
 
-impl<V: Drop> Held for (Shared<Name>, Shared<V>) {
+impl<V: Drop> Share for (Shared<Name>, Shared<V>) {
     fn share(&self) -> Result<(Shared<Name>, Shared<V>), AllocError> {
         Ok((self.0.share()?, self.1.share()?))
     }

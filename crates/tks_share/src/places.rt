@@ -5,8 +5,8 @@ ghost use Rattle.tks_share.specs.Lists.{Fits, Rises, Says, IsChangedAt};
 
 use crate::change::Change;
 use crate::copied::Copied;
-use crate::held::Held;
 use crate::numbered::Numbered;
+use crate::share::Share;
 use crate::shared::Shared;
 use crate::tree::{Tree, balance, close, forked, lone, outweighs};
 use std::alloc::{AllocError, Global};
@@ -33,7 +33,7 @@ pub(crate) fn at<E>(tree: &Tree<E>, index: usize) -> Option<&E>
 }
 
 /// Puts an item into the place of the one at an index.
-pub(crate) fn set<E: Held>(tree: &mut Tree<E>, index: usize, item: E) -> Result<(), AllocError>
+pub(crate) fn set<E: Share>(tree: &mut Tree<E>, index: usize, item: E) -> Result<(), AllocError>
     ensures ok { OnOk result (Fits tree.old → tree.new ≡ slice_set tree.old index item) }
     ensures err { OnErr result (tree.new ≡ tree.old) }
     ensures count { length tree.new ≡ length tree.old }
@@ -54,7 +54,7 @@ pub(crate) fn set<E: Held>(tree: &mut Tree<E>, index: usize, item: E) -> Result<
 }
 
 /// Puts an item before the one at an index, or at the end.
-pub(crate) fn insert<E: Held>(
+pub(crate) fn insert<E: Share>(
     tree: &mut Tree<E>,
     alloc: Global,
     index: usize,
@@ -85,7 +85,7 @@ pub(crate) fn insert<E: Held>(
 }
 
 /// Takes out the item at an index.
-pub(crate) fn remove<E: Held>(tree: &mut Tree<E>, index: usize) -> Result<(), AllocError>
+pub(crate) fn remove<E: Share>(tree: &mut Tree<E>, index: usize) -> Result<(), AllocError>
     ensures ok { OnOk result (Fits tree.old → tree.new ≡ remove tree.old index) }
     ensures err { OnErr result (tree.new ≡ tree.old) }
 {
@@ -141,7 +141,7 @@ pub(crate) fn change<T: Copied, C: Change<T>>(
 }
 
 /// Adds an item at the end, and those of another tree behind it.
-pub(crate) fn put_behind<E: Held>(
+pub(crate) fn put_behind<E: Share>(
     tree: &mut Tree<E>,
     alloc: Global,
     item: E,
@@ -164,7 +164,7 @@ pub(crate) fn put_behind<E: Held>(
 }
 
 // Adds an item at the front, and those of another tree before it.
-fn put_before<E: Held>(
+fn put_before<E: Share>(
     tree: &mut Tree<E>,
     alloc: Global,
     before: Tree<E>,
@@ -187,7 +187,7 @@ fn put_before<E: Held>(
 }
 
 // Those of a tree, an item, and those of another tree.
-fn joined<E: Held>(
+fn joined<E: Share>(
     alloc: Global,
     mut left: Tree<E>,
     item: E,
@@ -205,7 +205,7 @@ fn joined<E: Held>(
 }
 
 // Those of a tree, and those of another.
-fn appended<E: Held>(
+fn appended<E: Share>(
     alloc: Global,
     left: Tree<E>,
     mut right: Tree<E>,

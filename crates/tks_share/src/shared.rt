@@ -2,7 +2,7 @@
 ghost use Rattle.std.specs.Prelude.{◌≡◌, IfOk};
 
 use crate::copied::Copied;
-use crate::held::Held;
+use crate::share::Share;
 use std::alloc::{AllocError, Global};
 use std::marker::Model;
 use std::rc::Rc;
@@ -47,7 +47,7 @@ impl<T: Drop> Shared<T> {
     }
 }
 
-impl<T: Drop> Held for Shared<T> {
+impl<T: Drop> Share for Shared<T> {
     fn share(&self) -> Result<Shared<T>, AllocError> {
         Shared::share(self)
     }

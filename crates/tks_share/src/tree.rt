@@ -2,7 +2,7 @@
 ghost use Rattle.std.specs.Prelude.{◌≡◌, [], ◌∷◌, ◌++◌, IfOk, IfSome, IfNone, OnOk, OnErr, option_copied};
 ghost use Rattle.tks_share.specs.Tree.{items_at, front, counted, Weighed};
 
-use crate::held::Held;
+use crate::share::Share;
 use std::alloc::{AllocError, Global};
 use std::marker::Model;
 use std::mem;
@@ -66,7 +66,7 @@ impl<E> Tree<E> {
     }
 }
 
-impl<E: Held> Tree<E> {
+impl<E: Share> Tree<E> {
     /// The same items, held once more. Nothing of them is copied.
     pub(crate) fn share(&self) -> Result<Tree<E>, AllocError>
         ensures { IfOk result (λ t. t ≡ self.now) }
@@ -123,7 +123,7 @@ impl<E: Held> Tree<E> {
     }
 }
 
-impl<E: Held> Clone for Fork<E> {
+impl<E: Share> Clone for Fork<E> {
     ghost is_clone = { λ fork copy. copy ≡ fork };
 
     // Its parts are held once more, and nothing of them is copied.
@@ -138,7 +138,7 @@ impl<E: Held> Clone for Fork<E> {
 }
 
 /// Takes a fork's item out. Where nothing stands behind it, those before it are handed out, to take the fork's place.
-pub(crate) fn close<E: Held>(fork: &mut Fork<E>) -> Result<Option<Tree<E>>, AllocError>
+pub(crate) fn close<E: Share>(fork: &mut Fork<E>) -> Result<Option<Tree<E>>, AllocError>
     requires { Weighed fork.old }
     ensures some { IfOk result (λ o. IfSome o (λ left. left ≡ fork.old.left ++ fork.old.right)) }
     ensures none { IfOk result (λ o. IfNone o (items_at fork.new ≡ fork.old.left ++ fork.old.right)) }
@@ -160,14 +160,14 @@ pub(crate) fn close<E: Held>(fork: &mut Fork<E>) -> Result<Option<Tree<E>>, Allo
 }
 
 /// A tree with one item.
-pub(crate) fn lone<E: Held>(alloc: Global, item: E) -> Result<Tree<E>, AllocError>
+pub(crate) fn lone<E: Share>(alloc: Global, item: E) -> Result<Tree<E>, AllocError>
     ensures { IfOk result (λ t. t ≡ item ∷ []) }
 {
     forked(alloc, Tree::new(), item, Tree::new())
 }
 
 /// Those of a tree, an item, and those of another tree, neither of which outweighs the other.
-pub(crate) fn forked<E: Held>(
+pub(crate) fn forked<E: Share>(
     alloc: Global,
     left: Tree<E>,
     item: E,
@@ -195,7 +195,7 @@ pub(crate) fn outweighs<E>(tree: &Tree<E>, other: &Tree<E>) -> bool {
 }
 
 // Counts a fork's items anew.
-fn weigh<E: Held>(fork: &mut Fork<E>)
+fn weigh<E: Share>(fork: &mut Fork<E>)
     ensures items { items_at fork.new ≡ items_at fork.old }
     ensures count { Weighed fork.new }
 {
@@ -205,7 +205,7 @@ fn weigh<E: Held>(fork: &mut Fork<E>)
 
 /// Counts a fork's items anew, and keeps neither side much heavier than the other. Where that takes memory that is refused, it
 /// isn't turned.
-pub(crate) fn balance<E: Held>(fork: &mut Fork<E>)
+pub(crate) fn balance<E: Share>(fork: &mut Fork<E>)
     ensures items { items_at fork.new ≡ items_at fork.old }
     ensures count { Weighed fork.new }
 {
@@ -218,7 +218,7 @@ pub(crate) fn balance<E: Held>(fork: &mut Fork<E>)
 }
 
 // A fork whose right side is too heavy gets its root from there.
-fn lean_left<E: Held>(fork: &mut Fork<E>)
+fn lean_left<E: Share>(fork: &mut Fork<E>)
     requires { Weighed fork.old }
     ensures items { items_at fork.new ≡ items_at fork.old }
     ensures count { Weighed fork.new }
@@ -234,7 +234,7 @@ fn lean_left<E: Held>(fork: &mut Fork<E>)
 }
 
 // A fork whose left side is too heavy gets its root from there.
-fn lean_right<E: Held>(fork: &mut Fork<E>)
+fn lean_right<E: Share>(fork: &mut Fork<E>)
     requires { Weighed fork.old }
     ensures items { items_at fork.new ≡ items_at fork.old }
     ensures count { Weighed fork.new }
@@ -250,7 +250,7 @@ fn lean_right<E: Held>(fork: &mut Fork<E>)
 }
 
 // The right side's root becomes the fork's.
-fn turn_left<E: Held>(fork: &mut Fork<E>)
+fn turn_left<E: Share>(fork: &mut Fork<E>)
     requires { Weighed fork.old }
     ensures items { items_at fork.new ≡ items_at fork.old }
     ensures count { Weighed fork.new }
@@ -274,7 +274,7 @@ fn turn_left<E: Held>(fork: &mut Fork<E>)
 }
 
 // The left side's root becomes the fork's.
-fn turn_right<E: Held>(fork: &mut Fork<E>)
+fn turn_right<E: Share>(fork: &mut Fork<E>)
     requires { Weighed fork.old }
     ensures items { items_at fork.new ≡ items_at fork.old }
     ensures count { Weighed fork.new }

@@ -11,6 +11,7 @@ use crate::interrupt::{Interrupt, error, within, wrong_words};
 use crate::words::{integer_in, truth_text};
 use std::alloc::Global;
 use tks_list::ListText;
+use tks_share::Share;
 use tks_text::{ErrorNumber, Failure, Limits, Txt, decimal_of, fits};
 use tks_vars::Vars;
 
@@ -225,7 +226,7 @@ fn take_each(variables: &mut Vars, names: &[Txt]) -> Result<(), Interrupt>
         variables.unset(name)?;
         return Ok(());
     }
-    let mut left = variables.try_clone()?;
+    let mut left = variables.share()?;
     take_all(&mut left, names)?;
     *variables = left;
     Ok(())
@@ -464,7 +465,7 @@ fn link_each(variables: &mut Vars, names: &[Txt], limits: &Limits) -> Result<(),
     if variables.link_new(names, limits.items as usize)? {
         return Ok(());
     }
-    let mut left = variables.try_clone()?;
+    let mut left = variables.share()?;
     link_all(&mut left, names, limits)?;
     *variables = left;
     Ok(())

@@ -12,7 +12,7 @@ use crate::entry::{Idle, Timer};
 use crate::fault::AfterFault;
 use std::alloc::{AllocError, Global};
 use std::marker::Model;
-use tks_share::{Items, SharedList};
+use tks_share::{Items, Share, SharedList};
 use tks_text::{ErrorNumber, Failure, MAX_NUMBER, MAX_TIME, Txt};
 
 /// A script that waits, and what for.
@@ -88,18 +88,6 @@ impl Timers {
             timers,
             idles,
             next,
-        })
-    }
-
-    /// The same scripts, held once more. It takes no memory, whatever waits.
-    pub fn share(&self) -> Result<Timers, AllocError>
-        ensures { IfOk result (λ same. same ≡ self.now) }
-    {
-        Ok(Timers {
-            alloc: self.alloc,
-            timers: self.timers.share()?,
-            idles: self.idles.share()?,
-            next: self.next,
         })
     }
 
@@ -287,6 +275,17 @@ impl Timers {
             Some(script) => Ok(Waiting::Idle(script)),
             None => Err(Failure::about(ErrorNumber::NoSuchAfterId, written)),
         }
+    }
+}
+
+impl Share for Timers {
+    fn share(&self) -> Result<Timers, AllocError> {
+        Ok(Timers {
+            alloc: self.alloc,
+            timers: self.timers.share()?,
+            idles: self.idles.share()?,
+            next: self.next,
+        })
     }
 }
 

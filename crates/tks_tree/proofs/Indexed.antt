@@ -1,16 +1,15 @@
 -- Windows by their numbers, and by their paths.
-use Rattle.std.proofs.Common.{◌≡◌, ℕ, ◌+◌, ◌≤◌, Bool, true, false, cond, ◌||◌, ◌&&◌, not, List, [], ◌∷◌, ◌++◌, length, Option, Some, None, Ordering, Less, Equal, Greater, is_some, is_eq, refl, sym, ap, ◌∙◌, true≢false, arith}
+use Rattle.std.proofs.Common.{◌≡◌, ℕ, ◌+◌, ◌≤◌, Bool, true, false, cond, ◌||◌, ◌&&◌, not, List, [], ◌∷◌, ◌++◌, length, Option, Some, None, is_some, refl, sym, ap, ◌∙◌, true≢false, arith}
 use Rattle.std.specs.Prelude.{◌==◌, nat_lt}
 use Rattle.std.specs.List.{find, position, position_or_len}
 use Rattle.std.specs.Option.{option_map}
-use Rattle.std.specs.Ordering.{eq_by_cmp}
 use Rattle.std.specs.Cmp.Lexicographic.{bytes_decides, nat_list_cmp_total}
-use Rattle.std.specs.Cmp.{eq_by_cmp_equiv}
 use Rattle.std.specs.FinMap as fin
 use Rattle.std.proofs.lemmas.Bool.{ne_eqb, eq-eqb, le-ltb}
 use Rattle.tks_share.specs.Names.{order}
 use Rattle.tks_share.specs.Maps.{Map}
 use Rattle.tks_share.specs.Lists.{Rises}
+use Rattle.tks_share.proofs.Alike.{names_alike}
 use Rattle.tks_text.specs.Text.{same_text}
 use Rattle.tks_tree.specs.Path.{is_within}
 use Rattle.tks_tree.specs.Windows.{Window, of_path, of_number, has_path, number_at}
@@ -100,22 +99,6 @@ place_by_path ws high id path r is = by (of_path ws path) refl is
 
 -- ---- paths
 
--- two paths are one for the index where they are the same text
-keys_alike : (q p : List ℕ) → eq_by_cmp order q p ≡ same_text q p
-keys_alike q p = by (eq_by_cmp order q p) (same_text q p) refl refl
-  where
-    equal : (r : Ordering) → is_eq r ≡ true → r ≡ Equal
-    equal Less e = cc
-    equal Equal e = refl
-    equal Greater e = cc
-
-    by : (a b : Bool) → eq_by_cmp order q p ≡ a → same_text q p ≡ b → a ≡ b
-    by true true s t = refl
-    by false false s t = refl
-    by true false s t = absurd (true≢false (sym ((bytes_decides q p).1 (fin.slice_cmp-IsAntisymmetric fin.nat_cmp-IsAntisymmetric q p (equal _ s))) ∙ t))
-    by false true s t =
-        absurd (true≢false (sym ((eq_by_cmp_equiv nat_list_cmp_total).refl q) ∙ ap (λ x. eq_by_cmp order q x) ((bytes_decides q p).0 t) ∙ s))
-
 -- no path of no window
 pub none_indexed : Indexes fin.empty []
 none_indexed q = fin.get-empty order q
@@ -124,7 +107,7 @@ none_indexed q = fin.get-empty order q
 pub one_more : (index : Map ℕ) (ws : List Window) (w : Window) → Indexes index ws → has_path ws w.path ≡ false → Indexes (fin.insert index w.path w.number) (ws ++ w ∷ [])
 one_more index ws w is new = λ q.
     fin.get-insert nat_list_cmp_total index w.path w.number q
-    ∙ ap (λ b. cond b (Some w.number) (fin.get index q)) (keys_alike q w.path)
+    ∙ ap (λ b. cond b (Some w.number) (fin.get index q)) (names_alike q w.path)
     ∙ ap (cond (same_text q w.path) (Some w.number)) (is q)
     ∙ at q (same_text q w.path) refl (of_path ws q) refl
     ∙ sym (ap (option_map (λ (v : Window). v.number)) (found_more ws q))
@@ -203,7 +186,7 @@ module _ (path : List ℕ) where
   -- one that goes is taken out of the index
   pub taken_out : (all rest : List Window) (w : Window) (index : Map ℕ) → is_within path w.path ≡ true → Leaves all (w ∷ rest) index → Leaves all rest (fin.remove index w.path)
   taken_out all rest w index k leaves = λ q.
-      ap (cond (goes_with q rest) None) (fin.get-remove nat_list_cmp_total index w.path q ∙ ap (λ b. cond b None (fin.get index q)) (keys_alike q w.path))
+      ap (cond (goes_with q rest) None) (fin.get-remove nat_list_cmp_total index w.path q ∙ ap (λ b. cond b None (fin.get index q)) (names_alike q w.path))
       ∙ either (goes_with q rest) (same_text q w.path) (fin.get index q)
       ∙ ap (λ b. cond ((b && same_text q w.path) || goes_with q rest) None (fin.get index q)) (sym k)
       ∙ leaves q

@@ -13,7 +13,7 @@ use Rattle.std.proofs.lemmas.Bool.{ltb-false, eqb-true, eq-eqb}
 use Rattle.tks_tree.specs.View.{others}
 use Rattle.tks_tree.specs.Windows.{Window, Windows, root, on_window, of_path, of_number, has_path, without, destroyed}
 use Rattle.tks_text.specs.declared.fault.ErrorNumber.TheVariants.{NotAllowedOnRoot}
-use Rattle.tks_tree.specs.WellFormed.{StandsIn, Follows, AllFollow, has_own_class, HaveOwnClasses, WellFormed}
+use Rattle.tks_tree.specs.WellFormed.{StandsIn, Follows, AllFollow, HaveOwnClasses, WellFormed}
 use Rattle.tks_tree.proofs.Trees.{rise_filter, within_child, true_or, has_more, from_some, some_is_none}
 
 module _ (q : List ℕ) where

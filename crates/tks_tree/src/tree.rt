@@ -14,7 +14,7 @@ use crate::path::{ROOT, is_child, is_path, is_within, parent_of};
 use crate::window::{Entry, Window, WindowId};
 use std::alloc::{AllocError, Global};
 use std::marker::Model;
-use tks_share::{SharedList, SharedMap};
+use tks_share::{Share, SharedList, SharedMap};
 use tks_text::{Class, ErrorNumber, Failure, MAX_NUMBER, ScriptFault, Seq, Txt};
 
 /// The windows that there are, in the order in which they were made. There is always `.`, and each other
@@ -369,11 +369,10 @@ impl Tree {
         let others = others_behind(self.alloc, &order, from)?;
         Ok(first_accepted(&others, from, accepts))
     }
+}
 
-    /// Equal windows. They take no memory, however many there are.
-    pub fn try_clone(&self) -> Result<Tree, AllocError>
-        ensures { IfOk result (λ t. t ≡ self.now) }
-    {
+impl Share for Tree {
+    fn share(&self) -> Result<Tree, AllocError> {
         Ok(Tree {
             alloc: self.alloc,
             windows: self.windows.share()?,

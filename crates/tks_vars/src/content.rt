@@ -12,7 +12,7 @@ use crate::reading::keep_element;
 use crate::table::Table;
 use std::alloc::{AllocError, Global};
 use tks_list::{ListText, Suffix};
-use tks_share::Copied;
+use tks_share::{Copied, Share};
 use tks_text::{ErrorNumber, Failure, Txt};
 
 /// What stands under the name of a variable.

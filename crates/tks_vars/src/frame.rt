@@ -13,7 +13,7 @@ use crate::links::add_links;
 use crate::table::Table;
 use std::alloc::{AllocError, Global};
 use std::marker::Model;
-use tks_share::{Change, Shared};
+use tks_share::{Change, Share, Shared};
 use tks_text::Txt;
 
 /// What stands under the names of a procedure's call. The first few names are looked through one by one, so that a call with
@@ -73,18 +73,6 @@ impl Frame {
             len: few.len(),
             first: Shared::new(alloc, few)?,
             rest: Table::new(alloc),
-        })
-    }
-
-    /// An equal frame. Nothing of it is copied.
-    pub fn share(&self) -> Result<Frame, AllocError>
-        ensures { IfOk result (λ f. f ≡ self.now) }
-    {
-        Ok(Frame {
-            alloc: self.alloc,
-            len: self.len,
-            first: self.first.share()?,
-            rest: self.rest.share()?,
         })
     }
 
@@ -194,6 +182,17 @@ impl Frame {
                 Ok(answer)
             }
         }
+    }
+}
+
+impl Share for Frame {
+    fn share(&self) -> Result<Frame, AllocError> {
+        Ok(Frame {
+            alloc: self.alloc,
+            len: self.len,
+            first: self.first.share()?,
+            rest: self.rest.share()?,
+        })
     }
 }
 

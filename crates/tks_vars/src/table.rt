@@ -6,7 +6,7 @@ ghost use Rattle.tks_vars.specs.Table.{IsName, HasName};
 
 use std::alloc::{AllocError, Global};
 use std::marker::Model;
-use tks_share::{Change, Copied, Iter, SharedMap};
+use tks_share::{Change, Copied, Iter, Share, SharedMap};
 use tks_text::Txt;
 
 /// A finite map from names, which are texts, to values, in the order of the names' bytes. Copies share what they have in common.
@@ -54,15 +54,6 @@ impl<V: Drop> Table<V> {
         Ok(table)
     }
 
-    /// An equal map. It takes no memory, whatever the map holds.
-    pub fn share(&self) -> Result<Table<V>, AllocError>
-        ensures { IfOk result (λ t. t ≡ self.now) }
-    {
-        Ok(Table {
-            entries: self.entries.share()?,
-        })
-    }
-
     /// The names with what is under each, in the order of the names' bytes.
     pub fn iter(&self) -> Iter<'_, V>
         ensures value { result ≡ map.entries self.now }
@@ -108,6 +99,14 @@ impl<V: Drop> Table<V> {
         ensures err { OnErr result (self.new ≡ self.old) }
     {
         self.entries.remove(name)
+    }
+}
+
+impl<V: Drop> Share for Table<V> {
+    fn share(&self) -> Result<Table<V>, AllocError> {
+        Ok(Table {
+            entries: self.entries.share()?,
+        })
     }
 }
 

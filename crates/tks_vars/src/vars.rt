@@ -21,7 +21,7 @@ use crate::writing::{link, take_global, take_local, write_global, write_local};
 use std::alloc::{AllocError, Global};
 use std::marker::Model;
 use tks_list::{Elements, ListText, Suffix};
-use tks_share::Shared;
+use tks_share::{Share, Shared};
 use tks_text::{ErrorNumber, Failure, Txt};
 
 /// The variables of scripts, and the procedures. Calls speak of the present frame: that of the innermost
@@ -495,11 +495,10 @@ impl Vars {
             _ => None,
         }
     }
+}
 
-    /// Equal variables and procedures. They share what they hold, so this costs the same whatever they are.
-    pub fn try_clone(&self) -> Result<Vars, AllocError>
-        ensures { IfOk result (λ v. v ≡ self.now) }
-    {
+impl Share for Vars {
+    fn share(&self) -> Result<Vars, AllocError> {
         Ok(Vars {
             alloc: self.alloc,
             globals: self.globals.share()?,
