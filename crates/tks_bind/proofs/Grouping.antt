@@ -1,75 +1,51 @@
 -- Lists by names, where one is put in or taken out.
-use Rattle.std.proofs.Common.{rules, ◌≡◌, ℕ, suc, ◌==◌, Bool, true, false, cond, ◌&&◌, if◌then◌else◌, List, [], ◌∷◌, length, Some, None, Ordering, Less, Equal, Greater, is_eq, refl, sym, ap, ◌∙◌, true≢false}
-use Rattle.std.specs.Ordering.{eq_by_cmp}
+use Rattle.std.proofs.Common.{◌≡◌, ℕ, ◌==◌, Bool, true, false, cond, ◌&&◌, if◌then◌else◌, List, [], length, Option, Some, None, refl, sym, ap, ◌∙◌}
 use Rattle.std.specs.Cmp.Lexicographic.{bytes_decides, nat_list_cmp_total}
-use Rattle.std.specs.Cmp.{eq_by_cmp_equiv}
 use Rattle.std.specs.FinMap as map
 use Rattle.tks_share.specs.Names.{order}
 use Rattle.tks_share.specs.Maps.{Map}
+use Rattle.tks_share.proofs.Alike.{names_alike}
 use Rattle.tks_text.specs.Text.{same_text}
 use Rattle.tks_bind.specs.Endings.{Key, same_ending}
 use Rattle.tks_bind.specs.Groups.{listed, items_in, mapped, map_in, group_in, group_of}
+use Rattle.tks_bind.proofs.Members.{empty_list}
 
--- two names are one for a map where they are the same text
-names_alike : (q p : List ℕ) → eq_by_cmp order q p ≡ same_text q p
-names_alike q p = by (eq_by_cmp order q p) (same_text q p) refl refl
-  where
-    equal : (r : Ordering) → is_eq r ≡ true → r ≡ Equal
-    equal Less e = cc
-    equal Equal e = refl
-    equal Greater e = cc
-
-    by : (a b : Bool) → eq_by_cmp order q p ≡ a → same_text q p ≡ b → a ≡ b
-    by true true s t = refl
-    by false false s t = refl
-    by true false s t = absurd (true≢false (sym ((bytes_decides q p).1 (map.slice_cmp-IsAntisymmetric map.nat_cmp-IsAntisymmetric q p (equal _ s))) ∙ t))
-    by false true s t =
-        absurd (true≢false (sym ((eq_by_cmp_equiv nat_list_cmp_total).refl q) ∙ ap (λ x. eq_by_cmp order q x) ((bytes_decides q p).0 t) ∙ s))
-
-module _ {X : Type 0} where
-  none_listed : (xs : List X) → (length xs == 0) ≡ true → [] ≡ xs
-  none_listed [] h = refl
-  none_listed (x ∷ xs) h = absurd (let other : (suc (length xs) == 0) ≡ false = search rules in let g : false ≡ true = sym other ∙ h in cc)
-
-  pub item_put : (m : Map (List X)) (name : List ℕ) (xs : List X) (other : List ℕ)
-      → items_in (map.insert m name xs) other ≡ (if same_text other name then xs else items_in m other)
-  item_put m name xs other =
-      ap listed (map.get-insert nat_list_cmp_total m name xs other ∙ ap (λ b. cond b (Some xs) (map.get m other)) (names_alike other name))
+-- what is seen of what stands under a name, where one is put in or taken out
+module _ {V W : Type 0} (seen : Option V → W) where
+  put : (m : Map V) (name : List ℕ) (v : V) (other : List ℕ) → seen (map.get (map.insert m name v) other) ≡ (if same_text other name then seen (Some v) else seen (map.get m other))
+  put m name v other =
+      ap seen (map.get-insert nat_list_cmp_total m name v other ∙ ap (λ b. cond b (Some v) (map.get m other)) (names_alike other name))
       ∙ by (same_text other name)
     where
-      by : (b : Bool) → listed (cond b (Some xs) (map.get m other)) ≡ (if b then xs else items_in m other)
+      by : (b : Bool) → seen (cond b (Some v) (map.get m other)) ≡ (if b then seen (Some v) else seen (map.get m other))
       by true = refl
       by false = refl
+
+  taken : (m : Map V) (name : List ℕ) (w : W) (other : List ℕ) → w ≡ seen None → seen (map.get (map.remove m name) other) ≡ (if same_text other name then w else seen (map.get m other))
+  taken m name w other h =
+      ap seen (map.get-remove nat_list_cmp_total m name other ∙ ap (λ b. cond b None (map.get m other)) (names_alike other name))
+      ∙ by (same_text other name)
+    where
+      by : (b : Bool) → seen (cond b None (map.get m other)) ≡ (if b then w else seen (map.get m other))
+      by true = sym h
+      by false = refl
+
+module _ {X : Type 0} where
+  pub item_put : (m : Map (List X)) (name : List ℕ) (xs : List X) (other : List ℕ)
+      → items_in (map.insert m name xs) other ≡ (if same_text other name then xs else items_in m other)
+  item_put = put listed
 
   pub item_taken : (m : Map (List X)) (name : List ℕ) (xs : List X) (other : List ℕ) → (length xs == 0) ≡ true
       → items_in (map.remove m name) other ≡ (if same_text other name then xs else items_in m other)
-  item_taken m name xs other h =
-      ap listed (map.get-remove nat_list_cmp_total m name other ∙ ap (λ b. cond b None (map.get m other)) (names_alike other name))
-      ∙ by (same_text other name)
-    where
-      by : (b : Bool) → listed (cond b None (map.get m other)) ≡ (if b then xs else items_in m other)
-      by true = none_listed xs h
-      by false = refl
+  item_taken m name xs other h = taken listed m name xs other (empty_list xs h)
 
   pub map_put : (m : Map (Map X)) (name : List ℕ) (n : Map X) (other : List ℕ)
       → map_in (map.insert m name n) other ≡ (if same_text other name then n else map_in m other)
-  map_put m name n other =
-      ap mapped (map.get-insert nat_list_cmp_total m name n other ∙ ap (λ b. cond b (Some n) (map.get m other)) (names_alike other name))
-      ∙ by (same_text other name)
-    where
-      by : (b : Bool) → mapped (cond b (Some n) (map.get m other)) ≡ (if b then n else map_in m other)
-      by true = refl
-      by false = refl
+  map_put = put mapped
 
   pub map_taken : (m : Map (Map X)) (name : List ℕ) (n : Map X) (other : List ℕ) → map.len n ≡ 0
       → map_in (map.remove m name) other ≡ (if same_text other name then n else map_in m other)
-  map_taken m name n other h =
-      ap mapped (map.get-remove nat_list_cmp_total m name other ∙ ap (λ b. cond b None (map.get m other)) (names_alike other name))
-      ∙ by (same_text other name)
-    where
-      by : (b : Bool) → mapped (cond b None (map.get m other)) ≡ (if b then n else map_in m other)
-      by true = sym (map.empty_of_len n h)
-      by false = refl
+  map_taken m name n other h = taken mapped m name n other (map.empty_of_len n h)
 
   -- what isn't there
   pub no_group : (m : Map (Map (List X))) (e : Key) → map.get m e.kind ≡ None → group_in m e ≡ []

@@ -1,16 +1,42 @@
 -- The last ones of a list.
-use Rattle.std.proofs.Common.{ℕ, zero, suc, ◌-◌, ◌≤◌, not, Bool, true, false, List, [], ◌∷◌, ◌++◌, length, drop, ◌≡◌, refl, ap, ◌∙◌, arith, length-drop}
+use Rattle.std.proofs.Common.{ℕ, zero, suc, ◌+◌, ◌-◌, ◌≤◌, not, Bool, true, false, List, [], ◌∷◌, ◌++◌, length, drop, ◌≡◌, refl, ap, sym, ◌∙◌, arith, length-drop}
 use Rattle.std.specs.Prelude.{◌&&◌}
 use Rattle.std.specs.List.{AllByRecursion, list_all}
 use Rattle.std.proofs.lemmas.Bool.{and_from, and_parts}
+use Rattle.std.proofs.lemmas.List.{drop-append-le, drop-drop, length-append}
 use Rattle.std.proofs.lemmas.List.Folds.{list_all-append}
 use Rattle.tks_event.specs.Event.{Event}
 use Rattle.tks_event.specs.Kinds.{is_virtual}
 use Rattle.tks_event.specs.Legality.{AreEvents, is_event}
 use Rattle.tks_bind.specs.History.{are_physical, latest}
+use Rattle.tks_bind.proofs.Members.{behind_one}
 
-pub latest_within : {X : Type 0} (xs : List X) → length (latest xs) ≤ 32
-latest_within xs = let left : length (drop (length xs - 32) xs) ≡ length xs - (length xs - 32) = length-drop (length xs - 32) xs in omega (arith, left)
+-- no more than a history holds are all the latest
+pub all_latest : {X : Type 0} (xs : List X) → length xs ≤ 32 → latest xs ≡ xs
+all_latest xs few = let none : length xs - 32 ≡ 0 = omega (arith, few) in ap (λ n. drop n xs) none
+
+-- what is too old goes at once, or before others are added
+latest_again : {X : Type 0} (xs ys : List X) → latest (latest xs ++ ys) ≡ latest (xs ++ ys)
+latest_again xs ys =
+    let old = length xs - 32 in
+    let left : latest xs ++ ys ≡ drop old (xs ++ ys) = sym (drop-append-le old xs ys (omega arith)) in
+    let both : length (xs ++ ys) ≡ length xs + length ys = length-append xs ys in
+    let fewer : length (drop old (xs ++ ys)) ≡ length (xs ++ ys) - old = length-drop old (xs ++ ys) in
+    let more = length (drop old (xs ++ ys)) - 32 in
+    let same : old + more ≡ length (xs ++ ys) - 32 = omega (arith, both, fewer) in
+    ap latest left ∙ (drop-drop more old (xs ++ ys) ∙ ap (λ n. drop n (xs ++ ys)) same)
+
+-- one more of several
+pub latest_next : {X : Type 0} (xs : List X) (x : X) (ys zs : List X) → zs ≡ latest (xs ++ x ∷ []) → latest (zs ++ ys) ≡ latest (xs ++ x ∷ ys)
+latest_next xs x ys zs h = ap (λ l. latest (l ++ ys)) h ∙ (latest_again (xs ++ x ∷ []) ys ∙ ap latest (behind_one xs x ys))
+
+-- one more of no more than a history holds
+pub one_held : {X : Type 0} (xs : List X) (x : X) (ys zs all : List X) → length all ≤ 32 → zs ≡ latest (xs ++ x ∷ []) → xs ++ x ∷ ys ≡ all → zs ++ ys ≡ all
+one_held xs x ys zs all few h is =
+    let so_far : length (xs ++ x ∷ []) ≡ length xs + 1 = length-append xs (x ∷ []) in
+    let both : length (xs ++ x ∷ ys) ≡ length xs + suc (length ys) = length-append xs (x ∷ ys) in
+    let same : length (xs ++ x ∷ ys) ≡ length all = ap (λ l. length l) is in
+    ap (λ l. l ++ ys) (h ∙ all_latest (xs ++ x ∷ []) (omega (arith, so_far, both, same, few))) ∙ (behind_one xs x ys ∙ is)
 
 all_dropped : {X : Type 0} (p : X → Bool) (n : ℕ) (xs : List X) → list_all p xs ≡ true → list_all p (drop n xs) ≡ true
 all_dropped p zero xs h = h

@@ -1,4 +1,4 @@
-mod Latest
+pub mod Latest
 mod Begun
 mod Noting
 mod Finding

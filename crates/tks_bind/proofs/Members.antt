@@ -1,6 +1,6 @@
 -- Members of lists.
 use Rattle.std.specs.List.{filter, list_all}
-use Rattle.std.proofs.Common.{◌≡◌, ◌⊎◌, inl, inr, ℕ, zero, suc, ◌+◌, ◌<◌, Bool, true, false, cond, List, [], ◌∷◌, ◌++◌, length, drop, get_or, arith, refl, ap, sym, ◌∙◌}
+use Rattle.std.proofs.Common.{rules, ◌≡◌, ◌⊎◌, inl, inr, ℕ, zero, suc, ◌==◌, ◌+◌, ◌<◌, Bool, true, false, cond, List, [], ◌∷◌, ◌++◌, length, drop, get_or, arith, refl, ap, sym, ◌∙◌}
 use Rattle.tks_text.proofs.Texts.{both}
 use Rattle.tks_bind.specs.Chosen.{IsOneOf}
 
@@ -52,7 +52,15 @@ pub behind_one : {X : Type 0} (xs : List X) (x : X) (ys : List X) → (xs ++ x �
 behind_one [] x ys = refl
 behind_one (y ∷ xs) x ys = ap (λ l. y ∷ l) (behind_one xs x ys)
 
+-- those so far with the next one, and those behind it
+pub one_on : {X : Type 0} (xs : List X) (x : X) (ys left all : List X) → left ≡ x ∷ ys → xs ++ left ≡ all → (xs ++ x ∷ []) ++ ys ≡ all
+one_on xs x ys left all steps is = behind_one xs x ys ∙ (ap (λ l. xs ++ l) (sym steps) ∙ is)
+
 -- what holds of each holds of one between others
 pub all_at : {X : Type 0} (test : X → Bool) (xs : List X) (y : X) (ys : List X) → list_all test (xs ++ y ∷ ys) ≡ true → test y ≡ true
 all_at test [] y ys h = (both (test y) (list_all test ys) h).0
 all_at test (x ∷ xs) y ys h = all_at test xs y ys (both (test x) (list_all test (xs ++ y ∷ ys)) h).1
+
+pub empty_list : {X : Type 0} (xs : List X) → (length xs == 0) ≡ true → xs ≡ []
+empty_list [] h = refl
+empty_list (x ∷ xs) h = absurd (let other : (suc (length xs) == 0) ≡ false = search rules in let g : false ≡ true = sym other ∙ h in cc)

@@ -89,7 +89,7 @@ module _ (earlier later : Pattern) (history : List Event) (place : ℕ) (e : Eve
           let following : may_follow later d e ≡ true = subst (λ x. may_follow later d x ≡ true) same (subst (λ x. may_follow later x b ≡ true) its follows.may_follow) in
           rw (fitting, following) refl
 
-  pub note_next : (row before : List Bool) (k : ℕ) (d : Event) → k < length row → k < place → slice_get history k ≡ Some d → IsClear (suc k) → Joins before row (Since (suc k))
+  note_next : (row before : List Bool) (k : ℕ) (d : Event) → k < length row → k < place → slice_get history k ≡ Some d → IsClear (suc k) → Joins before row (Since (suc k))
       → (b : Bool) → b ≡ (get_or row k false || (fits earlier d && may_follow later d e)) → Joins before (slice_set row k b) (Since k)
   note_next row before k d inside low at clear joined b is = record { from = from; stays = stays; joins = joins }
     where
@@ -146,12 +146,23 @@ module _ (earlier later : Pattern) (history : List Event) (place : ℕ) (e : Eve
           by (inl same) = there n (inr (same, s.1))
           by (inr other) = let low = s.0 in there n (inl (joined.joins n (omega (arith, low, other), s.1)))
 
-  pub clear_next : (k : ℕ) (d : Event) → slice_get history k ≡ Some d → may_lie_before e d ≡ true → IsClear (suc k) → IsClear k
+  clear_next : (k : ℕ) (d : Event) → slice_get history k ≡ Some d → may_lie_before e d ≡ true → IsClear (suc k) → IsClear k
   clear_next k d at may clear m b low high s = by (same_place m k)
     where
       by : (m ≡ k) ⊎ (m ≢ k) → may_lie_before e b ≡ true
       by (inl same) = subst (λ x. may_lie_before e x ≡ true) (one_event (slice_get history k) d b at (subst (λ i. slice_get history i ≡ Some b) same s)) may
       by (inr other) = clear m b (omega (arith, other)) high s
+
+  -- one further back is noted where it may be chosen
+  pub note_back : (row before : List Bool) (from k : ℕ) (d : Event) → from ≡ suc k → from ≤ length row → from ≤ place → slice_get history k ≡ Some d → IsClear from → Joins before row (Since from)
+      → (b : Bool) → b ≡ (fits earlier d && may_follow later d e) → Joins before (slice_set row k (get_or row k false || b)) (Since k)
+  note_back row before from k d back inside low at clear joined b is =
+      note_next row before k d (omega (arith, back, inside)) (omega (arith, back, low)) at (subst IsClear back clear) (subst (λ f. Joins before row (Since f)) back joined)
+      (get_or row k false || b) (ap (λ c. get_or row k false || c) is)
+
+  -- and all from it on are clear where it may lie between
+  pub clear_back : (from k : ℕ) (d : Event) → from ≡ suc k → slice_get history k ≡ Some d → may_lie_before e d ≡ true → IsClear from → IsClear k
+  clear_back from k d back at may clear = clear_next k d at may (subst IsClear back clear)
 
   -- none before an event that may not lie between is chosen
   pub stopped : (row before : List Bool) (k : ℕ) (d : Event) → k < place → slice_get history k ≡ Some d → may_lie_before e d ≡ false → Joins before row (Since k) → Joins before row So

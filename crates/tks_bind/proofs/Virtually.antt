@@ -1,6 +1,6 @@
 -- Virtual events by their index.
 use Rattle.std.specs.List.{remove}
-use Rattle.std.proofs.Common.{rules, ◌≡◌, ◌<◌, ◌==◌, ℕ, suc, Bool, true, false, List, [], ◌∷◌, ◌++◌, length, slice_set, Option, Some, None, refl, ap, sym, subst, ◌∙◌, arith}
+use Rattle.std.proofs.Common.{◌≡◌, ◌<◌, ◌==◌, ℕ, suc, Bool, true, false, List, [], ◌∷◌, ◌++◌, length, slice_set, Option, Some, None, refl, ap, sym, subst, ◌∙◌, arith}
 use Rattle.tks_event.specs.declared.pattern.Pattern.{Pattern}
 use Rattle.tks_bind.specs.declared.virtual_event.VirtualEvent.{VirtualEvent}
 use Rattle.tks_bind.specs.VirtualEvents.{is_named, has_sequence, sequences_of, added, deleted, other_sequences, with_sequences, deleted_sequence}
@@ -12,10 +12,6 @@ Nothing = None
 filled : (u : VirtualEvent) (l : List (List Pattern)) (vs : List VirtualEvent) → (length l == 0) ≡ false → record { name = u.name; sequences = l } ∷ vs ≡ with_sequences u l vs
 filled u [] vs k = absurd (let g : true ≡ false = k in cc)
 filled u (s ∷ l) vs k = refl
-
-pub empty_list : (l : List (List Pattern)) → (length l == 0) ≡ true → l ≡ []
-empty_list [] h = refl
-empty_list (s ∷ l) h = absurd (let other : (suc (length l) == 0) ≡ false = search rules in let g : false ≡ true = sym other ∙ h in cc)
 
 module _ (name : List ℕ) where
   pub sequences_none : (vs : List VirtualEvent) → found name vs ≡ None → sequences_of name vs ≡ []

@@ -19,5 +19,6 @@ pub mod Groups
 pub mod Throughs
 pub mod Ends
 pub mod Passes
+pub mod Tried
 pub mod Pieces
 pub mod Others

@@ -25,7 +25,7 @@ use crate::virtuals::Virtuals;
 use std::alloc::{AllocError, Global};
 use std::marker::Model;
 use tks_event::{Event, Sequence};
-use tks_share::{Items, Shared, SharedList, SharedMap};
+use tks_share::{Items, Share, Shared, SharedList, SharedMap};
 use tks_text::{MAX_NUMBER, Seq, Txt};
 
 /// The bindings, in the order in which they were made. Copies share what they have in common.
@@ -92,18 +92,6 @@ impl Bindings {
         })
     }
 
-    /// The same bindings, held once more. It takes no memory, whatever they are.
-    pub fn share(&self) -> Result<Bindings, AllocError>
-        ensures { IfOk result (λ same. same ≡ self.now) }
-    {
-        Ok(Bindings {
-            alloc: self.alloc,
-            bindings: self.bindings.share()?,
-            tags: self.tags.share()?,
-            next: self.next,
-        })
-    }
-
     /// The number that the next binding gets.
     pub fn next(&self) -> u64
         ensures value { result ≡ self.now.next }
@@ -167,7 +155,7 @@ impl Bindings {
             bindings: self,
             tag,
             event,
-            history: history.events(),
+            history,
             virtuals,
         };
         let passes = Passes {
@@ -263,6 +251,17 @@ impl Bindings {
         self.bindings = bindings;
         self.next += 1;
         Ok(())
+    }
+}
+
+impl Share for Bindings {
+    fn share(&self) -> Result<Bindings, AllocError> {
+        Ok(Bindings {
+            alloc: self.alloc,
+            bindings: self.bindings.share()?,
+            tags: self.tags.share()?,
+            next: self.next,
+        })
     }
 }
 

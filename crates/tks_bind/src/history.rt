@@ -1,25 +1,27 @@
 //! The history of events.
-ghost use Rattle.std.specs.Prelude.{◌≡◌, true, [], ◌++◌, ◌∷◌, length, ◌-◌, ◌≤◌, IfOk, IfErr, OnOk, OnErr};
+ghost use Rattle.std.specs.Prelude.{◌≡◌, true, false, Some, [], ◌++◌, ◌∷◌, length, slice_get, ◌-◌, ◌<◌, ◌≤◌, option_copied, IfOk, IfErr, OnOk, OnErr};
+ghost use Rattle.tks_event.specs.Kinds.{is_virtual};
 ghost use Rattle.tks_event.specs.Legality.{AreEvents};
 ghost use Rattle.tks_bind.specs.History.{are_physical, latest, with_event};
 
+use crate::past::PastEvents;
+use crate::ring::Ring;
 use std::alloc::{AllocError, AllocFailed, Global};
 use std::marker::Model;
 use tks_event::{Event, is_virtual};
-use tks_share::Copied;
+use tks_share::{Share, Shared};
 
-/// How many events a history holds at most.
-pub const MAX_HISTORY: usize = 32;
-
-/// The last physical events that were delivered, at most 32.
+/// The last physical events that were delivered, at most 32. Copies share what they have in common: where one of them changes,
+/// it holds the events once more, and copies none.
 pub struct History {
-    events: Vec<Event>,
+    alloc: Global,
+    ring: Shared<Ring>,
 }
 
 // Written out, so that to let go of it is one step for whoever owns it.
 impl Drop for History {
     fn drop(self) {
-        let History { events: _ } = self;
+        let History { alloc: _, ring: _ } = self;
     }
 }
 
@@ -29,45 +31,71 @@ impl Model for History {
 
     ghost Value = { List Event };
 
-    ghost view = { λ h. h.events.items };
+    ghost view = { λ h. h.ring };
 
-    ghost use Rattle.std.specs.Prelude.{◌≡◌, ◌≤◌, length, true};
+    ghost use Rattle.std.specs.Prelude.{◌≡◌, true};
     ghost use Rattle.tks_event.specs.Legality.{AreEvents};
     ghost use Rattle.tks_bind.specs.History.{are_physical};
 
-    ghost invariant = { λ h. (length h.events.items ≤ 32) × AreEvents h.events.items × (are_physical h.events.items ≡ true) };
+    ghost invariant = { λ h. AreEvents h.ring × (are_physical h.ring ≡ true) };
 }
 
 impl History {
     /// No event.
-    pub fn new(alloc: Global) -> History
-        ensures { result ≡ [] }
+    pub fn new(alloc: Global) -> Result<History, AllocError>
+        ensures { IfOk result (λ history. history ≡ []) }
     {
-        History {
-            events: Vec::new(alloc),
-        }
+        Ok(History {
+            alloc,
+            ring: Shared::new(alloc, Ring::new(alloc)?)?,
+        })
     }
 
     /// The history of these events, the latest last, so that one is made again from what it had. Of more than 32 events it
     /// holds the last.
-    pub fn restore(events: Vec<Event>) -> History
+    pub fn restore(alloc: Global, events: Vec<Event>) -> Result<History, AllocError>
         requires legal { AreEvents events.items }
         requires physical { are_physical events.items ≡ true }
-        ensures { result ≡ latest events.items }
+        ensures { IfOk result (λ made. made ≡ latest events.items) }
     {
-        let mut events = events;
-        trim(&mut events);
-        History { events }
+        Ok(History {
+            alloc,
+            ring: Shared::new(alloc, Ring::of(alloc, events)?)?,
+        })
+    }
+
+    /// How many events there are.
+    pub fn len(&self) -> usize
+        ensures value { result ≡ length self.now }
+        ensures within { length self.now ≤ 32 }
+    {
+        self.ring.get().len()
+    }
+
+    /// The event at a place, counted from the oldest.
+    pub fn at(&self, place: usize) -> &Event
+        requires { place < length self.now }
+        ensures { slice_get self.now place ≡ Some result.now }
+    {
+        self.ring.get().at(place)
+    }
+
+    /// The latest event.
+    pub fn last(&self) -> Option<&Event>
+        ensures { option_copied result ≡ slice_get self.now (length self.now - 1) }
+    {
+        self.ring.get().last()
     }
 
     /// The events, the latest last.
-    pub fn events(&self) -> &[Event]
-        ensures value { result.now ≡ self.now }
-        ensures within { length result.now ≤ 32 }
+    pub fn events(&self) -> PastEvents<'_>
+        ensures value { result ≡ self.now }
+        ensures within { length self.now ≤ 32 }
         ensures legal { AreEvents self.now }
         ensures physical { are_physical self.now ≡ true }
     {
-        &self.events
+        let _ = self.ring.get().len();
+        PastEvents::of(self)
     }
 
     /// Adds a physical event that is delivered; where there were 32, the oldest goes. A virtual one is passed over. Where
@@ -77,24 +105,32 @@ impl History {
         ensures err { OnErr result (self.new ≡ self.old) }
         ensures handed_back { IfErr result (λ refused. refused.value ≡ event) }
     {
+        match self.add_copy(&event) {
+            Ok(()) => Ok(()),
+            Err(_) => Err(AllocFailed { value: event }),
+        }
+    }
+
+    /// Adds a copy of an event that is delivered, as `add` does.
+    pub fn add_copy(&mut self, event: &Event) -> Result<(), AllocError>
+        ensures ok { OnOk result (self.new ≡ with_event event.now self.old) }
+        ensures err { OnErr result (self.new ≡ self.old) }
+    {
         if is_virtual(event.kind) {
             return Ok(());
         }
         event.stands();
-        match self.events.push(event) {
-            Ok(()) => {
-                trim(&mut self.events);
-                Ok(())
-            }
-            Err(refused) => Err(refused),
-        }
+        let event = Shared::new(self.alloc, event.try_clone()?)?;
+        self.ring.get_mut(self.alloc)?.push(event);
+        Ok(())
     }
 }
 
-impl Copied for History {
-    fn copied(&self, alloc: Global) -> Result<History, AllocError> {
+impl Share for History {
+    fn share(&self) -> Result<History, AllocError> {
         Ok(History {
-            events: copied(alloc, &self.events)?,
+            alloc: self.alloc,
+            ring: self.ring.share()?,
         })
     }
 }
@@ -104,31 +140,4 @@ pub fn are_physical(events: &[Event]) -> bool
     ensures { result ≡ are_physical events.now }
 {
     events.iter().all(|event| !is_virtual(event.kind))
-}
-
-// How many events are too old for a history.
-fn old_count(events: &[Event]) -> usize
-    ensures value { result ≡ length events.now - 32 }
-    ensures within { result ≤ length events.now }
-{
-    events.len().saturating_sub(MAX_HISTORY)
-}
-
-// Drops the events that are too old.
-fn trim(events: &mut Vec<Event>)
-    ensures { events.new.items ≡ latest events.old.items }
-{
-    let old = old_count(events);
-    events.drain(..old);
-}
-
-// Equal events.
-fn copied(alloc: Global, events: &[Event]) -> Result<Vec<Event>, AllocError>
-    ensures { IfOk result (λ copy. copy.items ≡ events.now) }
-{
-    let mut copy = Vec::new(alloc);
-    for event in events {
-        copy.push(event.try_clone()?)?;
-    }
-    Ok(copy)
 }

@@ -1,10 +1,11 @@
 //! The two passes over what is tried.
-ghost use Rattle.std.specs.Prelude.{◌≡◌, ◌≤◌, length, option_copied};
+ghost use Rattle.std.specs.Prelude.{◌≡◌, option_copied};
 ghost use Rattle.std.specs.List.{filter};
 ghost use Rattle.tks_bind.specs.Choosing.{scene_of};
 ghost use Rattle.tks_bind.specs.Endings.{named, is_under};
 ghost use Rattle.tks_bind.specs.Ends.{ends_of};
-ghost use Rattle.tks_bind.specs.Passes.{trial_of, trial_in, trials_by, trials_through, trials_at, trials, is_higher, highest, is_unbeaten, is_later, latest, found};
+ghost use Rattle.tks_bind.specs.Passes.{trial_of, trial_in, trials_by, trials_through, trials_at, is_higher, highest, is_unbeaten, is_later, latest, found};
+ghost use Rattle.tks_bind.specs.Tried.{all_tried};
 
 use crate::binding::Binding;
 use crate::ending::Ending;
@@ -28,7 +29,6 @@ pub struct Passes<'a> {
 impl<'a> Passes<'a> {
     // Whether one that is tried is met, and beats the one that none so far beats.
     fn is_higher(&self, top: Option<Trial<'a>>, trial: Trial<'a>) -> bool
-        requires { length self.now.scene.history.now ≤ 32 }
         ensures { result ≡ is_higher (scene_of self.now.scene) (trial_in top.entry) (trial_of trial.entry) }
     {
         let beats_top = match top {
@@ -45,7 +45,6 @@ impl<'a> Passes<'a> {
         bindings: &'a [Shared<Binding>],
         through: Option<&'a Sequence>,
     ) -> Option<Trial<'a>>
-        requires { length self.now.scene.history.now ≤ 32 }
         ensures { trial_in result ≡ highest (scene_of self.now.scene) (trial_in top.entry) (trials_by (option_copied through.entry) bindings.now) }
     {
         let mut highest = top;
@@ -74,7 +73,6 @@ impl<'a> Passes<'a> {
         top: Option<Trial<'a>>,
         sequences: &'a [Shared<Through>],
     ) -> Option<Trial<'a>>
-        requires { length self.now.scene.history.now ≤ 32 }
         ensures { trial_in result ≡ highest (scene_of self.now.scene) (trial_in top.entry) (trials_through (scene_of self.now.scene) sequences.now) }
     {
         let mut highest = top;
@@ -89,7 +87,6 @@ impl<'a> Passes<'a> {
     // One that none beats, of all that ends so, and of one more.
     #[tactic(auto, using(crate::proofs::Passing::highest_append))]
     fn highest_at(&self, top: Option<Trial<'a>>, ends: Ends<'a>) -> Option<Trial<'a>>
-        requires { length self.now.scene.history.now ≤ 32 }
         ensures { trial_in result ≡ highest (scene_of self.now.scene) (trial_in top.entry) (trials_at (scene_of self.now.scene) (ends_of ends.entry)) }
     {
         let top = self.highest_by(top, ends.bindings, None);
@@ -99,8 +96,7 @@ impl<'a> Passes<'a> {
     // One that none beats, of all that is tried, and of one more.
     #[tactic(auto, using(crate::proofs::Passing::highest_append))]
     fn highest(&self, top: Option<Trial<'a>>) -> Option<Trial<'a>>
-        requires { length self.now.scene.history.now ≤ 32 }
-        ensures { trial_in result ≡ highest (scene_of self.now.scene) (trial_in top.entry) (trials (scene_of self.now.scene) (ends_of self.now.full) (ends_of self.now.bare)) }
+        ensures { trial_in result ≡ highest (scene_of self.now.scene) (trial_in top.entry) (all_tried self.now) }
     {
         let top = self.highest_at(top, self.full);
         self.highest_at(top, self.bare)
@@ -108,8 +104,7 @@ impl<'a> Passes<'a> {
 
     // Whether none beats one that is met.
     fn is_unbeaten(&self, trial: Trial<'a>) -> bool
-        requires { length self.now.scene.history.now ≤ 32 }
-        ensures { result ≡ is_unbeaten (scene_of self.now.scene) (trials (scene_of self.now.scene) (ends_of self.now.full) (ends_of self.now.bare)) (trial_of trial.entry) }
+        ensures { result ≡ is_unbeaten (scene_of self.now.scene) (all_tried self.now) (trial_of trial.entry) }
     {
         match self.highest(Some(trial)) {
             Some(top) => !beats(top.way, trial.way),
@@ -119,8 +114,7 @@ impl<'a> Passes<'a> {
 
     // Whether one that is tried was set later than the latest so far, and none beats it.
     fn is_later(&self, top: Trial<'a>, best: Trial<'a>, trial: Trial<'a>) -> bool
-        requires { length self.now.scene.history.now ≤ 32 }
-        ensures { result ≡ is_later (scene_of self.now.scene) (trials (scene_of self.now.scene) (ends_of self.now.full) (ends_of self.now.bare)) (trial_of top.entry) (trial_of best.entry) (trial_of trial.entry) }
+        ensures { result ≡ is_later (scene_of self.now.scene) (all_tried self.now) (trial_of top.entry) (trial_of best.entry) (trial_of trial.entry) }
     {
         best.binding.number < trial.binding.number
             && !beats(top.way, trial.way)
@@ -137,8 +131,7 @@ impl<'a> Passes<'a> {
         bindings: &'a [Shared<Binding>],
         through: Option<&'a Sequence>,
     ) -> Trial<'a>
-        requires { length self.now.scene.history.now ≤ 32 }
-        ensures { trial_of result ≡ latest (scene_of self.now.scene) (trials (scene_of self.now.scene) (ends_of self.now.full) (ends_of self.now.bare)) (trial_of top.entry) (trial_of best.entry) (trials_by (option_copied through.entry) bindings.now) }
+        ensures { trial_of result ≡ latest (scene_of self.now.scene) (all_tried self.now) (trial_of top.entry) (trial_of best.entry) (trials_by (option_copied through.entry) bindings.now) }
     {
         let mut latest = best;
         for binding in bindings {
@@ -158,8 +151,7 @@ impl<'a> Passes<'a> {
         best: Trial<'a>,
         sequences: &'a [Shared<Through>],
     ) -> Trial<'a>
-        requires { length self.now.scene.history.now ≤ 32 }
-        ensures { trial_of result ≡ latest (scene_of self.now.scene) (trials (scene_of self.now.scene) (ends_of self.now.full) (ends_of self.now.bare)) (trial_of top.entry) (trial_of best.entry) (trials_through (scene_of self.now.scene) sequences.now) }
+        ensures { trial_of result ≡ latest (scene_of self.now.scene) (all_tried self.now) (trial_of top.entry) (trial_of best.entry) (trials_through (scene_of self.now.scene) sequences.now) }
     {
         let mut latest = best;
         for held in sequences {
@@ -173,8 +165,7 @@ impl<'a> Passes<'a> {
     // The latest that none beats, of all that ends so, and of the best so far.
     #[tactic(auto, using(crate::proofs::Passing::latest_append))]
     fn latest_at(&self, top: Trial<'a>, best: Trial<'a>, ends: Ends<'a>) -> Trial<'a>
-        requires { length self.now.scene.history.now ≤ 32 }
-        ensures { trial_of result ≡ latest (scene_of self.now.scene) (trials (scene_of self.now.scene) (ends_of self.now.full) (ends_of self.now.bare)) (trial_of top.entry) (trial_of best.entry) (trials_at (scene_of self.now.scene) (ends_of ends.entry)) }
+        ensures { trial_of result ≡ latest (scene_of self.now.scene) (all_tried self.now) (trial_of top.entry) (trial_of best.entry) (trials_at (scene_of self.now.scene) (ends_of ends.entry)) }
     {
         let best = self.latest_by(top, best, ends.bindings, None);
         self.latest_through(top, best, ends.sequences)
@@ -183,8 +174,7 @@ impl<'a> Passes<'a> {
     /// Of the bindings that are met by a way that none beats, the one that was set last.
     #[tactic(auto, using(crate::proofs::Passing::latest_append))]
     pub fn latest(&self) -> Option<&'a Binding>
-        requires { length self.now.scene.history.now ≤ 32 }
-        ensures { option_copied result ≡ found (scene_of self.now.scene) (trials (scene_of self.now.scene) (ends_of self.now.full) (ends_of self.now.bare)) }
+        ensures { option_copied result ≡ found (scene_of self.now.scene) (all_tried self.now) }
     {
         let Some(top) = self.highest(None) else {
             return None;

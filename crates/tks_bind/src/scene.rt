@@ -1,9 +1,10 @@
 //! What is looked at where a binding is chosen.
-ghost use Rattle.std.specs.Prelude.{◌≡◌, ◌≤◌, length, option_copied};
+ghost use Rattle.std.specs.Prelude.{◌≡◌, option_copied};
 ghost use Rattle.tks_bind.specs.Choosing.{scene_of, is_this, meets};
 
 use crate::bindings::Bindings;
 use crate::ending::name_of;
+use crate::history::History;
 use crate::search::occurs;
 use crate::virtuals::Virtuals;
 use tks_event::{Event, Sequence, is_virtual};
@@ -15,14 +16,13 @@ pub struct Scene<'a> {
     pub bindings: &'a Bindings,
     pub tag: &'a Txt,
     pub event: &'a Event,
-    pub history: &'a [Event],
+    pub history: &'a History,
     pub virtuals: &'a Virtuals,
 }
 
 impl<'a> Scene<'a> {
     /// Whether the event meets a sequence.
     pub fn meets(&self, sequence: &Sequence) -> bool
-        requires { length self.now.history.now ≤ 32 }
         ensures { result ≡ meets (scene_of self.now) sequence.now }
     {
         if is_virtual(self.event.kind) {

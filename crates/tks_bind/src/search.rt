@@ -5,8 +5,9 @@ ghost use Rattle.tks_bind.specs.Occurs.{turned, Occurs};
 ghost use Rattle.tks_bind.specs.Matching.{fits, may_follow};
 ghost use Rattle.tks_bind.specs.Search.{ends_at, Precedes, Joins, Tells};
 
-use crate::history::MAX_HISTORY;
+use crate::history::History;
 use crate::matching::{fits, may_follow, may_lie_before};
+use crate::ring::MAX_HISTORY;
 use tks_event::{Event, Pattern};
 
 /// For each event of a history, whether it may be chosen for a pattern, with events behind it for those that follow.
@@ -21,16 +22,16 @@ fn is_chosen(earlier: &Pattern, later: &Pattern, before: &Event, event: &Event) 
 }
 
 // Goes back from an event that is chosen for a pattern, and notes those that may be chosen for the pattern before it.
-fn note_before(earlier: &Pattern, later: &Pattern, history: &[Event], place: usize, row: &mut Row)
+fn note_before(earlier: &Pattern, later: &Pattern, history: &History, place: usize, row: &mut Row)
     requires place { place < length history.now }
     requires small { length history.now ≤ 32 }
     ensures { Joins row.old row.new (λ n. Precedes earlier.now later.now history.now n place) }
 {
-    let event = &history[place];
+    let event = history.at(place);
     let mut from = place;
     while from > 0 {
         from -= 1;
-        let before = &history[from];
+        let before = history.at(from);
         row[from] = row[from] | is_chosen(earlier, later, before, event);
         if !may_lie_before(event, before) {
             return;
@@ -39,8 +40,7 @@ fn note_before(earlier: &Pattern, later: &Pattern, history: &[Event], place: usi
 }
 
 // The row of a pattern, from that of the pattern behind it.
-fn row_before(earlier: &Pattern, later: &Pattern, history: &[Event], behind: &Row) -> Row
-    requires { length history.now ≤ 32 }
+fn row_before(earlier: &Pattern, later: &Pattern, history: &History, behind: &Row) -> Row
     ensures { (n : ℕ) → Decides (get_or result n false) ((place : ℕ) × (place < length history.now) × (get_or behind.now place false ≡ true) × Precedes earlier.now later.now history.now n place) }
 {
     let mut row = [false; MAX_HISTORY];
@@ -53,14 +53,13 @@ fn row_before(earlier: &Pattern, later: &Pattern, history: &[Event], behind: &Ro
 }
 
 // The row of the last pattern, which has the last event.
-fn last_row(pattern: &Pattern, history: &[Event]) -> Row
-    requires some { 0 < length history.now }
-    requires small { length history.now ≤ 32 }
+fn last_row(pattern: &Pattern, history: &History) -> Row
+    requires { 0 < length history.now }
     ensures { Tells result pattern.now [] history.now }
 {
     let mut row = [false; MAX_HISTORY];
     let last = history.len() - 1;
-    row[last] = fits(pattern, &history[last]);
+    row[last] = fits(pattern, history.at(last));
     row
 }
 
@@ -78,10 +77,9 @@ fn is_any(row: &Row) -> bool
 
 // Whether events may be chosen for all patterns: for each of them, from the last one back, it is found which may be chosen
 // with those behind it.
-fn are_chosen(sequence: &[Pattern], history: &[Event]) -> bool
+fn are_chosen(sequence: &[Pattern], history: &History) -> bool
     requires patterns { 0 < length sequence.now }
     requires some { 0 < length history.now }
-    requires small { length history.now ≤ 32 }
     ensures { Decides result (Occurs sequence.now history.now) }
 {
     let mut at = sequence.len() - 1;
@@ -94,9 +92,8 @@ fn are_chosen(sequence: &[Pattern], history: &[Event]) -> bool
     is_any(&row)
 }
 
-/// Whether a sequence occurs in a history of at most 32 events, the latest last.
-pub fn occurs(sequence: &[Pattern], history: &[Event]) -> bool
-    requires { length history.now ≤ 32 }
+/// Whether a sequence occurs in a history.
+pub fn occurs(sequence: &[Pattern], history: &History) -> bool
     ensures { Decides result (Occurs sequence.now history.now) }
 {
     let Some(last) = history.last() else {

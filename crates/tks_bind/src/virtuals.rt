@@ -17,7 +17,7 @@ use std::alloc::{AllocError, Global};
 use std::marker::Model;
 use std::slice::from_ref;
 use tks_event::{Sequence, VirtualName};
-use tks_share::{Items, Shared, SharedList, SharedMap};
+use tks_share::{Items, Share, Shared, SharedList, SharedMap};
 use tks_text::{Seq, Txt};
 
 /// The virtual events that have sequences, in the order in which they were added. Copies share what they have in common.
@@ -81,17 +81,6 @@ impl Virtuals {
         })
     }
 
-    /// The same virtual events, held once more. It takes no memory, whatever they are.
-    pub fn share(&self) -> Result<Virtuals, AllocError>
-        ensures { IfOk result (λ same. same ≡ self.now) }
-    {
-        Ok(Virtuals {
-            alloc: self.alloc,
-            events: self.events.share()?,
-            groups: self.groups.share()?,
-        })
-    }
-
     /// The virtual events, in the order in which they were added.
     pub fn events(&self) -> Items<'_, VirtualEvent>
         ensures value { result ≡ self.now }
@@ -109,6 +98,7 @@ impl Virtuals {
     }
 
     /// The sequences by which a virtual event is met, in the order in which they were added.
+    #[tactic(auto, using(crate::proofs::Virtually::sequences_found, crate::proofs::Virtually::sequences_none))]
     pub fn sequences(&self, name: &Txt) -> &[Sequence]
         ensures { result.now ≡ sequences_of name.now self.now }
     {
@@ -138,6 +128,7 @@ impl Virtuals {
     }
 
     // The same, of a text that may be a name and a sequence that isn't one of a name.
+    #[tactic(auto, using(crate::proofs::Virtually::added_new, crate::proofs::Virtually::added_same, crate::proofs::Virtually::added_more, crate::proofs::Virtually::found_inside))]
     fn add(&mut self, name: &Txt, sequence: &Sequence) -> Result<(), AllocError>
         requires name { is_name name.now ≡ true }
         requires physical { is_of_name sequence.now ≡ false }
@@ -166,6 +157,7 @@ impl Virtuals {
     }
 
     /// Takes a virtual event's sequences away.
+    #[tactic(auto, using(crate::proofs::Virtually::deleted_none, crate::proofs::Virtually::found_inside))]
     pub fn event_delete(&mut self, name: &Txt) -> Result<(), AllocError>
         ensures ok { OnOk result (self.new ≡ deleted name.now self.old) }
         ensures err { OnErr result (self.new ≡ self.old) }
@@ -182,6 +174,7 @@ impl Virtuals {
     }
 
     /// Takes a sequence of a virtual event away. Where none is left, the name goes too.
+    #[tactic(auto, using(crate::proofs::Virtually::none_deleted, crate::proofs::Virtually::last_deleted, crate::proofs::Virtually::one_deleted, crate::proofs::Virtually::found_inside, crate::proofs::Members::empty_list))]
     pub fn event_delete_sequence(
         &mut self,
         name: &Txt,
@@ -208,6 +201,16 @@ impl Virtuals {
         self.events.set(index, event)?;
         self.groups = groups;
         Ok(())
+    }
+}
+
+impl Share for Virtuals {
+    fn share(&self) -> Result<Virtuals, AllocError> {
+        Ok(Virtuals {
+            alloc: self.alloc,
+            events: self.events.share()?,
+            groups: self.groups.share()?,
+        })
     }
 }
 

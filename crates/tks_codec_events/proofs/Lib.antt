@@ -1,6 +1,5 @@
 pub mod Sequencing
 pub mod Eventful
-pub mod Latest
 pub mod Differing
 pub mod Tables
 pub mod Waiting

@@ -9,14 +9,13 @@ ghost use Rattle.tks_codec_events.specs.Bindings as tables;
 ghost use Rattle.tks_codec_events.specs.Bindings.{binding_at, binding_parts, bindings_at};
 
 use crate::distinct::{Distinct, all_differ};
-use crate::items::{items_length, put_items};
 use crate::sequence::{put_sequence, sequence_length, sequence_of};
 use std::alloc::{AllocError, Global};
 use tks_bind::{Binding, Bindings};
 use tks_event::are_equal;
 use tks_spelling::reading::{text_of, u64_of};
 use tks_spelling::writing::{put_text, put_u64};
-use tks_spelling::{Members, Unread, list_of, text_length};
+use tks_spelling::{Members, Unread, items_length, list_of, put_items, text_length};
 
 // A binding.
 #[tactic(auto, unfolding(crate::specs::Bindings::binding_at, crate::specs::Sequence::sequence_at))]

@@ -6,7 +6,6 @@ mod distinct;
 mod event;
 mod held;
 mod history;
-mod items;
 mod kind;
 mod laws;
 mod queue;

@@ -8,12 +8,11 @@ ghost use Rattle.tks_codec_events.specs.Queue as queues;
 ghost use Rattle.tks_codec_events.specs.Queue.{queued_at};
 
 use crate::event::{event_length, event_of, put_event};
-use crate::items::{items_length, put_items};
 use std::alloc::{AllocError, Global};
 use tks_queue::{Queue, Queued, may_wait};
 use tks_spelling::reading::flag_of;
 use tks_spelling::writing::put_flag;
-use tks_spelling::{Members, Unread, list_of};
+use tks_spelling::{Members, Unread, items_length, list_of, put_items};
 
 // An event that waits.
 #[tactic(auto, unfolding(crate::specs::Queue::queued_at, crate::specs::Event::event_at))]

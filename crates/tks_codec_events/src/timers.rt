@@ -7,12 +7,11 @@ ghost use Rattle.tks_codec_events.specs.Timers as waits;
 ghost use Rattle.tks_codec_events.specs.Timers.{timer_at, timer_parts, idle_at, idle_parts, waiting, waiting_at};
 ghost use Rattle.tks_timer.specs.WellFormed.{rise_below, is_apart, are_apart, are_due, are_waiting};
 
-use crate::items::{items_length, put_items};
 use std::alloc::{AllocError, Global};
 use tks_share::Numbered;
 use tks_spelling::reading::{text_of, u64_of};
 use tks_spelling::writing::{put_text, put_u64};
-use tks_spelling::{Members, Unread, list_of, text_length};
+use tks_spelling::{Members, Unread, items_length, list_of, put_items, text_length};
 use tks_text::MAX_TIME;
 use tks_timer::{Idle, Timer, Timers};
 

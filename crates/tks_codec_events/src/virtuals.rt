@@ -9,14 +9,15 @@ ghost use Rattle.tks_bind.specs.WellFormed.{are_physical, is_virtual_event};
 ghost use Rattle.tks_codec_events.specs.Virtuals.{named_parts, virtual_event_at, virtuals_at};
 
 use crate::distinct::{Distinct, all_differ};
-use crate::items::{items_length, put_items};
 use crate::sequence::Sequences;
 use std::alloc::{AllocError, Global};
 use tks_bind::{VirtualEvent, Virtuals, is_of_name};
 use tks_event::{Sequence, are_equal, is_name};
 use tks_spelling::reading::text_of;
 use tks_spelling::writing::put_text;
-use tks_spelling::{Members, Unread, list_length, list_of, put_list, text_length};
+use tks_spelling::{
+    Members, Unread, items_length, list_length, list_of, put_items, put_list, text_length,
+};
 use tks_text::Txt;
 
 impl Distinct for Sequence {

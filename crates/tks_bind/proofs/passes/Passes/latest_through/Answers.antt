@@ -2,8 +2,8 @@ use Rattle.std.proofs.Common.{rules, ◌≡◌, ◌∷◌, ◌+◌, drop, Some, 
 use Rattle.std.specs.List.{filter}
 use Rattle.tks_bind.specs.Choosing.{scene_of}
 use Rattle.tks_bind.specs.Endings.{named, is_under}
-use Rattle.tks_bind.specs.Ends.{ends_of}
-use Rattle.tks_bind.specs.Passes.{trial_of, trials_by, trials_through, trials, latest}
+use Rattle.tks_bind.specs.Passes.{trial_of, trials_by, trials_through, latest}
+use Rattle.tks_bind.specs.Tried.{all_tried}
 use Rattle.tks_bind.proofs.Members.{drop_next}
 use Rattle.tks_bind.proofs.Passing.{latest_append}
 use Rattle.tks_bind.proofs.passes.Passes.latest_through.Goals as goal
@@ -11,7 +11,7 @@ use Rattle.tks_bind.proofs.passes.Passes.latest_through.Goals as goal
 pub loop-held-preserved : goal.loop-held-preserved
 loop-held-preserved c =
     let s = scene_of c.args.self.now.scene in
-    let all = trials s (ends_of c.args.self.now.full) (ends_of c.args.self.now.bare) in
+    let all = all_tried c.args.self.now in
     let top = trial_of c.args.top in
     let u = c.get-through.result.now in
     let at_held = drop_next c.args.sequences.now c.loop-held.held-index c.held-item.result (omega arith) c.held-item.is in

@@ -5,33 +5,9 @@ use Rattle.tks_bind.specs.VirtualEvents.{has_sequence, sequences_of}
 use Rattle.tks_bind.specs.VirtualIndexes.{index_of, found}
 use Rattle.tks_bind.specs.declared.virtual_event.VirtualEvent.{VirtualEvent}
 use Rattle.tks_bind.proofs.VirtualForming.{pushed_apart, replaced_apart, found_legal, legal_first, legal_more}
-use Rattle.tks_bind.proofs.Virtually.{added_new, added_same, added_more, found_inside, sequences_none, sequences_found}
+use Rattle.tks_bind.proofs.Virtually.{added_new, added_more, sequences_none, sequences_found}
 use Rattle.tks_bind.proofs.Sequences.{leads_added}
 use Rattle.tks_bind.proofs.virtuals.Virtuals.add.Goals as goal
-
-pub returns-in_default-clause-ok : goal.returns-in_default-clause-ok
-returns-in_default-clause-ok c =
-    let gone : found c.args.name.now c.args.self.now ≡ None = search rules in
-    let new = added_new c.args.name.now c.args.sequence.now c.args.self.now gone in
-    search rules
-
-pub returns-then-has_sequence-clause-ok : goal.returns-then-has_sequence-clause-ok
-returns-then-has_sequence-clause-ok c =
-    let there : found c.args.name.now c.args.self.now ≡ Some c.in-Some.event.now = search rules in
-    let same = added_same c.args.name.now c.args.sequence.now c.in-Some.event.now c.args.self.now there (search rules) in
-    search rules
-
-pub set-requires : goal.set-requires
-set-requires c =
-    let there : found c.args.name.now c.self.inside.events ≡ Some c.in-Some.event.now = search rules in
-    let inside = found_inside c.args.name.now c.in-Some.event.now c.self.inside.events there in
-    search rules
-
-pub returns-clause-ok : goal.returns-clause-ok
-returns-clause-ok c =
-    let there : found c.args.name.now c.args.self.now ≡ Some c.in-Some.event.now = search rules in
-    let more = added_more c.args.name.now c.args.sequence.now c.in-Some.event.now c.args.self.now there (search rules) in
-    search rules
 
 pub invariant_of-self-in_default : goal.invariant_of-self-in_default
 invariant_of-self-in_default c =

@@ -1,4 +1,4 @@
-use Rattle.std.proofs.Common.{rules, ◌≡◌, Some, None, sym, ◌∙◌}
+use Rattle.std.proofs.Common.{rules, ◌≡◌, Some, sym, ◌∙◌}
 use Rattle.std.specs.List.{remove}
 use Rattle.tks_bind.specs.Throughs.{Drops}
 use Rattle.tks_bind.specs.VirtualEvents.{sequences_of, deleted}
@@ -6,19 +6,8 @@ use Rattle.tks_bind.specs.VirtualIndexes.{found}
 use Rattle.tks_bind.proofs.Leading.{placed_by}
 use Rattle.tks_bind.proofs.Sequences.{leads_deleted}
 use Rattle.tks_bind.proofs.VirtualForming.{removed_apart}
-use Rattle.tks_bind.proofs.Virtually.{deleted_none, deleted_there, found_inside, sequences_found}
+use Rattle.tks_bind.proofs.Virtually.{deleted_there, found_inside, sequences_found}
 use Rattle.tks_bind.proofs.virtuals.Virtuals.event_delete.Goals as goal
-
-pub returns-in_default-clause-ok : goal.returns-in_default-clause-ok
-returns-in_default-clause-ok c =
-    let gone : found c.args.name.now c.args.self.now ≡ None = search rules in
-    deleted_none c.args.name.now c.args.self.now gone
-
-pub remove-requires : goal.remove-requires
-remove-requires c =
-    let there : found c.args.name.now c.self.inside.events ≡ Some c.in-Some.event.now = search rules in
-    let inside = found_inside c.args.name.now c.in-Some.event.now c.self.inside.events there in
-    search rules
 
 pub invariant_of-self-2 : goal.invariant_of-self-2
 invariant_of-self-2 c =

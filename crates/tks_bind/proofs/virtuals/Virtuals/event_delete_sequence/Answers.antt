@@ -1,4 +1,4 @@
-use Rattle.std.proofs.Common.{rules, ◌≡◌, ◌==◌, false, [], ◌∷◌, length, slice_set, Some, None, refl, sym, subst, ◌∙◌}
+use Rattle.std.proofs.Common.{rules, ◌≡◌, ◌==◌, false, [], ◌∷◌, length, slice_set, Some, refl, sym, subst, ◌∙◌}
 use Rattle.std.specs.List.{remove}
 use Rattle.tks_bind.specs.Groups.{Leads}
 use Rattle.tks_bind.specs.Throughs.{Drops}
@@ -8,40 +8,9 @@ use Rattle.tks_bind.specs.declared.virtual_event.VirtualEvent.{VirtualEvent}
 use Rattle.tks_bind.proofs.Leading.{placed_by}
 use Rattle.tks_bind.proofs.Sequences.{leads_less}
 use Rattle.tks_bind.proofs.VirtualForming.{removed_apart, replaced_apart, found_legal, legal_less}
-use Rattle.tks_bind.proofs.Virtually.{none_deleted, last_deleted, one_deleted, found_inside, empty_list}
+use Rattle.tks_bind.proofs.Virtually.{last_deleted, one_deleted}
+use Rattle.tks_bind.proofs.Members.{empty_list}
 use Rattle.tks_bind.proofs.virtuals.Virtuals.event_delete_sequence.Goals as goal
-
-pub returns-in_default-clause-ok : goal.returns-in_default-clause-ok
-returns-in_default-clause-ok c =
-    let gone : found c.args.name.now c.args.self.now ≡ None = search rules in
-    let none = none_deleted c.args.name.now c.args.sequence.now c.args.self.now gone in
-    search rules
-
-pub remove-requires : goal.remove-requires
-remove-requires c =
-    let there : found c.args.name.now c.self.inside.events ≡ Some c.in-Some.event.now = search rules in
-    let inside = found_inside c.args.name.now c.in-Some.event.now c.self.inside.events there in
-    search rules
-
-pub returns-then-is_empty-clause-ok : goal.returns-then-is_empty-clause-ok
-returns-then-is_empty-clause-ok c =
-    let there : found c.args.name.now c.args.self.now ≡ Some c.in-Some.event.now = search rules in
-    let gives : c.in_ok-left.left ≡ other_sequences c.args.sequence.now c.in-Some.event.now.sequences = search rules in
-    let empty = empty_list c.in_ok-left.left (search rules) in
-    let last = last_deleted c.args.name.now c.args.sequence.now c.in-Some.event.now c.args.self.now there (sym gives ∙ empty) in
-    search rules
-
-pub set-requires : goal.set-requires
-set-requires c =
-    let there : found c.args.name.now c.self.inside.events ≡ Some c.in-Some.event.now = search rules in
-    let inside = found_inside c.args.name.now c.in-Some.event.now c.self.inside.events there in
-    search rules
-
-pub returns-clause-ok : goal.returns-clause-ok
-returns-clause-ok c =
-    let there : found c.args.name.now c.args.self.now ≡ Some c.in-Some.event.now = search rules in
-    let one = one_deleted c.args.name.now c.args.sequence.now c.in-Some.event.now c.in_ok-left.left c.args.self.now there (search rules) (search rules) in
-    search rules
 
 pub invariant_of-self-then-is_empty : goal.invariant_of-self-then-is_empty
 invariant_of-self-then-is_empty c =
