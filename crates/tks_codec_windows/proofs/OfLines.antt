@@ -88,7 +88,7 @@ few_ranges len before [] e h = omega (arith, e)
 few_ranges len before (r ∷ rs) e h = let rest = few_ranges len (Some r) rs h.2 h.3 in omega (arith, rest, h.1, begins_from before r.first h.0)
 
 -- those of a tag, in numbers and places
-pub few_of : (on : List Bool) → length on < 2 ^ 32 → length (ranges_of on) < 2 ^ 32
+few_of : (on : List Bool) → length on < 2 ^ 32 → length (ranges_of on) < 2 ^ 32
 few_of on few = let most = few_ranges (length on) None (ranges_of on) (omega arith) (ranges_lawful on) in omega (arith, few, most)
 
 pub small_of : (on : List Bool) → length on < 2 ^ 32 → AllByRecursion IsSmall (ranges_of on)

@@ -1,5 +1,5 @@
 -- What a text widget holds besides its options, as bytes (this project's own format).
-use Rattle.std.specs.Prelude.{ℕ, ◌+◌, ◌<◌, ◌^◌, ◌&&◌, Bool, true, false, if◌then◌else◌, nat_lt, nat_le, List, [], ◌∷◌, length, Option}
+use Rattle.std.specs.Prelude.{ℕ, ◌<◌, ◌^◌, ◌&&◌, Bool, nat_lt, nat_le, List, [], ◌∷◌, length, Option}
 use Rattle.std.specs.Int.{w32}
 use Rattle.tks_opt.specs.Options.{Options}
 use Rattle.tks_lines.specs.Lines.{Lines}
@@ -34,16 +34,6 @@ ranges len = list_by (range len)
 -- those at the front of bytes, and what stands behind them
 unfoldable pub ranges_at : ℕ → List ℕ → Read (List Range)
 ranges_at len bytes = (ranges len).read bytes
-
--- how many ranges begin with a character, behind one that is on or isn't
-abbrev pub begins_here : Bool → Bool → ℕ
-begins_here before true = if before then 0 else 1
-begins_here before false = 0
-
--- how many begin
-abbrev pub begins : Bool → List Bool → ℕ
-begins before [] = 0
-begins before (now ∷ on) = begins_here before now + begins now on
 
 -- a tag: its name, and the ranges of the characters that have it
 abbrev pub tag : ℕ → Spelling Tag

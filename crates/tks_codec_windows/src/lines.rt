@@ -13,8 +13,8 @@ use std::alloc::{AllocError, Global};
 use tks_lines::TextWidget;
 use tks_opt::Options;
 use tks_spelling::reading::text_of;
-use tks_spelling::writing::put_text;
-use tks_spelling::{Unread, list_length, list_of, put_list, text_length};
+use tks_spelling::writing::put_pieces;
+use tks_spelling::{Unread, list_length, list_of, put_list};
 
 /// A text widget with these options, by its characters, its tags and its marks.
 #[tactic(auto, unfolding(crate::specs::Lines::lines_at))]
@@ -29,20 +29,21 @@ pub fn lines_of(
     let (text, rest) = text_of(alloc, bytes)?;
     let (tags, rest) = tags_of(alloc, &text, rest)?;
     let (marks, rest) = list_of(alloc, Marks, rest)?;
-    match TextWidget::restore(alloc, options, text, tags, marks) {
+    match TextWidget::restore(alloc, options, text, tags, marks)? {
         Some(widget) => Ok((widget, rest)),
         None => Err(Unread::Left(rest.len() + 1)),
     }
 }
 
 /// Adds a text widget's characters, its tags and its marks.
-pub fn put_lines(alloc: Global, out: &mut Vec<u8>, widget: &TextWidget) -> Result<(), AllocError>
+pub fn put_lines(out: &mut Vec<u8>, widget: &TextWidget) -> Result<(), AllocError>
     ensures puts { PutsSo result out.old.items out.new.items ((kinds.lines widget.now.options).write widget.now) }
     ensures legal { OnOk result ((kinds.lines widget.now.options).Legal widget.now) }
 {
     let marks = widget.marks();
-    put_text(out, widget.text())?;
-    put_tags(alloc, out, widget)?;
+    let (front, behind) = widget.pieces();
+    put_pieces(out, front, behind)?;
+    put_tags(out, widget)?;
     put_list(out, Marks, marks)
 }
 
@@ -52,7 +53,7 @@ pub fn lines_length(widget: &TextWidget) -> u64
     ensures { result ≡ counted (length ((kinds.lines widget.now.options).write widget.now)) }
 {
     let marks = widget.marks();
-    text_length(widget.text())
-        .saturating_add(tags_length(widget))
+    tags_length(widget)
         .saturating_add(list_length(&Marks, marks))
+        .saturating_add(widget.len() as u64 + 4)
 }

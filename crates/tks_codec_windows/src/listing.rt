@@ -10,9 +10,10 @@ use crate::list_item::Items;
 use std::alloc::{AllocError, Global};
 use tks_listbox::ListWidget;
 use tks_opt::Options;
+use tks_share::SharedList;
 use tks_spelling::reading::u32_of;
 use tks_spelling::writing::put_u32;
-use tks_spelling::{Unread, list_length, list_of, put_list};
+use tks_spelling::{Unread, items_length, list_of, put_items};
 
 /// A listbox with these options, by its items and the active one's place.
 pub fn listbox_of(
@@ -25,6 +26,7 @@ pub fn listbox_of(
 {
     let (items, rest) = list_of(alloc, Items, bytes)?;
     let (active, rest) = u32_of(rest)?;
+    let items = SharedList::of(alloc, items.into_items())?;
     match ListWidget::restore(alloc, options, items, active as usize) {
         Some(listbox) => Ok((listbox, rest)),
         None => Err(Unread::Left(rest.len() + 1)),
@@ -36,7 +38,8 @@ pub fn put_listbox(out: &mut Vec<u8>, listbox: &ListWidget) -> Result<(), AllocE
     ensures puts { PutsSo result out.old.items out.new.items ((kinds.listbox listbox.now.options).write listbox.now) }
     ensures legal { OnOk result ((kinds.listbox listbox.now.options).Legal listbox.now) }
 {
-    put_list(out, Items, listbox.items())?;
+    let items = listbox.items();
+    put_items(out, Items, items.iter(), items.len())?;
     put_u32(out, listbox.active() as u32)
 }
 
@@ -45,5 +48,5 @@ pub fn put_listbox(out: &mut Vec<u8>, listbox: &ListWidget) -> Result<(), AllocE
 pub fn listbox_length(listbox: &ListWidget) -> u64
     ensures { result ≡ counted (length ((kinds.listbox listbox.now.options).write listbox.now)) }
 {
-    list_length(&Items, listbox.items()).saturating_add(4)
+    items_length(&Items, listbox.items().iter()).saturating_add(4)
 }

@@ -1,11 +1,11 @@
 //! Ranges of characters.
-ghost use Rattle.std.specs.Prelude.{◌≡◌, ◌<◌, ◌≤◌, ◌^◌, length, None};
+ghost use Rattle.std.specs.Prelude.{◌≡◌, ◌<◌, ◌^◌, length, None};
 ghost use Rattle.tks_lines.specs.Ranges.{ranges_of, is_behind};
 ghost use Rattle.tks_spelling.specs.Spelling.{last_of};
 ghost use Rattle.tks_spelling.specs.Writing.{PutsSo};
 ghost use Rattle.tks_spelling.specs.Lengths.{counted};
 ghost use Rattle.tks_codec_windows.specs.Lines as kinds;
-ghost use Rattle.tks_codec_windows.specs.Lines.{begins_here, may_follow};
+ghost use Rattle.tks_codec_windows.specs.Lines.{may_follow};
 
 use std::alloc::{AllocError, Global};
 use tks_lines::{Flags, Range};
@@ -87,40 +87,16 @@ impl Following<Range> for RangesWithin {
 }
 
 /// Adds the ranges of flags.
-pub fn put_flags(alloc: Global, out: &mut Vec<u8>, flags: &Flags) -> Result<(), AllocError>
+pub fn put_flags(out: &mut Vec<u8>, flags: &Flags) -> Result<(), AllocError>
     requires { length flags.now < 2 ^ 32 }
     ensures { PutsSo result out.old.items out.new.items ((kinds.ranges (length flags.now)).write (ranges_of flags.now)) }
 {
-    let ranges = flags.ranges(alloc)?;
-    put_list(out, Places, ranges.as_slice())
-}
-
-// How many ranges begin with a character, behind one that is on or isn't.
-fn begins_here(before: bool, is_on: bool) -> u64
-    ensures { result ≡ begins_here before is_on }
-{
-    if is_on && !before { 1 } else { 0 }
-}
-
-// How many ranges flags have.
-fn range_count(flags: &[bool]) -> u64
-    ensures value { result ≡ length (ranges_of flags.now) }
-    ensures few { result ≤ length flags.now }
-{
-    let mut count: u64 = 0;
-    let mut before = false;
-    for flag in flags {
-        count += begins_here(before, *flag);
-        before = *flag;
-    }
-    count
+    put_list(out, Places, flags.ranges())
 }
 
 /// The length of the spelling of the ranges of flags, in bytes.
 pub fn flags_length(flags: &Flags) -> u64
     ensures { result ≡ counted (length ((kinds.ranges (length flags.now)).write (ranges_of flags.now))) }
 {
-    range_count(flags.as_slice())
-        .saturating_mul(8)
-        .saturating_add(4)
+    8 * flags.ranges().len() as u64 + 4
 }

@@ -64,37 +64,37 @@ pub fn tags_of<'a>(
 }
 
 // Adds a tag.
-fn put_tag(alloc: Global, out: &mut Vec<u8>, tag: &Tag) -> Result<(), AllocError>
+fn put_tag(out: &mut Vec<u8>, tag: &Tag) -> Result<(), AllocError>
     requires { length tag.now.on < 2 ^ 32 }
     ensures puts { PutsSo result out.old.items out.new.items ((kinds.tag (length tag.now.on)).write tag.now) }
     ensures legal { OnOk result ((kinds.tag (length tag.now.on)).Legal tag.now) }
 {
     put_text(out, &tag.name)?;
-    put_flags(alloc, out, &tag.on)
+    put_flags(out, &tag.on)
 }
 
 // Adds each of the tags of a text widget.
-fn put_each_tag(alloc: Global, out: &mut Vec<u8>, widget: &TextWidget) -> Result<(), AllocError>
+fn put_each_tag(out: &mut Vec<u8>, widget: &TextWidget) -> Result<(), AllocError>
     requires text { length widget.now.text < 2 ^ 32 }
     requires long { AreLong (length widget.now.text) widget.now.tags }
     ensures puts { PutsSo result out.old.items out.new.items (members (λ before. tag (length widget.now.text)) None widget.now.tags) }
     ensures legal { OnOk result (AllByRecursion ((tag (length widget.now.text)).Legal) widget.now.tags) }
 {
     for tag in widget.tags() {
-        put_tag(alloc, out, tag)?;
+        put_tag(out, tag)?;
     }
     Ok(())
 }
 
 /// Adds the tags of a text widget.
-pub fn put_tags(alloc: Global, out: &mut Vec<u8>, widget: &TextWidget) -> Result<(), AllocError>
+pub fn put_tags(out: &mut Vec<u8>, widget: &TextWidget) -> Result<(), AllocError>
     requires text { length widget.now.text < 2 ^ 32 }
     requires long { AreLong (length widget.now.text) widget.now.tags }
     ensures puts { PutsSo result out.old.items out.new.items ((list (tag (length widget.now.text))).write widget.now.tags) }
     ensures legal { OnOk result ((list (tag (length widget.now.text))).Legal widget.now.tags) }
 {
     put_u32(out, widget.tags().len() as u32)?;
-    put_each_tag(alloc, out, widget)
+    put_each_tag(out, widget)
 }
 
 // The length of a tag.

@@ -1,7 +1,7 @@
 -- Lines are found by where they end, and where they end goes with a change of the text.
 use Rattle.std.proofs.Common.{◌≡◌, ℕ, zero, suc, ◌+◌, ◌-◌, ◌<◌, ◌≤◌, nat_lt, max, not, Bool, true, false, if◌then◌else◌, List, [], ◌∷◌, ◌++◌, length, get_or, take, drop, map, Option, Some, None, ◌⊎◌, inl, inr, refl, sym, ap, ◌∙◌, append_assoc, arith}
-use Rattle.std.specs.Prelude.{slice_get}
-use Rattle.std.specs.List.{prefix_len, suffix_len, count_by, AllByRecursion}
+use Rattle.std.specs.Prelude.{slice_get, ◌||◌}
+use Rattle.std.specs.List.{prefix_len, suffix_len, count_by, list_any, AllByRecursion}
 use Rattle.std.specs.List.Sorted.{IsNonDecreasingBy, IsPartitionedBy, IsPartitionPoint}
 use Rattle.std.proofs.lemmas.Bool.{cases_lt}
 use Rattle.std.proofs.lemmas.Bool.Decides.{nat_tests}
@@ -336,3 +336,27 @@ column_is text place inside =
     same : (n : ℕ) → begun 0 (length text) (breaks_of text) n ≡ line_begin (length text) (breaks_of text) n
     same zero = refl
     same (suc n) = refl
+
+-- ---- an edit without a newline
+
+-- characters without a newline have no places to add
+pub none_added : (place : ℕ) (more : List ℕ) → list_any is_newline more ≡ false → breaks_from place more ≡ []
+none_added place [] e = refl
+none_added place (c ∷ more) e = by (is_newline c) (none_added (suc place) more) e
+  where
+    by : (b : Bool) → (list_any is_newline more ≡ false → breaks_from (suc place) more ≡ []) → (b || list_any is_newline more) ≡ false → step b place more ≡ []
+    by true rest e = absurd cc
+    by false rest e = rest e
+
+-- so those behind it are moved on, and that is all
+pub moved_alone : (place : ℕ) (more text : List ℕ) → place ≤ length text → list_any is_newline more ≡ false
+    → take (below place (breaks_of text)) (breaks_of text) ++ map (λ b. b + length more) (drop (below place (breaks_of text)) (breaks_of text)) ≡ breaks_of (spliced place more text)
+moved_alone place more text here none =
+    let rest = map (λ b. b + length more) (drop (below place (breaks_of text)) (breaks_of text)) in
+    ap (λ bs. take (below place (breaks_of text)) (breaks_of text) ++ (bs ++ rest)) (sym (none_added place more none)) ∙ spliced_breaks place more text here
+
+-- where no newline goes out those behind are moved back, and that is all
+pub back_alone : (first last : ℕ) (text : List ℕ) → below first (breaks_of text) ≡ below (max first last) (breaks_of text)
+    → take (below first (breaks_of text)) (breaks_of text) ++ map (λ b. b - (last - first)) (drop (below first (breaks_of text)) (breaks_of text)) ≡ breaks_of (cut first last text)
+back_alone first last text same =
+    ap (λ n. take (below first (breaks_of text)) (breaks_of text) ++ map (λ b. b - (last - first)) (drop n (breaks_of text))) same ∙ cut_breaks first last text

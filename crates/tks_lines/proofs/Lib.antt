@@ -1,5 +1,7 @@
 pub mod Far
+pub mod InPlace
 pub mod Breaking
+pub mod Gapped
 pub mod Moving
 pub mod Inside
 pub mod Decimals
@@ -12,6 +14,8 @@ pub mod Returning
 pub mod Spelling
 pub mod Characters
 pub mod Ends
+pub mod Building
+pub mod Clipped
 pub mod Restored
 pub mod Kept
 pub mod IndexRead

@@ -1,5 +1,6 @@
 pub mod Places
 pub mod Breaks
+pub mod Gap
 pub mod Ranges
 pub mod Lines
 pub mod Restoring

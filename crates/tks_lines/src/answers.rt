@@ -2,10 +2,12 @@
 ghost use Rattle.std.specs.Prelude.{◌≡◌, ◌≤◌, ◌<◌, ◌^◌, ◌+◌, length, map, false, IfOk};
 ghost use Rattle.std.specs.Fmt.{decimal};
 ghost use Rattle.tks_lines.specs.Commands.{names_on, spelled, between, edges, flags_of};
+ghost use Rattle.tks_lines.specs.Ranges.{ranges_of, ends_of};
 
-use crate::lined::Lined;
+use crate::lined_text::LinedText;
 use crate::parts::{Mark, Tag};
 use crate::places::{column_of, lines_before};
+use crate::range::Range;
 use itoa::Buffer;
 use std::alloc::{AllocError, Global};
 use tks_text::{Seq, Txt};
@@ -20,7 +22,7 @@ fn decimal_of_count(alloc: Global, count: usize) -> Result<Txt, AllocError>
 }
 
 /// A place as an index.
-pub(crate) fn spelled(alloc: Global, text: &Lined<'_>, place: usize) -> Result<Txt, AllocError>
+pub(crate) fn spelled(alloc: Global, text: &LinedText, place: usize) -> Result<Txt, AllocError>
     ensures { IfOk result (λ t. t ≡ spelled text.now place) }
 {
     let mut index = decimal_of_count(alloc, lines_before(text, place) + 1)?;
@@ -32,17 +34,18 @@ pub(crate) fn spelled(alloc: Global, text: &Lined<'_>, place: usize) -> Result<T
 /// The characters between two places, the last newline too.
 pub(crate) fn between(
     alloc: Global,
-    text: &Txt,
+    text: &LinedText,
     first: usize,
     last: usize,
 ) -> Result<Txt, AllocError>
     ensures { IfOk result (λ t. t ≡ between first last text.now) }
 {
-    let bytes = text.as_bytes();
-    let front = bytes.split_at(last.min(bytes.len())).0;
-    let mut cut = Txt::from_text(alloc, front.split_at(first.min(front.len())).1)?;
-    if bytes.len() < last && first <= bytes.len() {
+    let len = text.len();
+    let end = last.min(len);
+    let mut cut = text.part(alloc, first.min(end), end)?;
+    if end < last && first <= len {
         cut.push_byte(b'\n')?;
+        return Ok(cut);
     }
     Ok(cut)
 }
@@ -83,40 +86,43 @@ pub(crate) fn tags_on(alloc: Global, tags: &[Tag], place: usize) -> Result<Seq<T
     Ok(names)
 }
 
-/// On which characters a tag is, where there is one of the name.
-pub(crate) fn flags_of<'a>(name: &Txt, tags: &'a [Tag]) -> &'a [bool]
-    ensures { result.now ≡ flags_of name.now tags.now }
+// The ranges of the characters that have a tag, where there is one of the name.
+fn ranges_named<'a>(name: &Txt, tags: &'a [Tag]) -> &'a [Range]
+    ensures { result.now ≡ ranges_of (flags_of name.now tags.now) }
 {
     for tag in tags {
         if tag.name.as_bytes() == name.as_bytes() {
-            return tag.on.as_slice();
+            return tag.on.ranges();
         }
     }
     &[]
 }
 
-/// The places at which a tag with these flags begins and ends, in turn.
-pub(crate) fn edges(alloc: Global, flags: &[bool]) -> Result<Seq<usize>, AllocError>
-    ensures { IfOk result (λ places. places ≡ edges false 0 flags.now) }
+// The places at which ranges begin and end, in turn.
+fn ends_of(alloc: Global, ranges: &[Range]) -> Result<Seq<usize>, AllocError>
+    ensures { IfOk result (λ places. places ≡ ends_of ranges.now) }
 {
     let mut places = Seq::new(alloc);
-    let mut was = false;
-    for (place, flag) in flags.iter().enumerate() {
-        if *flag != was {
-            places.push(place)?;
-        }
-        was = *flag;
+    for range in ranges {
+        places.push(range.first)?;
+        places.push(range.last)?;
     }
-    if was {
-        places.push(flags.len())?;
-    }
+    Ok(places)
+}
+
+/// The places at which the tag of a name begins and ends, in turn.
+#[tactic(auto, using(crate::proofs::Clipped::ends_are_edges))]
+pub(crate) fn edges(alloc: Global, name: &Txt, tags: &[Tag]) -> Result<Seq<usize>, AllocError>
+    ensures { IfOk result (λ places. places ≡ edges false 0 (flags_of name.now tags.now)) }
+{
+    let places = ends_of(alloc, ranges_named(name, tags))?;
     Ok(places)
 }
 
 /// Places as indices.
 pub(crate) fn all_spelled(
     alloc: Global,
-    text: &Lined<'_>,
+    text: &LinedText,
     places: &[usize],
 ) -> Result<Seq<Txt>, AllocError>
     ensures { IfOk result (λ all. all ≡ map (spelled text.now) places.now) }

@@ -1,5 +1,5 @@
 //! Where the lines of a text end: the places of its newlines.
-ghost use Rattle.std.specs.Prelude.{◌≡◌, ◌+◌, ◌-◌, ◌<◌, ◌≤◌, ◌^◌, ◌++◌, length, map, drop, IfOk, OnOk, option_copied, slice_get};
+ghost use Rattle.std.specs.Prelude.{◌≡◌, ◌+◌, ◌-◌, ◌<◌, ◌≤◌, ◌^◌, ◌++◌, [], length, map, take, drop, IfOk, OnOk, option_copied, slice_get};
 ghost use Rattle.std.specs.List.{AllByRecursion};
 ghost use Rattle.std.specs.List.Sorted.{IsNonDecreasingBy};
 ghost use Rattle.tks_lines.specs.Breaks.{breaks_from, breaks_of, below, breaks_with, breaks_without};
@@ -57,7 +57,35 @@ fn push_back(places: &mut Vec<usize>, more: &[usize], count: usize) -> Result<()
     Ok(())
 }
 
+// Each place so far on.
+fn add_each(places: &mut [usize], count: usize)
+    requires { AllByRecursion (λ b. b + count < 2 ^ 64) places.old }
+    ensures { places.new ≡ map (λ b. b + count) places.old }
+{
+    for place in places.iter_mut() {
+        *place += count;
+    }
+}
+
+// Each place so far back.
+fn take_each(places: &mut [usize], count: usize)
+    ensures { places.new ≡ map (λ b. b - count) places.old }
+{
+    for place in places.iter_mut() {
+        *place = place.saturating_sub(count);
+    }
+}
+
 impl Breaks {
+    /// None.
+    pub(crate) fn new(alloc: Global) -> Breaks
+        ensures { result ≡ [] }
+    {
+        Breaks {
+            places: Vec::new(alloc),
+        }
+    }
+
     /// Those of a text.
     pub(crate) fn of(alloc: Global, text: &[u8]) -> Result<Breaks, AllocError>
         requires { length text.now < 2 ^ 63 }
@@ -89,6 +117,25 @@ impl Breaks {
         ensures bound { result ≤ length self.now }
     {
         self.places.as_slice().partition_point(|b| *b < place)
+    }
+
+    /// Moves those behind a place on, where characters without a newline come in at it.
+    pub(crate) fn move_on(&mut self, place: usize, count: usize)
+        requires rising { IsNonDecreasingBy (λ b. b) self.old }
+        requires small { AllByRecursion (λ b. b + count < 2 ^ 64) (drop (below place self.old) self.old) }
+        ensures { self.new ≡ take (below place self.old) self.old ++ map (λ b. b + count) (drop (below place self.old) self.old) }
+    {
+        let first = self.below(place);
+        add_each(&mut self.places[first..], count);
+    }
+
+    /// Moves those behind a place back, where characters without a newline go out behind it.
+    pub(crate) fn move_back(&mut self, place: usize, count: usize)
+        requires { IsNonDecreasingBy (λ b. b) self.old }
+        ensures { self.new ≡ take (below place self.old) self.old ++ map (λ b. b - count) (drop (below place self.old) self.old) }
+    {
+        let first = self.below(place);
+        take_each(&mut self.places[first..], count);
     }
 
     /// Those where characters come in at a place.
@@ -131,5 +178,14 @@ impl Breaks {
         places.extend_from_slice(before)?;
         push_back(&mut places, behind, last.saturating_sub(first))?;
         Ok(Breaks { places })
+    }
+
+    /// The same.
+    pub(crate) fn try_clone(&self) -> Result<Breaks, AllocError>
+        ensures { IfOk result (λ b. b ≡ self.now) }
+    {
+        Ok(Breaks {
+            places: self.places.clone()?,
+        })
     }
 }

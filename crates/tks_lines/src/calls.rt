@@ -1,5 +1,5 @@
 //! The subcommands of a text widget.
-ghost use Rattle.std.specs.Prelude.{◌≡◌, OnErr, [], length};
+ghost use Rattle.std.specs.Prelude.{◌≡◌, IfSome, OnErr, [], length};
 ghost use Rattle.tks_opt.specs.declared.said.Said.TheVariants as said;
 ghost use Rattle.tks_text.specs.Fault.{Gives};
 ghost use Rattle.tks_list.specs.Reading.{list_of};
@@ -26,12 +26,12 @@ impl TextWidget {
         match words {
             [index] => {
                 let first = self.place_in(index)?;
-                Ok(Said::Text(between(self.alloc, self.text.text(), first, first + 1)?))
+                Ok(Said::Text(between(self.alloc, &self.text, first, first + 1)?))
             }
             [index, behind] => {
                 let first = self.place_in(index)?;
                 let last = self.place_in(behind)?;
-                Ok(Said::Text(between(self.alloc, self.text.text(), first, last)?))
+                Ok(Said::Text(between(self.alloc, &self.text, first, last)?))
             }
             _ => Err(wrong_words(path)),
         }
@@ -44,8 +44,7 @@ impl TextWidget {
         match words {
             [index] => {
                 let place = self.place_in(index)?;
-                let text = self.text.lined(self.alloc)?;
-                Ok(Said::Text(spelled(self.alloc, &text, place)?))
+                Ok(Said::Text(spelled(self.alloc, &self.text, place)?))
             }
             _ => Err(wrong_words(path)),
         }
@@ -107,6 +106,39 @@ impl TextWidget {
             }
             _ => Err(wrong_words(path)),
         }
+    }
+
+    // A subcommand that only tells something, with the words behind it. The names come in the order of `lines_does`.
+    fn told(&self, path: &Txt, name: &Txt, words: &[Txt]) -> Option<Result<Said, Failure>>
+        ensures { IfSome result (λ r. Gives (λ said. (said, self.now)) r (lines_does path.now name.now words.now self.now)) }
+    {
+        let subcommand = name.as_bytes();
+        if subcommand == b"get".as_slice() {
+            Some(self.get_words(path, words))
+        } else if subcommand == b"insert".as_slice() {
+            None
+        } else if subcommand == b"delete".as_slice() {
+            None
+        } else if subcommand == b"index".as_slice() {
+            Some(self.index_words(path, words))
+        } else if subcommand == b"mark".as_slice() {
+            self.told_mark(path, words)
+        } else if subcommand == b"tag".as_slice() {
+            self.told_tag(path, words)
+        } else {
+            None
+        }
+    }
+
+    /// What the words of a whole command come to where it changes nothing, the text widget's path first: `get`, `index`,
+    /// `mark names`, `tag names` and `tag ranges`, each what `call` answers. None for other subcommands.
+    pub fn tell(&self, words: &[Txt]) -> Option<Result<Said, Failure>>
+        ensures { IfSome result (λ r. Gives (λ said. (said, self.now)) r (called self.now words.now)) }
+    {
+        let [path, name, rest @ ..] = words else {
+            return None;
+        };
+        self.told(path, name, rest)
     }
 
     // A subcommand with the words behind it.

@@ -3,7 +3,6 @@ ghost use Rattle.std.specs.Prelude.{◌≡◌, ◌≤◌, ◌<◌, ◌^◌, true
 ghost use Rattle.tks_lines.specs.Lines.{at_most_last, inserted, inserted_with, deleted, with_mark, without_marks, turned_marks, with_tag, without_tags, tagged};
 
 use crate::lines::TextWidget;
-use crate::marks::{all_moved_back, all_moved_on, all_turned, with_mark, without_marks};
 use crate::tags::{
     all_grown_among, all_grown_around, all_shrunk, all_tagged, with_tag, with_tags, without_tags,
 };
@@ -11,14 +10,6 @@ use std::alloc::AllocError;
 use tks_text::Txt;
 
 impl TextWidget {
-    // How many characters there are but the last newline.
-    pub(crate) fn len(&self) -> usize
-        ensures value { result ≡ length self.now.text }
-        ensures bound { result < 2 ^ 63 }
-    {
-        self.text.len()
-    }
-
     // A place, or that of the last newline for one behind it.
     pub(crate) fn at_most_last(&self, place: usize) -> usize
         ensures value { result ≡ at_most_last self.now place }
@@ -36,15 +27,13 @@ impl TextWidget {
         if !self.options.is_editable() {
             return Ok(());
         }
-        let len = self.len();
+        let _len = self.len();
         let place = self.at_most_last(place);
         let count = more.as_bytes().len();
-        let text = self.text.with_more(self.alloc, place, more)?;
         let tags = all_grown_around(self.alloc, self.tags.as_slice(), place, count)?;
-        let marks = all_moved_on(self.alloc, self.marks.as_slice(), len, place, count)?;
-        self.text = text;
+        self.text.insert(self.alloc, place, more)?;
         self.tags = tags;
-        self.marks = marks;
+        self.marks.move_on(place, count);
         Ok(())
     }
 
@@ -65,13 +54,11 @@ impl TextWidget {
         let len = self.len();
         let place = self.at_most_last(place);
         let count = more.as_bytes().len();
-        let text = self.text.with_more(self.alloc, place, more)?;
         let tags = with_tags(self.alloc, self.tags.as_slice(), names, len)?;
         let tags = all_grown_among(self.alloc, tags.as_slice(), place, count, names)?;
-        let marks = all_moved_on(self.alloc, self.marks.as_slice(), len, place, count)?;
-        self.text = text;
+        self.text.insert(self.alloc, place, more)?;
         self.tags = tags;
-        self.marks = marks;
+        self.marks.move_on(place, count);
         Ok(())
     }
 
@@ -85,12 +72,10 @@ impl TextWidget {
         if !self.options.is_editable() {
             return Ok(());
         }
-        let text = self.text.without(self.alloc, first, last)?;
         let tags = all_shrunk(self.alloc, self.tags.as_slice(), first, last)?;
-        let marks = all_moved_back(self.alloc, self.marks.as_slice(), first, last)?;
-        self.text = text;
+        self.text.delete(self.alloc, first, last)?;
         self.tags = tags;
-        self.marks = marks;
+        self.marks.move_back(first, last);
         Ok(())
     }
 
@@ -102,7 +87,7 @@ impl TextWidget {
         ensures class { self.new.options.class ≡ self.old.options.class }
     {
         let place = self.at_most_last(place);
-        self.marks = with_mark(self.alloc, self.marks.as_slice(), name, place)?;
+        self.marks.set(name, place)?;
         Ok(())
     }
 
@@ -113,19 +98,17 @@ impl TextWidget {
         ensures err { OnErr result (self.new ≡ self.old) }
         ensures class { self.new.options.class ≡ self.old.options.class }
     {
-        self.marks = without_marks(self.alloc, self.marks.as_slice(), names)?;
+        self.marks = self.marks.without(self.alloc, names)?;
         Ok(())
     }
 
     // Gives the mark of a name its gravity.
     #[tactic(auto, using(crate::proofs::Inside::turned_inside, crate::proofs::Names::turned_differ, crate::proofs::Names::turned_first))]
-    pub(crate) fn turn_mark(&mut self, name: &Txt, left: bool) -> Result<(), AllocError>
-        ensures ok { OnOk result (self.new ≡ record self.old { marks = turned_marks name.now left self.old.marks }) }
-        ensures err { OnErr result (self.new ≡ self.old) }
+    pub(crate) fn turn_mark(&mut self, name: &Txt, left: bool)
+        ensures value { self.new ≡ record self.old { marks = turned_marks name.now left self.old.marks } }
         ensures class { self.new.options.class ≡ self.old.options.class }
     {
-        self.marks = all_turned(self.alloc, self.marks.as_slice(), name, left)?;
-        Ok(())
+        self.marks.turn(name, left);
     }
 
     // Puts a tag on the characters between two places; one of the name is made where there is none.

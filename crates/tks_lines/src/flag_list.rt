@@ -1,83 +1,90 @@
 //! Which characters of a text have a tag.
-ghost use Rattle.std.specs.Prelude.{◌≡◌, ◌++◌, ◌<◌, ◌^◌, length, take, drop, replicate, false, ◌-◌, ◌≤◌, None, IfOk, OnOk, slice_get};
+ghost use Rattle.std.specs.Prelude.{◌≡◌, ◌++◌, ◌<◌, ◌≤◌, ◌^◌, length, take, drop, replicate, false, None, IfOk, slice_get};
+ghost use Rattle.tks_text.specs.Short.{IsShort};
 ghost use Rattle.tks_lines.specs.Lines.{spliced, cut, painted, is_true};
-ghost use Rattle.tks_lines.specs.Ranges.{ranges_of, flags_of, AreRanges};
+ghost use Rattle.tks_lines.specs.Ranges.{ranges_of, flags_of, are_around, AreRanges};
 
+use crate::gap::MAX_LEN;
 use crate::range::Range;
+use crate::runs::Runs;
 use std::alloc::{AllocError, Global};
 use std::marker::Model;
 use tks_text::Seq;
 
-/// Which of the characters of a text have a tag, in order.
+/// Which of the characters of a text have a tag, in order: contracts see a flag for each character, and what is kept is the
+/// ranges of those that have it.
 #[derive(Drop)]
 pub struct Flags {
-    items: Vec<bool>,
+    len: usize,
+    ranges: Seq<Range>,
 }
 
 impl Model for Flags {
-    ghost use Rattle.std.specs.Prelude.{List, Bool};
+    ghost use Rattle.std.specs.Prelude.{List, Bool, ◌≤◌, None};
+    ghost use Rattle.tks_lines.specs.Ranges.{flags_of, AreRanges};
 
     ghost Value = { List Bool };
 
-    ghost view = { λ f. f.items.items };
+    ghost view = { λ f. flags_of f.len f.ranges };
+
+    ghost invariant = { λ f. AreRanges f.len None f.ranges × (f.len ≤ 4294967295) };
 }
 
-// Adds flags that are all the same, so that there are so many.
-fn fill(flags: &mut Vec<bool>, len: usize, value: bool) -> Result<(), AllocError>
-    requires { (length flags.old.items ≤ len) × (len < 2 ^ 63) }
-    ensures { OnOk result (flags.new.items ≡ flags.old.items ++ replicate (len - length flags.old.items) value) }
+// Whether the character behind a place is in one of these ranges.
+fn are_around(ranges: &[Range], place: usize) -> bool
+    ensures { result ≡ are_around ranges.now place }
 {
-    flags.resize(len, value)?;
-    Ok(())
+    for range in ranges {
+        if range.first <= place && place < range.last {
+            return true;
+        }
+    }
+    false
 }
 
 impl Flags {
-    /// None of so many characters.
+    /// None of so many characters. Too many are refused as memory is.
     pub(crate) fn none(alloc: Global, len: usize) -> Result<Flags, AllocError>
         ensures { IfOk result (λ f. f ≡ replicate len false) }
     {
+        if len > MAX_LEN {
+            return Err(AllocError);
+        }
         Ok(Flags {
-            items: vec![in alloc; false; len]?,
+            len,
+            ranges: Seq::new(alloc),
         })
     }
 
     /// Those of so many characters, where these ranges have the tag.
+    pub(crate) fn of_parts(len: usize, ranges: Seq<Range>) -> Flags
+        requires { (len ≤ 4294967295) × AreRanges len None ranges }
+        ensures { result ≡ flags_of len ranges }
+    {
+        Flags { len, ranges }
+    }
+
+    /// Those of so many characters, where these ranges have the tag. Too many are refused as memory is.
     pub fn of_ranges(alloc: Global, len: usize, ranges: &[Range]) -> Result<Flags, AllocError>
         requires { (len < 2 ^ 63) × AreRanges len None ranges.now }
         ensures { IfOk result (λ f. f ≡ flags_of len ranges.now) }
     {
-        let mut items = Vec::new(alloc);
-        for range in ranges {
-            fill(&mut items, range.first, false)?;
-            fill(&mut items, range.last, true)?;
+        if len > MAX_LEN {
+            return Err(AllocError);
         }
-        fill(&mut items, len, false)?;
-        Ok(Flags { items })
+        let mut all = Seq::new(alloc);
+        for range in ranges {
+            all.push(*range)?;
+        }
+        Ok(Flags::of_parts(len, all))
     }
 
     /// The ranges of the characters that have the tag: they rise, none is empty, and none touches another.
-    pub fn ranges(&self, alloc: Global) -> Result<Seq<Range>, AllocError>
-        ensures { IfOk result (λ all. all ≡ ranges_of self.now) }
+    pub fn ranges(&self) -> &[Range]
+        ensures value { result.now ≡ ranges_of self.now }
+        ensures short { IsShort result.now }
     {
-        let mut all = Seq::new(alloc);
-        let mut begun = None;
-        for (place, flag) in self.items.iter().enumerate() {
-            match (begun, *flag) {
-                (None, true) => begun = Some(place),
-                (Some(first), false) => {
-                    all.push(Range { first, last: place })?;
-                    begun = None;
-                }
-                _ => {}
-            }
-        }
-        if let Some(first) = begun {
-            all.push(Range {
-                first,
-                last: self.items.len(),
-            })?;
-        }
-        Ok(all)
+        self.ranges.as_slice()
     }
 
     /// How many characters there are.
@@ -85,24 +92,14 @@ impl Flags {
         ensures value { result ≡ length self.now }
         ensures bound { result < 2 ^ 63 }
     {
-        self.items.len()
+        self.len
     }
 
     /// Whether the character behind a place has the tag; where there is none, it hasn't.
     pub fn is_on(&self, place: usize) -> bool
         ensures { result ≡ is_true (slice_get self.now place) }
     {
-        match self.items.get(place) {
-            Some(flag) => *flag,
-            None => false,
-        }
-    }
-
-    /// The flags, in order.
-    pub fn as_slice(&self) -> &[bool]
-        ensures { result.now ≡ self.now }
-    {
-        self.items.as_slice()
+        are_around(self.ranges.as_slice(), place)
     }
 
     // The first so many flags, then some that are all the same, then those behind another place.
@@ -114,16 +111,18 @@ impl Flags {
         value: bool,
         back: usize,
     ) -> Result<Flags, AllocError>
-        requires { count < 2 ^ 63 }
         ensures { IfOk result (λ f. f ≡ take front self.now ++ (replicate count value ++ drop back self.now)) }
     {
-        let all = self.items.as_slice();
-        let front = front.min(all.len());
-        let back = back.min(all.len());
-        let mut items = Vec::from_slice(alloc, &all[..front])?;
-        items.resize(front + count, value)?;
-        items.extend_from_slice(&all[back..])?;
-        Ok(Flags { items })
+        let len = self.len();
+        let mut runs = Runs::new(alloc);
+        runs.push_part(self, 0, front.min(len))?;
+        if value {
+            runs.push_on(count)?;
+        } else {
+            runs.push_off(count)?;
+        }
+        runs.push_part(self, back.min(len), len)?;
+        runs.finish()
     }
 
     /// Where so many characters come in at a place, which have the tag or don't.
@@ -134,7 +133,6 @@ impl Flags {
         count: usize,
         value: bool,
     ) -> Result<Flags, AllocError>
-        requires { count < 2 ^ 63 }
         ensures { IfOk result (λ f. f ≡ spliced place (replicate count value) self.now) }
     {
         let flags = self.replaced(alloc, place, count, value, place)?;
@@ -165,11 +163,16 @@ impl Flags {
     }
 
     /// Equal flags.
-    pub(crate) fn try_clone(&self) -> Result<Flags, AllocError>
+    pub(crate) fn try_clone(&self, alloc: Global) -> Result<Flags, AllocError>
         ensures { IfOk result (λ f. f ≡ self.now) }
     {
+        let mut ranges = Seq::new(alloc);
+        for range in self.ranges.as_slice() {
+            ranges.push(*range)?;
+        }
         Ok(Flags {
-            items: self.items.clone()?,
+            len: self.len,
+            ranges,
         })
     }
 }

@@ -4,7 +4,7 @@ ghost use Rattle.tks_text.specs.Fault.{Gives};
 ghost use Rattle.tks_lines.specs.Places.{end_place};
 ghost use Rattle.tks_lines.specs.Indices.{numbered, named, base_at, is_one_of_three, unit_named, edge_named, unit_at, counted, modifier_at, step_at, moved, based, index_place, place_in, if_at_end};
 
-use crate::lined::Lined;
+use crate::lined_text::LinedText;
 use crate::lines::TextWidget;
 use crate::marks::mark_named;
 use crate::modifier::{Modifier, Step};
@@ -13,7 +13,7 @@ use crate::places::{changed, place_of_line};
 use tks_text::{ErrorNumber, Failure, Txt, is_space, space_len};
 
 // The place that a line and a column at the front name, and how many bytes they take.
-fn numbered(text: &Lined<'_>, word: &[u8]) -> Option<(usize, usize)>
+fn numbered(text: &LinedText, word: &[u8]) -> Option<(usize, usize)>
     ensures value { result ≡ numbered text.now word.now }
     ensures inside { IfSome result (λ x. x.0 ≤ end_place text.now) }
     ensures bound { IfSome result (λ x. x.1 ≤ length word.now) }
@@ -107,7 +107,7 @@ fn modifier_at(text: &[u8]) -> Option<(Modifier, usize)>
 }
 
 // What the front of a text makes of a place, and how many bytes it takes behind its first.
-fn step_at(text: &Lined<'_>, place: usize, front: &[u8]) -> Option<(usize, usize)>
+fn step_at(text: &LinedText, place: usize, front: &[u8]) -> Option<(usize, usize)>
     requires { place ≤ end_place text.now }
     ensures value { result ≡ step_at text.now place front.now }
     ensures place { IfSome result (λ x. x.0 ≤ end_place text.now) }
@@ -126,7 +126,7 @@ fn step_at(text: &Lined<'_>, place: usize, front: &[u8]) -> Option<(usize, usize
 }
 
 // The place that the modifiers in a text make of another.
-fn moved(text: &Lined<'_>, place: usize, modifiers: &[u8]) -> Option<usize>
+fn moved(text: &LinedText, place: usize, modifiers: &[u8]) -> Option<usize>
     requires { place ≤ end_place text.now }
     ensures value { result ≡ moved text.now place 0 modifiers.now }
     ensures bound { IfSome result (λ p. p ≤ end_place text.now) }
@@ -156,13 +156,12 @@ impl TextWidget {
 
     // The place of the base at the front, and how many bytes it takes.
     #[tactic(auto, unfolding(crate::specs::Indices::base_at))]
-    fn base_at(&self, text: &Lined<'_>, word: &[u8]) -> Option<(usize, usize)>
-        requires { text.now ≡ self.now.text }
+    fn base_at(&self, word: &[u8]) -> Option<(usize, usize)>
         ensures value { result ≡ base_at self.now word.now }
         ensures inside { IfSome result (λ x. x.0 ≤ end_place self.now.text) }
         ensures bound { IfSome result (λ x. x.1 ≤ length word.now) }
     {
-        if let Some(base) = numbered(text, word) {
+        if let Some(base) = numbered(&self.text, word) {
             return Some(base);
         }
         let place = self.named(word_at(word))?;
@@ -170,30 +169,28 @@ impl TextWidget {
     }
 
     // The place that a base and the modifiers behind it name.
-    fn based(&self, text: &Lined<'_>, word: &[u8]) -> Option<usize>
-        requires { text.now ≡ self.now.text }
+    fn based(&self, word: &[u8]) -> Option<usize>
         ensures value { result ≡ based self.now word.now }
         ensures inside { IfSome result (λ p. p ≤ end_place self.now.text) }
     {
-        let (place, taken) = self.base_at(text, word)?;
-        moved(text, place, word.split_at(taken).1)
+        let (place, taken) = self.base_at(word)?;
+        moved(&self.text, place, word.split_at(taken).1)
     }
 
     // The place that an index names.
     #[tactic(auto, unfolding(crate::specs::Indices::index_place))]
-    fn index_place(&self, text: &Lined<'_>, word: &[u8]) -> Option<usize>
-        requires { text.now ≡ self.now.text }
+    fn index_place(&self, word: &[u8]) -> Option<usize>
         ensures value { result ≡ index_place self.now word.now }
         ensures inside { IfSome result (λ p. p ≤ end_place self.now.text) }
     {
-        match numbered(text, word) {
+        match numbered(&self.text, word) {
             Some((place, taken)) if taken == word.len() => return Some(place),
             _ => {}
         }
         if let Some(place) = self.named(word) {
             return Some(place);
         }
-        self.based(text, word.split_at(space_len(word)).1)
+        self.based(word.split_at(space_len(word)).1)
     }
 
     /// The place that an index names. A word that is none is an error about it.
@@ -203,8 +200,7 @@ impl TextWidget {
         ensures bound { IfOk result (λ p. p ≤ 2 ^ 63) }
     {
         let _len = self.text.len();
-        let text = self.text.lined(self.alloc)?;
-        match self.index_place(&text, word.as_bytes()) {
+        match self.index_place(word.as_bytes()) {
             Some(place) => Ok(place),
             None => Err(Failure::about(ErrorNumber::BadIndex, word)),
         }

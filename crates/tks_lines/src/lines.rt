@@ -1,14 +1,16 @@
 //! The text widget: characters in lines, tags, marks (text(n)).
-ghost use Rattle.std.specs.Prelude.{◌≡◌, ◌∷◌, [], IfOk, OnErr};
+ghost use Rattle.std.specs.Prelude.{◌≡◌, ◌<◌, ◌^◌, ◌∷◌, ◌++◌, [], length, IfOk, OnErr};
 ghost use Rattle.tks_text.specs.Fault.{Gives};
+ghost use Rattle.tks_text.specs.Text.{IsText};
 ghost use Rattle.tks_text.specs.Short.{IsShort};
 ghost use Rattle.tks_text.specs.declared.class.Class.TheVariants as class;
 ghost use Rattle.tks_opt.specs.Options.{configured};
 ghost use Rattle.tks_lines.specs.Lines.{Formed, first_mark, first_lines};
 
 use crate::lined_text::LinedText;
+use crate::marks::Marks;
 use crate::parts::{Mark, Tag};
-use crate::{marks, tags};
+use crate::tags;
 use std::alloc::{AllocError, Global};
 use std::marker::Model;
 use tks_opt::Options;
@@ -20,7 +22,7 @@ pub struct TextWidget {
     pub(crate) options: Options,
     pub(crate) text: LinedText,
     pub(crate) tags: Seq<Tag>,
-    pub(crate) marks: Seq<Mark>,
+    pub(crate) marks: Marks,
 }
 
 // Written out, so that to let go of it is one step for whoever owns it.
@@ -47,7 +49,7 @@ impl Model for TextWidget {
 }
 
 // The mark that every text widget has.
-fn first_marks(alloc: Global) -> Result<Seq<Mark>, AllocError>
+fn first_marks(alloc: Global) -> Result<Marks, AllocError>
     ensures { IfOk result (λ marks. marks ≡ first_mark ∷ []) }
 {
     let mut marks = Seq::new(alloc);
@@ -56,7 +58,7 @@ fn first_marks(alloc: Global) -> Result<Seq<Mark>, AllocError>
         place: 0,
         left: false,
     })?;
-    Ok(marks)
+    Ok(Marks::of(marks))
 }
 
 impl TextWidget {
@@ -69,7 +71,7 @@ impl TextWidget {
         Ok(TextWidget {
             alloc,
             options,
-            text: LinedText::of(Txt::new(alloc)),
+            text: LinedText::new(alloc),
             tags: Seq::new(alloc),
             marks,
         })
@@ -83,11 +85,21 @@ impl TextWidget {
         &self.options
     }
 
-    /// Its characters, but for the last newline.
-    pub fn text(&self) -> &Txt
-        ensures { result.now ≡ self.now.text }
+    /// How many characters it has, but for the last newline.
+    pub fn len(&self) -> usize
+        ensures value { result ≡ length self.now.text }
+        ensures bound { result < 2 ^ 32 }
     {
-        self.text.text()
+        self.text.len()
+    }
+
+    /// Its characters, but for the last newline, in two pieces, of which the second stands behind the first.
+    pub fn pieces(&self) -> (&[u8], &[u8])
+        ensures value { result.0.now ++ result.1.now ≡ self.now.text }
+        ensures text { IsText result.0.now × IsText result.1.now }
+        ensures short { IsShort self.now.text }
+    {
+        self.text.pieces()
     }
 
     /// Its tags, in the order in which they were made.
@@ -126,9 +138,9 @@ impl TextWidget {
         Ok(TextWidget {
             alloc: self.alloc,
             options: self.options.try_clone()?,
-            text: self.text.try_clone(self.alloc)?,
+            text: self.text.try_clone()?,
             tags: tags::copied(self.alloc, self.tags.as_slice())?,
-            marks: marks::copied(self.alloc, self.marks.as_slice())?,
+            marks: self.marks.try_clone(self.alloc)?,
         })
     }
 }

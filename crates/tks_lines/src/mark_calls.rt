@@ -1,5 +1,5 @@
 //! The subcommands of a text widget on its marks.
-ghost use Rattle.std.specs.Prelude.{◌≡◌, IfOk, OnErr, Ok};
+ghost use Rattle.std.specs.Prelude.{◌≡◌, IfOk, IfSome, OnErr, Ok};
 ghost use Rattle.tks_text.specs.Fault.{Gives};
 ghost use Rattle.tks_opt.specs.Options.{after};
 ghost use Rattle.tks_lines.specs.Commands.{mark_set_does, mark_unset_does, mark_names_does, gravity_name, is_left, gravity_becomes, mark_gravity_does, mark_does, or_no_mark};
@@ -100,7 +100,7 @@ impl TextWidget {
             return Err(wrong_words(path));
         };
         let _before = self.gravity(name)?;
-        self.turn_mark(name, left)?;
+        self.turn_mark(name, left);
         Ok(self.nothing())
     }
 
@@ -120,6 +120,25 @@ impl TextWidget {
                 Ok(said)
             }
             _ => Err(wrong_words(path)),
+        }
+    }
+
+    // `mark` with the words behind it, where it only tells something.
+    pub(crate) fn told_mark(&self, path: &Txt, words: &[Txt]) -> Option<Result<Said, Failure>>
+        ensures { IfSome result (λ r. Gives (λ said. (said, self.now)) r (mark_does path.now words.now self.now)) }
+    {
+        let Some((name, rest)) = words.split_first() else {
+            return None;
+        };
+        let subcommand = name.as_bytes();
+        if subcommand == b"set".as_slice() {
+            None
+        } else if subcommand == b"unset".as_slice() {
+            None
+        } else if subcommand == b"names".as_slice() {
+            Some(self.mark_names_words(path, rest))
+        } else {
+            None
         }
     }
 

@@ -1,11 +1,32 @@
 //! Marks, and what becomes of them.
-ghost use Rattle.std.specs.Prelude.{◌≡◌, ◌+◌, ◌<◌, ◌≤◌, ◌^◌, map, option_copied, IfOk};
-ghost use Rattle.std.specs.List.{list_any};
-ghost use Rattle.tks_lines.specs.Lines.{AreInside, is_listed, is_mark, mark_named, goes_on, moved_on, moved_back, put_at, with_mark, without_marks, turned, turned_marks, cursor_name};
+ghost use Rattle.std.specs.Prelude.{◌≡◌, ◌+◌, ◌<◌, ◌≤◌, ◌^◌, map, option_copied, IfOk, OnOk, OnErr};
+ghost use Rattle.std.specs.List.{AllByRecursion, list_any};
+ghost use Rattle.tks_text.specs.Short.{IsShort};
+ghost use Rattle.tks_lines.specs.Lines.{is_listed, is_mark, mark_named, goes_on, moved_on, moved_back, put_at, with_mark, without_marks, turned, turned_marks, cursor_name};
 
+use crate::gap::MAX_LEN;
 use crate::parts::Mark;
 use std::alloc::{AllocError, Global};
+use std::marker::Model;
 use tks_text::{Seq, Txt};
+
+/// The marks of a text, fewer than 2^32, in the order in which they were made. They are moved where they stand.
+#[derive(Drop)]
+pub(crate) struct Marks {
+    marks: Vec<Mark>,
+}
+
+impl Model for Marks {
+    ghost use Rattle.std.specs.Prelude.{List};
+    ghost use Rattle.tks_text.specs.Short.{IsShort};
+    ghost use Rattle.tks_lines.specs.declared.parts.Mark.{Mark};
+
+    ghost Value = { List Mark };
+
+    ghost view = { λ m. m.marks.items };
+
+    ghost invariant = { λ m. IsShort m.marks.items };
+}
 
 /// Whether a name is among others.
 pub(crate) fn is_listed(name: &Txt, names: &[Txt]) -> bool
@@ -43,17 +64,6 @@ fn has_mark(name: &Txt, marks: &[Mark]) -> bool
     false
 }
 
-// The same mark at a place, with a gravity.
-fn placed(mark: &Mark, place: usize, left: bool) -> Result<Mark, AllocError>
-    ensures { IfOk result (λ m. m ≡ record { name = mark.now.name; place = place; left = left }) }
-{
-    Ok(Mark {
-        name: mark.name.try_clone()?,
-        place,
-        left,
-    })
-}
-
 // Whether a mark goes on where characters come in at a place.
 fn goes_on(place: usize, mark: &Mark) -> bool
     ensures { result ≡ goes_on place mark.now }
@@ -61,165 +71,190 @@ fn goes_on(place: usize, mark: &Mark) -> bool
     place < mark.place || (place == mark.place && !mark.left)
 }
 
-// A mark where so many characters come in at a place.
-fn moved_on(place: usize, count: usize, mark: &Mark) -> Result<Mark, AllocError>
-    requires { mark.now.place + count < 2 ^ 64 }
-    ensures { IfOk result (λ m. m ≡ moved_on place count mark.now) }
+// Moves a mark where so many characters come in at a place.
+fn move_on(mark: &mut Mark, place: usize, count: usize)
+    requires { mark.old.place + count < 2 ^ 64 }
+    ensures { mark.new ≡ moved_on place count mark.old }
 {
     if goes_on(place, mark) {
-        placed(mark, mark.place + count, mark.left)
-    } else {
-        placed(mark, mark.place, mark.left)
+        mark.place += count;
     }
 }
 
-// A mark where the characters between two places go out.
-fn moved_back(first: usize, last: usize, mark: &Mark) -> Result<Mark, AllocError>
-    ensures { IfOk result (λ m. m ≡ moved_back first last mark.now) }
+// Moves a mark where the characters between two places go out.
+fn move_back(mark: &mut Mark, first: usize, last: usize)
+    ensures { mark.new ≡ moved_back first last mark.old }
 {
     if mark.place <= first {
-        placed(mark, mark.place, mark.left)
-    } else {
-        let gone = mark.place.min(last).saturating_sub(first);
-        placed(mark, mark.place - gone, mark.left)
+        return;
     }
+    mark.place -= mark.place.min(last).saturating_sub(first);
 }
 
-// A mark, put at a place where it has the name.
-fn put_at(name: &Txt, place: usize, mark: &Mark) -> Result<Mark, AllocError>
-    ensures { IfOk result (λ m. m ≡ put_at name.now place mark.now) }
+// Puts a mark at a place where it has the name.
+fn put_at(mark: &mut Mark, name: &Txt, place: usize)
+    ensures { mark.new ≡ put_at name.now place mark.old }
 {
     if mark.name.as_bytes() == name.as_bytes() {
-        placed(mark, place, mark.left)
-    } else {
-        placed(mark, mark.place, mark.left)
+        mark.place = place;
     }
 }
 
-// A mark, with another gravity where it has the name.
-fn turned(name: &Txt, left: bool, mark: &Mark) -> Result<Mark, AllocError>
-    ensures { IfOk result (λ m. m ≡ turned name.now left mark.now) }
+// Gives a mark another gravity where it has the name.
+fn turn(mark: &mut Mark, name: &Txt, left: bool)
+    ensures { mark.new ≡ turned name.now left mark.old }
 {
     if mark.name.as_bytes() == name.as_bytes() {
-        placed(mark, mark.place, left)
-    } else {
-        placed(mark, mark.place, mark.left)
+        mark.left = left;
     }
 }
 
-/// The marks where so many characters come in at a place.
-pub(crate) fn all_moved_on(
-    alloc: Global,
-    marks: &[Mark],
-    len: usize,
-    place: usize,
-    count: usize,
-) -> Result<Seq<Mark>, AllocError>
-    requires inside { AreInside len marks.now }
-    requires room { len + count < 2 ^ 64 }
-    ensures { IfOk result (λ all. all ≡ map (moved_on place count) marks.now) }
+// Moves each mark where so many characters come in at a place.
+fn move_each_on(marks: &mut [Mark], place: usize, count: usize)
+    requires { AllByRecursion (λ m. m.place + count < 2 ^ 64) marks.old }
+    ensures { marks.new ≡ map (moved_on place count) marks.old }
 {
-    let mut all = Seq::new(alloc);
-    for mark in marks {
-        all.push(moved_on(place, count, mark)?)?;
+    for mark in marks.iter_mut() {
+        move_on(mark, place, count);
     }
-    Ok(all)
 }
 
-/// The marks where the characters between two places go out.
-pub(crate) fn all_moved_back(
-    alloc: Global,
-    marks: &[Mark],
-    first: usize,
-    last: usize,
-) -> Result<Seq<Mark>, AllocError>
-    ensures { IfOk result (λ all. all ≡ map (moved_back first last) marks.now) }
+// Moves each mark where the characters between two places go out.
+fn move_each_back(marks: &mut [Mark], first: usize, last: usize)
+    ensures { marks.new ≡ map (moved_back first last) marks.old }
 {
-    let mut all = Seq::new(alloc);
-    for mark in marks {
-        all.push(moved_back(first, last, mark)?)?;
+    for mark in marks.iter_mut() {
+        move_back(mark, first, last);
     }
-    Ok(all)
 }
 
-// The marks, those of a name put at a place.
-fn all_put_at(
-    alloc: Global,
-    marks: &[Mark],
-    name: &Txt,
-    place: usize,
-) -> Result<Seq<Mark>, AllocError>
-    ensures { IfOk result (λ all. all ≡ map (put_at name.now place) marks.now) }
+// Puts the marks of a name at a place.
+fn put_each_at(marks: &mut [Mark], name: &Txt, place: usize)
+    ensures { marks.new ≡ map (put_at name.now place) marks.old }
 {
-    let mut all = Seq::new(alloc);
-    for mark in marks {
-        all.push(put_at(name, place, mark)?)?;
+    for mark in marks.iter_mut() {
+        put_at(mark, name, place);
     }
-    Ok(all)
 }
 
-/// The marks, with a mark of a name at a place; a new one comes last.
-pub(crate) fn with_mark(
-    alloc: Global,
-    marks: &[Mark],
-    name: &Txt,
-    place: usize,
-) -> Result<Seq<Mark>, AllocError>
-    ensures { IfOk result (λ all. all ≡ with_mark name.now place marks.now) }
+// Gives the marks of a name another gravity.
+fn turn_each(marks: &mut [Mark], name: &Txt, left: bool)
+    ensures { marks.new ≡ turned_marks name.now left marks.old }
 {
-    if has_mark(name, marks) {
-        let all = all_put_at(alloc, marks, name, place)?;
-        return Ok(all);
+    for mark in marks.iter_mut() {
+        turn(mark, name, left);
     }
-    let mut all = copied(alloc, marks)?;
-    all.push(Mark {
-        name: name.try_clone()?,
-        place,
-        left: false,
-    })?;
-    Ok(all)
 }
 
-/// The marks without those of some names; `insert` stays.
-pub(crate) fn without_marks(
-    alloc: Global,
-    marks: &[Mark],
-    names: &[Txt],
-) -> Result<Seq<Mark>, AllocError>
+// An equal mark.
+fn copy(mark: &Mark) -> Result<Mark, AllocError>
+    ensures { IfOk result (λ m. m ≡ mark.now) }
+{
+    Ok(Mark {
+        name: mark.name.try_clone()?,
+        place: mark.place,
+        left: mark.left,
+    })
+}
+
+impl Marks {
+    /// These marks.
+    pub(crate) fn of(marks: Seq<Mark>) -> Marks
+        ensures { result ≡ marks }
+    {
+        let _len = marks.len();
+        Marks {
+            marks: marks.into_items(),
+        }
+    }
+
+    /// The marks, in order.
+    pub(crate) fn as_slice(&self) -> &[Mark]
+        ensures value { result.now ≡ self.now }
+        ensures short { IsShort self.now }
+    {
+        self.marks.as_slice()
+    }
+
+    /// Moves them where so many characters come in at a place.
+    pub(crate) fn move_on(&mut self, place: usize, count: usize)
+        requires { AllByRecursion (λ m. m.place + count < 2 ^ 64) self.old }
+        ensures { self.new ≡ map (moved_on place count) self.old }
+    {
+        move_each_on(&mut self.marks, place, count);
+    }
+
+    /// Moves them where the characters between two places go out.
+    pub(crate) fn move_back(&mut self, first: usize, last: usize)
+        ensures { self.new ≡ map (moved_back first last) self.old }
+    {
+        move_each_back(&mut self.marks, first, last);
+    }
+
+    /// Puts the mark of a name at a place; a new one comes last. One too many is refused as memory is.
+    pub(crate) fn set(&mut self, name: &Txt, place: usize) -> Result<(), AllocError>
+        ensures ok { OnOk result (self.new ≡ with_mark name.now place self.old) }
+        ensures err { OnErr result (self.new ≡ self.old) }
+    {
+        if has_mark(name, self.marks.as_slice()) {
+            put_each_at(&mut self.marks, name, place);
+            return Ok(());
+        }
+        if self.marks.len() >= MAX_LEN {
+            return Err(AllocError);
+        }
+        self.marks.push(Mark {
+            name: name.try_clone()?,
+            place,
+            left: false,
+        })?;
+        Ok(())
+    }
+
+    /// Those without the ones of some names; `insert` stays.
+    pub(crate) fn without(&self, alloc: Global, names: &[Txt]) -> Result<Marks, AllocError>
+        ensures { IfOk result (λ all. all ≡ without_marks names.now self.now) }
+    {
+        let left = without_marks(alloc, self.marks.as_slice(), names)?;
+        Ok(Marks::of(left))
+    }
+
+    /// Gives those of a name another gravity.
+    pub(crate) fn turn(&mut self, name: &Txt, left: bool)
+        ensures { self.new ≡ turned_marks name.now left self.old }
+    {
+        turn_each(&mut self.marks, name, left);
+    }
+
+    /// Equal marks.
+    pub(crate) fn try_clone(&self, alloc: Global) -> Result<Marks, AllocError>
+        ensures { IfOk result (λ all. all ≡ self.now) }
+    {
+        let all = copied(alloc, self.marks.as_slice())?;
+        Ok(Marks::of(all))
+    }
+}
+
+// The marks without those of some names; `insert` stays.
+fn without_marks(alloc: Global, marks: &[Mark], names: &[Txt]) -> Result<Seq<Mark>, AllocError>
     ensures { IfOk result (λ all. all ≡ without_marks names.now marks.now) }
 {
     let mut all = Seq::new(alloc);
     for mark in marks {
         if mark.name.as_bytes() == b"insert".as_slice() || !is_listed(&mark.name, names) {
-            all.push(placed(mark, mark.place, mark.left)?)?;
+            all.push(copy(mark)?)?;
         }
     }
     Ok(all)
 }
 
-/// The marks, those of a name with another gravity.
-pub(crate) fn all_turned(
-    alloc: Global,
-    marks: &[Mark],
-    name: &Txt,
-    left: bool,
-) -> Result<Seq<Mark>, AllocError>
-    ensures { IfOk result (λ all. all ≡ turned_marks name.now left marks.now) }
-{
-    let mut all = Seq::new(alloc);
-    for mark in marks {
-        all.push(turned(name, left, mark)?)?;
-    }
-    Ok(all)
-}
-
-/// Equal marks.
-pub(crate) fn copied(alloc: Global, marks: &[Mark]) -> Result<Seq<Mark>, AllocError>
+// Equal marks.
+fn copied(alloc: Global, marks: &[Mark]) -> Result<Seq<Mark>, AllocError>
     ensures { IfOk result (λ all. all ≡ marks.now) }
 {
     let mut all = Seq::new(alloc);
     for mark in marks {
-        all.push(placed(mark, mark.place, mark.left)?)?;
+        all.push(copy(mark)?)?;
     }
     Ok(all)
 }

@@ -3,26 +3,11 @@ ghost use Rattle.std.specs.Prelude.{◌≡◌, ◌+◌, ◌-◌, ◌<◌, ◌≤
 ghost use Rattle.std.specs.List.{prefix_len};
 ghost use Rattle.tks_lines.specs.Places.{is_newline, is_inner, end_place, lines_before, column_of, line_start, line_end, within_line, place_at, place_of_line, along, changed};
 
-use crate::lined::Lined;
+use crate::lined_text::LinedText;
 use crate::modifier::{Modifier, Step};
 
-// Whether a character ends a line.
-fn is_newline(byte: u8) -> bool
-    ensures { result ≡ is_newline byte }
-{
-    byte == b'\n'
-}
-
-/// How many characters stand before the first newline.
-pub(crate) fn inner_len(text: &[u8]) -> usize
-    ensures value { result ≡ prefix_len is_inner text.now }
-    ensures bound { result ≤ length text.now }
-{
-    text.iter().take_while(|byte| !is_newline(**byte)).count()
-}
-
 /// How many lines end before a place.
-pub(crate) fn lines_before(text: &Lined<'_>, place: usize) -> usize
+pub(crate) fn lines_before(text: &LinedText, place: usize) -> usize
     ensures value { result ≡ lines_before text.now place }
     ensures bound { result < 2 ^ 63 }
 {
@@ -35,7 +20,7 @@ pub(crate) fn lines_before(text: &Lined<'_>, place: usize) -> usize
 
 /// How many characters stand before a place on its line.
 #[tactic(auto, using(crate::proofs::Breaking::column_is))]
-pub(crate) fn column_of(text: &Lined<'_>, place: usize) -> usize
+pub(crate) fn column_of(text: &LinedText, place: usize) -> usize
     ensures value { result ≡ column_of text.now place }
     ensures bound { result ≤ length text.now }
 {
@@ -47,18 +32,19 @@ pub(crate) fn column_of(text: &Lined<'_>, place: usize) -> usize
 }
 
 // The place at which a line begins.
-fn line_start(text: &Lined<'_>, place: usize) -> usize
+fn line_start(text: &LinedText, place: usize) -> usize
     ensures { result ≡ line_start text.now place }
 {
     place.saturating_sub(column_of(text, place))
 }
 
-// The place of the newline that ends a line.
+/// The place of the newline that ends a line.
 #[tactic(auto, using(crate::proofs::Breaking::line_ends))]
-fn line_end(text: &Lined<'_>, place: usize) -> usize
+pub(crate) fn line_end(text: &LinedText, place: usize) -> usize
     requires { place ≤ end_place text.now }
     ensures value { result ≡ line_end text.now place }
     ensures bound { result ≤ end_place text.now }
+    ensures inside { place ≤ length text.now → result ≤ length text.now }
 {
     if place <= text.len() {
         text.line_break(text.newlines_before(place))
@@ -80,7 +66,7 @@ fn within_line(column: Option<usize>, len: usize) -> usize
 
 /// The place of a column of the line that comes behind so many others.
 #[tactic(auto, using(crate::proofs::Breaking::found_line))]
-pub(crate) fn place_at(text: &Lined<'_>, lines: usize, column: Option<usize>) -> usize
+pub(crate) fn place_at(text: &LinedText, lines: usize, column: Option<usize>) -> usize
     ensures value { result ≡ place_at text.now lines column }
     ensures bound { result ≤ end_place text.now }
 {
@@ -89,7 +75,7 @@ pub(crate) fn place_at(text: &Lined<'_>, lines: usize, column: Option<usize>) ->
 }
 
 /// The place of a column of a line, counted from 1; a line below that is the first place.
-pub(crate) fn place_of_line(text: &Lined<'_>, line: usize, column: Option<usize>) -> usize
+pub(crate) fn place_of_line(text: &LinedText, line: usize, column: Option<usize>) -> usize
     ensures value { result ≡ place_of_line text.now line column }
     ensures bound { result ≤ end_place text.now }
 {
@@ -113,7 +99,7 @@ fn along(step: Step, from: usize) -> usize
 
 /// The place that a modifier makes of another.
 #[tactic(auto, using(crate::proofs::Far::kept_line))]
-pub(crate) fn changed(text: &Lined<'_>, place: usize, modifier: Modifier) -> usize
+pub(crate) fn changed(text: &LinedText, place: usize, modifier: Modifier) -> usize
     requires { place ≤ end_place text.now }
     ensures value { result ≡ changed text.now place modifier }
     ensures bound { result ≤ end_place text.now }

@@ -1,13 +1,14 @@
 //! Whether parts are those of a text widget.
-ghost use Rattle.std.specs.Prelude.{◌≡◌, ◌==◌, nat_le, length, map};
+ghost use Rattle.std.specs.Prelude.{◌≡◌, ◌==◌, nat_le, length, map, IfOk};
 ghost use Rattle.std.specs.List.{list_all};
 ghost use Rattle.tks_lines.specs.Lines.{is_listed};
 ghost use Rattle.tks_lines.specs.Restoring.{differ, begins_with_cursor, are_tags, are_marks, restored};
 
 use crate::lined_text::LinedText;
 use crate::lines::TextWidget;
+use crate::marks::Marks;
 use crate::parts::{Mark, Tag};
-use std::alloc::Global;
+use std::alloc::{AllocError, Global};
 use tks_opt::Options;
 use tks_text::{Class, Seq, Txt};
 
@@ -111,25 +112,26 @@ impl TextWidget {
         text: Txt,
         tags: Seq<Tag>,
         marks: Seq<Mark>,
-    ) -> Option<TextWidget>
-        ensures { result ≡ restored options text tags marks }
+    ) -> Result<Option<TextWidget>, AllocError>
+        ensures { IfOk result (λ o. o ≡ restored options text tags marks) }
     {
         let len = text.len();
         if !are_tags(len, tags.as_slice()) {
-            return None;
+            return Ok(None);
         }
         if !are_marks(len, marks.as_slice()) {
-            return None;
+            return Ok(None);
         }
+        let text = LinedText::of(alloc, &text)?;
         match options.class() {
-            Class::Text => Some(TextWidget {
+            Class::Text => Ok(Some(TextWidget {
                 alloc,
                 options,
-                text: LinedText::of(text),
+                text,
                 tags,
-                marks,
-            }),
-            _ => None,
+                marks: Marks::of(marks),
+            })),
+            _ => Ok(None),
         }
     }
 }

@@ -1,36 +1,30 @@
 //! What a text widget asks for and shows.
 ghost use Rattle.std.specs.Prelude.{◌≡◌, ◌≤◌, ◌<◌, ◌^◌, ◌+◌, length, IfOk};
 ghost use Rattle.tks_opt.specs.Cells.{row, rows};
-ghost use Rattle.tks_lines.specs.Shown.{asked, requested_width, requested_height, cursor_place, first_seen, front_line, line_text, line_seen, shown};
+ghost use Rattle.tks_lines.specs.Shown.{asked, requested_width, requested_height, cursor_place, first_seen, line_text, line_seen, shown};
 
-use crate::lined::Lined;
+use crate::lined_text::LinedText;
 use crate::lines::TextWidget;
 use crate::marks::mark_named;
-use crate::places::{inner_len, lines_before, place_at};
+use crate::places::{line_end, lines_before, place_at};
 use std::alloc::{AllocError, Global};
 use tks_opt::{OptionName, line_row};
-use tks_text::Seq;
-
-// The characters up to a newline.
-fn front_line(text: &[u8]) -> &[u8]
-    ensures { result.now ≡ front_line text.now }
-{
-    text.split_at(inner_len(text)).0
-}
+use tks_text::{Seq, Txt};
 
 // The line behind so many others, or none.
-fn line_text<'a>(text: &Lined<'a>, lines: usize) -> &'a [u8]
-    ensures { result.now ≡ line_text text.now lines }
+fn line_text(alloc: Global, text: &LinedText, lines: usize) -> Result<Txt, AllocError>
+    ensures { IfOk result (λ t. t ≡ line_text text.now lines) }
 {
     let start = place_at(text, lines, Some(0)).min(text.len());
-    front_line(text.as_bytes().split_at(start).1)
+    let line = text.part(alloc, start, line_end(text, start))?;
+    Ok(line)
 }
 
 // A row of an area that shows lines from one on.
 #[tactic(auto, using(crate::proofs::Far::kept_line))]
 fn row_of(
     alloc: Global,
-    text: &Lined<'_>,
+    text: &LinedText,
     first: usize,
     width: usize,
     index: usize,
@@ -38,15 +32,15 @@ fn row_of(
     ensures { IfOk result (λ cells. cells ≡ row (λ x. line_seen text.now first x index) width) }
 {
     let _len = text.len();
-    let line = line_text(text, first.saturating_add(index));
-    let cells = line_row(alloc, line, 0, width)?;
+    let line = line_text(alloc, text, first.saturating_add(index))?;
+    let cells = line_row(alloc, line.as_bytes(), 0, width)?;
     Ok(cells)
 }
 
 // The rows of an area that shows lines from one on.
 fn rows_of(
     alloc: Global,
-    text: &Lined<'_>,
+    text: &LinedText,
     first: usize,
     width: usize,
     height: usize,
@@ -96,11 +90,10 @@ impl TextWidget {
     }
 
     // How many lines are above the first one that is seen.
-    fn first_seen(&self, text: &Lined<'_>) -> usize
-        requires { text.now ≡ self.now.text }
+    fn first_seen(&self) -> usize
         ensures { result ≡ first_seen self.now }
     {
-        let lines = lines_before(text, self.cursor_place());
+        let lines = lines_before(&self.text, self.cursor_place());
         (lines + 1).saturating_sub(self.requested_height())
     }
 
@@ -109,8 +102,7 @@ impl TextWidget {
     pub fn shown(&self, width: usize, height: usize) -> Result<Seq<Seq<u8>>, AllocError>
         ensures { IfOk result (λ cells. cells ≡ shown self.now width height) }
     {
-        let text = self.text.lined(self.alloc)?;
-        let cells = rows_of(self.alloc, &text, self.first_seen(&text), width, height)?;
+        let cells = rows_of(self.alloc, &self.text, self.first_seen(), width, height)?;
         Ok(cells)
     }
 }

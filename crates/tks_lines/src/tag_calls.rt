@@ -1,9 +1,9 @@
 //! The subcommands of a text widget on its tags.
-ghost use Rattle.std.specs.Prelude.{◌≡◌, OnErr, [], true, false, length};
+ghost use Rattle.std.specs.Prelude.{◌≡◌, IfSome, OnErr, [], true, false, length};
 ghost use Rattle.tks_text.specs.Fault.{Gives};
 ghost use Rattle.tks_lines.specs.Commands.{tag_put, tag_put_does, tag_names_does, tag_ranges_does, tag_delete_does, tag_does};
 
-use crate::answers::{all_spelled, edges, flags_of, tag_names, tags_on};
+use crate::answers::{all_spelled, edges, tag_names, tags_on};
 use crate::lines::TextWidget;
 use tks_list::join;
 use tks_opt::{Said, wrong_words};
@@ -70,9 +70,8 @@ impl TextWidget {
     {
         match words {
             [name] => {
-                let places = edges(self.alloc, flags_of(name, self.tags.as_slice()))?;
-                let text = self.text.lined(self.alloc)?;
-                let all = all_spelled(self.alloc, &text, places.as_slice())?;
+                let places = edges(self.alloc, name, self.tags.as_slice())?;
+                let all = all_spelled(self.alloc, &self.text, places.as_slice())?;
                 Ok(Said::Text(join(self.alloc, all.as_slice())?))
             }
             _ => Err(wrong_words(path)),
@@ -91,6 +90,27 @@ impl TextWidget {
                 self.delete_tags(words)?;
                 Ok(self.nothing())
             }
+        }
+    }
+
+    // `tag` with the words behind it, where it only tells something.
+    pub(crate) fn told_tag(&self, path: &Txt, words: &[Txt]) -> Option<Result<Said, Failure>>
+        ensures { IfSome result (λ r. Gives (λ said. (said, self.now)) r (tag_does path.now words.now self.now)) }
+    {
+        let Some((name, rest)) = words.split_first() else {
+            return None;
+        };
+        let subcommand = name.as_bytes();
+        if subcommand == b"add".as_slice() {
+            None
+        } else if subcommand == b"remove".as_slice() {
+            None
+        } else if subcommand == b"names".as_slice() {
+            Some(self.tag_names_words(path, rest))
+        } else if subcommand == b"ranges".as_slice() {
+            Some(self.tag_ranges_words(path, rest))
+        } else {
+            None
         }
     }
 

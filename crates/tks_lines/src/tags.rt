@@ -37,7 +37,6 @@ fn grown(
     value: bool,
     tag: &Tag,
 ) -> Result<Tag, AllocError>
-    requires { count < 2 ^ 63 }
     ensures { IfOk result (λ g. g ≡ grown place count value tag.now) }
 {
     Ok(Tag {
@@ -57,12 +56,12 @@ fn shrunk(alloc: Global, first: usize, last: usize, tag: &Tag) -> Result<Tag, Al
 }
 
 // An equal tag.
-fn copy(tag: &Tag) -> Result<Tag, AllocError>
+fn copy(alloc: Global, tag: &Tag) -> Result<Tag, AllocError>
     ensures { IfOk result (λ g. g ≡ tag.now) }
 {
     Ok(Tag {
         name: tag.name.try_clone()?,
-        on: tag.on.try_clone()?,
+        on: tag.on.try_clone(alloc)?,
     })
 }
 
@@ -78,7 +77,7 @@ fn tagged(
     ensures { IfOk result (λ g. g ≡ tagged value name.now first last tag.now) }
 {
     if tag.name.as_bytes() != name.as_bytes() {
-        let tag = copy(tag)?;
+        let tag = copy(alloc, tag)?;
         return Ok(tag);
     }
     Ok(Tag {
@@ -94,7 +93,6 @@ pub(crate) fn all_grown_around(
     place: usize,
     count: usize,
 ) -> Result<Seq<Tag>, AllocError>
-    requires { count < 2 ^ 63 }
     ensures { IfOk result (λ all. all ≡ map (λ g. grown place count (is_around place g) g) tags.now) }
 {
     let mut all = Seq::new(alloc);
@@ -112,7 +110,6 @@ pub(crate) fn all_grown_among(
     count: usize,
     names: &[Txt],
 ) -> Result<Seq<Tag>, AllocError>
-    requires { count < 2 ^ 63 }
     ensures { IfOk result (λ all. all ≡ map (λ g. grown place count (is_among names.now g) g) tags.now) }
 {
     let mut all = Seq::new(alloc);
@@ -167,7 +164,7 @@ pub(crate) fn without_tags(
     let mut all = Seq::new(alloc);
     for tag in tags {
         if !is_listed(&tag.name, names) {
-            all.push(copy(tag)?)?;
+            all.push(copy(alloc, tag)?)?;
         }
     }
     Ok(all)
@@ -179,7 +176,7 @@ pub(crate) fn copied(alloc: Global, tags: &[Tag]) -> Result<Seq<Tag>, AllocError
 {
     let mut all = Seq::new(alloc);
     for tag in tags {
-        all.push(copy(tag)?)?;
+        all.push(copy(alloc, tag)?)?;
     }
     Ok(all)
 }

@@ -1,5 +1,6 @@
 mod Places
+mod Among
 mod Staying
 mod Round
 mod Rising
-mod Whole
+pub mod Whole

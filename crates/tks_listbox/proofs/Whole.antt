@@ -1,17 +1,18 @@
--- Parts of a list that are asked for further than it goes, and the rows that are seen.
-use Rattle.std.proofs.Common.{◌≡◌, ℕ, ◌<◌, List, [], length, take, drop, arith}
-use Rattle.std.proofs.lemmas.List.{take_all, drop_all}
-use Rattle.tks_opt.specs.Cells.{line_cell, rows}
-use Rattle.tks_listbox.specs.Listbox.{Listbox}
-use Rattle.tks_listbox.specs.Shown.{top, text_of, row_from, shown}
-use Rattle.tks_listbox.proofs.Places.{got_behind}
+-- Items far behind the last.
+use Rattle.std.proofs.Common.{◌≡◌, ℕ, zero, suc, ◌-◌, ◌^◌, ◌<◌, ◌≤◌, min, List, [], ◌∷◌, length, None, refl, ap, sym, ◌∙◌, ◌⊎◌, inl, inr, arith}
+use Rattle.std.specs.Prelude.{slice_get}
+use Rattle.std.proofs.lemmas.Bool.{cases_lt}
 
-pub take_past : {X : Type 0} (n : ℕ) (xs : List X) → length xs < n → take n xs ≡ xs
-take_past n xs h = take_all n xs (omega arith)
+got_past : {X : Type 0} (xs : List X) (i : ℕ) → length xs ≤ i → slice_get xs i ≡ None
+got_past [] zero h = refl
+got_past [] (suc i) h = refl
+got_past (x ∷ xs) zero h = absurd (omega arith)
+got_past (x ∷ xs) (suc i) h = got_past xs i (omega arith)
 
-pub drop_past : {X : Type 0} (n : ℕ) (xs : List X) → length xs < n → drop n xs ≡ []
-drop_past n xs h = drop_all n xs (omega arith)
-
--- the rows of what stands from the first that is seen on
-pub rows_seen : (l : Listbox) (width height : ℕ) → rows (row_from (drop (top l) l.items)) width height ≡ shown l width height
-rows_seen l width height = λ i. rows (λ x y. line_cell (text_of (got_behind (top l) l.items y i)) 0 x) width height
+-- a place that is cut to 64 bits has the same item, or none
+pub got_cut : {X : Type 0} (xs : List X) (i : ℕ) → length xs < 2 ^ 32 → slice_get xs (min i (2 ^ 64 - 1)) ≡ slice_get xs i
+got_cut xs i short = by (cases_lt (2 ^ 64 - 1) i)
+  where
+    by : (2 ^ 64 - 1 < i) ⊎ (i ≤ 2 ^ 64 - 1) → slice_get xs (min i (2 ^ 64 - 1)) ≡ slice_get xs i
+    by (inl far) = got_past xs (min i (2 ^ 64 - 1)) (omega arith) ∙ sym (got_past xs i (omega arith))
+    by (inr near) = let same : min i (2 ^ 64 - 1) ≡ i = omega arith in ap (slice_get xs) same

@@ -38,10 +38,10 @@ abbrev pub text_of : Option Item → List ℕ
 text_of None = []
 text_of (Some item) = item.text
 
--- an item in each row, from its first character on
-abbrev pub row_from : List Item → ℕ → ℕ → ℕ
-row_from items x y = line_cell (text_of (slice_get items y)) 0 x
+-- an item in each row, those from one on, each from its first character on
+abbrev pub row_from : List Item → ℕ → ℕ → ℕ → ℕ
+row_from items first x y = line_cell (text_of (slice_get items (first + y))) 0 x
 
 -- those from the first one that is seen on
 abbrev pub shown : Listbox → ℕ → ℕ → List (List ℕ)
-shown l width height = rows (λ x y. line_cell (text_of (slice_get l.items (top l + y))) 0 x) width height
+shown l width height = rows (row_from l.items (top l)) width height

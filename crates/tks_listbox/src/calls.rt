@@ -1,5 +1,5 @@
 //! The subcommands of a listbox.
-ghost use Rattle.std.specs.Prelude.{◌≡◌, ◌<◌, ◌^◌, option_map, IfOk, OnOk, OnErr, []};
+ghost use Rattle.std.specs.Prelude.{◌≡◌, ◌<◌, ◌^◌, option_map, IfOk, IfSome, OnOk, OnErr, []};
 ghost use Rattle.tks_list.specs.Quoting.{joined};
 ghost use Rattle.tks_listbox.specs.Shown.{text_of};
 ghost use Rattle.tks_opt.specs.declared.said.Said.TheVariants as said;
@@ -9,11 +9,12 @@ ghost use Rattle.tks_listbox.specs.Listbox.{item_at};
 ghost use Rattle.tks_listbox.specs.Commands.{row_read, deleted_between, texts_between, nearest_to, selected_between, truth, insert_does, delete_does, get_does, size_does, index_does, activate_does, nearest_does, select_does, includes_does, selection_does, curselection_does, other_does, listbox_does, called};
 
 use crate::item::Item;
-use crate::items::{among, selected_texts, texts_of};
+use crate::items::{selected_texts, texts_among};
 use crate::listbox::{ListWidget, behind_of, front_of, rounded};
 use std::alloc::AllocError;
 use tks_list::join;
 use tks_opt::{Said, too_few_words, wrong_words};
+use tks_share::SharedList;
 use tks_text::{ErrorNumber, Failure, ScriptFault, Txt, decimal_of, integer_of};
 
 // A number of a row.
@@ -31,7 +32,7 @@ fn row_read(word: &Txt) -> Result<i64, Failure>
 }
 
 // The item in a place, if there is one.
-fn item_at(number: i64, items: &[Item]) -> Option<&Item>
+fn item_at(number: i64, items: &SharedList<Item>) -> Option<&Item>
     ensures { option_map (λ i. i.now) result ≡ item_at number items.now }
 {
     if number < 0 {
@@ -101,11 +102,8 @@ impl ListWidget {
     fn texts_between(&self, first: i64, last: i64) -> Result<Txt, AllocError>
         ensures { IfOk result (λ t. t ≡ joined (texts_between first last self.now.items)) }
     {
-        let items = self.items.as_slice();
-        let texts = texts_of(
-            self.alloc,
-            among(items, front_of(first), behind_of(last, items.len())),
-        )?;
+        let behind = behind_of(last, self.len());
+        let texts = texts_among(self.alloc, &self.items, front_of(first), behind)?;
         let text = join(self.alloc, texts.as_slice())?;
         Ok(text)
     }
@@ -114,7 +112,7 @@ impl ListWidget {
     fn text_at(&self, place: i64) -> Result<Txt, AllocError>
         ensures { IfOk result (λ t. t ≡ text_of (item_at place self.now.items)) }
     {
-        match item_at(place, self.items.as_slice()) {
+        match item_at(place, &self.items) {
             Some(item) => item.text.try_clone(),
             None => Ok(Txt::new(self.alloc)),
         }
@@ -246,7 +244,7 @@ impl ListWidget {
         match words {
             [index] => {
                 let place = self.item_index(index)?;
-                let on = match item_at(place, self.items.as_slice()) {
+                let on = match item_at(place, &self.items) {
                     Some(item) => item.is_selected,
                     None => false,
                 };
@@ -284,7 +282,7 @@ impl ListWidget {
     {
         match words {
             [] => {
-                let places = selected_texts(self.alloc, self.items.as_slice())?;
+                let places = selected_texts(self.alloc, &self.items)?;
                 Ok(Said::Text(join(self.alloc, places.as_slice())?))
             }
             _ => Err(wrong_words(path)),
@@ -308,6 +306,74 @@ impl ListWidget {
             self.options.subcommand(path, name, words)?
         };
         Ok(said)
+    }
+
+    // `selection`, with the words behind it, where it only tells something.
+    fn told_selection(&self, path: &Txt, words: &[Txt]) -> Option<Result<Said, Failure>>
+        ensures { IfSome result (λ r. Gives (λ said. (said, self.now)) r (selection_does path.now words.now self.now)) }
+    {
+        let Some((name, rest)) = words.split_first() else {
+            return None;
+        };
+        let name = name.as_bytes();
+        if name == b"set".as_slice() {
+            None
+        } else if name == b"clear".as_slice() {
+            None
+        } else if name == b"includes".as_slice() {
+            Some(self.includes_words(path, rest))
+        } else {
+            None
+        }
+    }
+
+    // `nearest`, or one on the selection, where it only tells something.
+    fn told_other(&self, path: &Txt, name: &Txt, words: &[Txt]) -> Option<Result<Said, Failure>>
+        ensures { IfSome result (λ r. Gives (λ said. (said, self.now)) r (other_does path.now name.now words.now self.now)) }
+    {
+        let subcommand = name.as_bytes();
+        if subcommand == b"nearest".as_slice() {
+            Some(self.nearest_words(path, words))
+        } else if subcommand == b"selection".as_slice() {
+            self.told_selection(path, words)
+        } else if subcommand == b"curselection".as_slice() {
+            Some(self.curselection_words(path, words))
+        } else {
+            None
+        }
+    }
+
+    // A subcommand that only tells something, with the words behind it. The names come in the order of `listbox_does`.
+    fn told(&self, path: &Txt, name: &Txt, words: &[Txt]) -> Option<Result<Said, Failure>>
+        ensures { IfSome result (λ r. Gives (λ said. (said, self.now)) r (listbox_does path.now name.now words.now self.now)) }
+    {
+        let subcommand = name.as_bytes();
+        if subcommand == b"insert".as_slice() {
+            None
+        } else if subcommand == b"delete".as_slice() {
+            None
+        } else if subcommand == b"get".as_slice() {
+            Some(self.get_words(path, words))
+        } else if subcommand == b"size".as_slice() {
+            Some(self.size_words(path, words))
+        } else if subcommand == b"index".as_slice() {
+            Some(self.index_words(path, words))
+        } else if subcommand == b"activate".as_slice() {
+            None
+        } else {
+            self.told_other(path, name, words)
+        }
+    }
+
+    /// What the words of a whole command come to where it changes nothing, the listbox's path first: `get`, `size`,
+    /// `index`, `nearest`, `selection includes` and `curselection`, each what `call` answers. None for other subcommands.
+    pub fn tell(&self, words: &[Txt]) -> Option<Result<Said, Failure>>
+        ensures { IfSome result (λ r. Gives (λ said. (said, self.now)) r (called self.now words.now)) }
+    {
+        let [path, name, rest @ ..] = words else {
+            return None;
+        };
+        self.told(path, name, rest)
     }
 
     // A subcommand with the words behind it.

@@ -32,14 +32,4 @@ impl Item {
             is_selected: on,
         })
     }
-
-    /// An equal item.
-    pub fn try_clone(&self) -> Result<Item, AllocError>
-        ensures { IfOk result (λ item. item ≡ self.now) }
-    {
-        Ok(Item {
-            text: self.text.try_clone()?,
-            is_selected: self.is_selected,
-        })
-    }
 }

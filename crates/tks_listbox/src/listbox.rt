@@ -8,17 +8,18 @@ ghost use Rattle.tks_listbox.specs.Listbox.{first_listbox, HasActive, has_active
 ghost use Rattle.tks_listbox.specs.Commands.{behind_index, item_index};
 
 use crate::item::Item;
-use crate::items::{copies, turned_in, with_new, without};
+use crate::items::{insert_new, remove_among, turn_among};
 use std::alloc::{AllocError, Global};
 use std::marker::Model;
 use tks_opt::Options;
-use tks_text::{Class, ErrorNumber, Failure, ScriptFault, Seq, Txt, integer_of};
+use tks_share::SharedList;
+use tks_text::{Class, ErrorNumber, Failure, ScriptFault, Txt, integer_of};
 
 /// A listbox (listbox(n)): items, one of which is active, and each of which is selected or not.
 pub struct ListWidget {
     pub(crate) alloc: Global,
     pub(crate) options: Options,
-    pub(crate) items: Seq<Item>,
+    pub(crate) items: SharedList<Item>,
     active: usize,
 }
 
@@ -47,7 +48,7 @@ impl Model for ListWidget {
 }
 
 // Whether the active item may be the one in a place.
-fn has_active(items: &Seq<Item>, active: usize) -> bool
+fn has_active(items: &SharedList<Item>, active: usize) -> bool
     ensures { result ≡ has_active items.now active }
 {
     active < items.len().max(1)
@@ -128,7 +129,7 @@ impl ListWidget {
         Ok(ListWidget {
             alloc,
             options,
-            items: Seq::new(alloc),
+            items: SharedList::new(alloc),
             active: 0,
         })
     }
@@ -139,7 +140,7 @@ impl ListWidget {
     pub fn restore(
         alloc: Global,
         options: Options,
-        items: Seq<Item>,
+        items: SharedList<Item>,
         active: usize,
     ) -> Option<ListWidget>
         ensures { result ≡ restored options items active }
@@ -167,11 +168,12 @@ impl ListWidget {
     }
 
     /// Its items.
-    pub fn items(&self) -> &[Item]
+    pub fn items(&self) -> &SharedList<Item>
         ensures value { result.now ≡ self.now.items }
         ensures short { IsShort self.now.items }
     {
-        self.items.as_slice()
+        let _len = self.items.len();
+        &self.items
     }
 
     /// The place of the active item, one of them; 0 where there is none.
@@ -188,7 +190,7 @@ impl ListWidget {
         ensures value { result ≡ length self.now.items }
         ensures bound { result < 2 ^ 63 }
     {
-        self.items.as_slice().len()
+        self.items.len()
     }
 
     // What an index says, where `end` is this.
@@ -240,7 +242,8 @@ impl ListWidget {
             return Ok(());
         }
         let len = self.len();
-        let items = with_new(self.alloc, self.items.as_slice(), place, texts)?;
+        let mut items = self.items.share()?;
+        insert_new(&mut items, place, texts)?;
         self.active = moved_on(len, place, texts.len(), self.active());
         self.items = items;
         Ok(())
@@ -257,7 +260,8 @@ impl ListWidget {
             return Ok(());
         }
         let len = self.len();
-        let items = without(self.alloc, self.items.as_slice(), front, behind)?;
+        let mut items = self.items.share()?;
+        remove_among(self.alloc, &mut items, front, behind)?;
         self.active = moved_back(front, behind, len, self.active);
         self.items = items;
         Ok(())
@@ -280,7 +284,9 @@ impl ListWidget {
         if !self.options.is_editable() {
             return Ok(());
         }
-        self.items = turned_in(self.alloc, self.items.as_slice(), on, front, behind)?;
+        let mut items = self.items.share()?;
+        turn_among(&mut items, on, front, behind)?;
+        self.items = items;
         Ok(())
     }
 
@@ -303,7 +309,7 @@ impl ListWidget {
         Ok(ListWidget {
             alloc: self.alloc,
             options: self.options.try_clone()?,
-            items: copies(self.alloc, self.items.as_slice())?,
+            items: self.items.share()?,
             active: self.active,
         })
     }

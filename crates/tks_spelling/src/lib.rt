@@ -4,6 +4,7 @@
 mod fault;
 mod header;
 mod input;
+mod items;
 mod laws;
 mod lengths;
 mod member;
@@ -16,6 +17,7 @@ pub mod writing;
 pub use fault::CodecFault;
 pub use header::{Header, read_header, write_header};
 pub use input::{read_input, write_input};
+pub use items::{items_length, put_items};
 pub use laws::{one_header, one_input, two_inputs};
 pub use lengths::{MAX_SIDE, text_length, within_side};
 pub use member::{Following, Members, list_by, list_length, list_of, put_list};

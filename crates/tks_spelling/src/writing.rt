@@ -1,7 +1,9 @@
 //! Writers of single values. Each adds a value's spelling to the bytes.
 
-ghost use Rattle.std.specs.Prelude.{◌≡◌, ◌∷◌, [], OnOk};
+ghost use Rattle.std.specs.Prelude.{◌≡◌, ◌∷◌, ◌++◌, [], OnOk};
 ghost use Rattle.std.specs.Int.{w16, w32, w64, to_be_bytes};
+ghost use Rattle.tks_text.specs.Text.{IsText};
+ghost use Rattle.tks_text.specs.Short.{IsShort};
 ghost use Rattle.tks_spelling.specs.Spelling.{flag_of, flag, signed};
 ghost use Rattle.tks_spelling.specs.Spelling as spellings;
 ghost use Rattle.tks_spelling.specs.Writing.{PutsSo};
@@ -90,5 +92,19 @@ pub fn put_text(out: &mut Vec<u8>, text: &Txt) -> Result<(), AllocError>
     let bytes = text.as_bytes();
     put_u32(out, bytes.len() as u32)?;
     put(out, bytes)?;
+    Ok(())
+}
+
+/// Adds a text that stands in two pieces, one behind the other.
+#[tactic(auto, using(crate::proofs::Puts::still, crate::proofs::Puts::put_behind, tks_text::proofs::Texts::text_append))]
+pub fn put_pieces(out: &mut Vec<u8>, front: &[u8], behind: &[u8]) -> Result<(), AllocError>
+    requires short { IsShort (front.now ++ behind.now) }
+    requires text { IsText front.now × IsText behind.now }
+    ensures puts { PutsSo result out.old.items out.new.items (spellings.text.write (front.now ++ behind.now)) }
+    ensures legal { OnOk result (spellings.text.Legal (front.now ++ behind.now)) }
+{
+    put_u32(out, (front.len() + behind.len()) as u32)?;
+    put(out, front)?;
+    put(out, behind)?;
     Ok(())
 }

@@ -5,4 +5,4 @@ use Rattle.tks_listbox.proofs.shown.rows_of.Given as goal
 
 -- the rows so far
 abbrev pub invariant-loop-index : goal.invariant-loop-index
-invariant-loop-index l = l.cells ≡ rows (row_from l.items) l.width l.index
+invariant-loop-index l = l.cells ≡ rows (row_from l.items l.first) l.width l.index
