@@ -1,2 +1,2 @@
+mod Changing
 mod Painting
-mod Lines

@@ -11,7 +11,7 @@ use tks_text::{Seq, Size};
 #[derive(Drop)]
 pub struct Grid {
     size: Size,
-    rows: Seq<Seq<u8>>,
+    rows: Vec<Seq<u8>>,
 }
 
 impl Model for Grid {
@@ -19,7 +19,7 @@ impl Model for Grid {
 
     ghost Value = { Picture };
 
-    ghost view = { λ g. record { size = g.size; rows = g.rows } };
+    ghost view = { λ g. record { size = g.size; rows = g.rows.items } };
 }
 
 impl Grid {
@@ -28,7 +28,10 @@ impl Grid {
         ensures { IfOk result (λ g. g ≡ blank size) }
     {
         let rows = blank_rows(alloc, usize::from(size.width()), usize::from(size.height()))?;
-        Ok(Grid { size, rows })
+        Ok(Grid {
+            size,
+            rows: rows.into_items(),
+        })
     }
 
     /// How many cells it has in a row, and how many rows.
@@ -46,8 +49,8 @@ impl Grid {
     }
 
     // Shows these rows from now on.
-    pub(crate) fn set_rows(&mut self, rows: Seq<Seq<u8>>)
-        ensures { self.new ≡ record self.old { rows = rows } }
+    pub(crate) fn set_rows(&mut self, rows: Vec<Seq<u8>>)
+        ensures { self.new ≡ record self.old { rows = rows.items } }
     {
         self.rows = rows;
     }

@@ -1,15 +1,14 @@
-//! What each window that is shown shows, and where.
-ghost use Rattle.std.specs.Prelude.{◌≡◌, map, IfOk};
-ghost use Rattle.tks_opt.specs.Cells.{row, rows};
-ghost use Rattle.tks_state.specs.Layout.{shown_windows};
+//! What the windows that are shown show, painted one over the other.
+ghost use Rattle.std.specs.Prelude.{◌≡◌, ◌≤◌, ◌<◌, ◌+◌, IfOk};
+ghost use Rattle.tks_opt.specs.Cells.{rows};
 ghost use Rattle.tks_screen.specs.Screen.{cell_in, rows_of, character};
-ghost use Rattle.tks_screen.specs.Panes.{pane_of, over_row, drawn};
+ghost use Rattle.tks_screen.specs.Panes.{pane_of, over_row, over_rows};
 
 use std::alloc::{AllocError, Global};
-use tks_opt::blank_row;
+use tks_opt::blank_rows;
 use tks_pack::Area;
 use tks_state::{Placed, World};
-use tks_text::Seq;
+use tks_text::{Seq, Size};
 
 /// What a window shows, and its cells on the grid.
 #[derive(Drop)]
@@ -47,60 +46,50 @@ fn rows_of(alloc: Global, world: &World, placed: &Placed) -> Result<Seq<Seq<u8>>
     Ok(cells)
 }
 
-/// What each window that is shown shows, in drawing order.
-pub fn panes_of(alloc: Global, world: &World) -> Result<Vec<Pane>, AllocError>
-    ensures { IfOk result (λ panes. panes.items ≡ map (pane_of world.now.variables world.now.kept) (shown_windows world.now)) }
+// A window that is shown, with what it shows.
+fn pane_of(alloc: Global, world: &World, placed: &Placed) -> Result<Pane, AllocError>
+    ensures { IfOk result (λ pane. pane ≡ pane_of world.now.variables world.now.kept placed.now) }
 {
-    let shown = world.shown_windows()?;
-    let mut panes = Vec::with_capacity(alloc, shown.len())?;
-    for placed in &shown {
-        panes.push(Pane {
-            area: placed.area,
-            rows: rows_of(alloc, world, placed)?,
-        })?;
-    }
-    Ok(panes)
+    Ok(Pane {
+        area: placed.area,
+        rows: rows_of(alloc, world, placed)?,
+    })
 }
 
-// Paints what a pane shows in a line of the grid over the cells of that line.
-fn paint_line(cells: &mut Seq<u8>, pane: &Pane, line: u32)
+// Paints the cells of a pane in one of its lines over those of that line of the grid.
+fn paint_line(cells: &mut Seq<u8>, pane: &Pane, line: usize)
+    requires { (pane.now.area.y ≤ line) × (line < pane.now.area.y + pane.now.area.height) }
     ensures { cells.new ≡ over_row pane.now line cells.old }
 {
-    let area = &pane.area;
-    if line < area.y || line - area.y >= area.height {
-        return;
-    }
-    let down = (line - area.y) as usize;
-    let left = area.x as usize;
-    let right = (left + area.width as usize).min(cells.len());
+    let down = line - pane.area.y as usize;
+    let left = pane.area.x as usize;
+    let right = (left + pane.area.width as usize).min(cells.len());
     for column in left..right {
         cells.set(column, cell_in(pane.rows.as_slice(), column - left, down));
     }
 }
 
-// A row of the grid: the panes painted in order.
-fn draw_row(alloc: Global, panes: &[Pane], width: u16, line: u32) -> Result<Seq<u8>, AllocError>
-    ensures { IfOk result (λ cells. cells ≡ row (λ x. drawn panes.now x line) width) }
+// Paints the cells of a pane over those of the grid.
+fn paint(cells: &mut Vec<Seq<u8>>, pane: &Pane)
+    ensures { cells.new.items ≡ over_rows pane.now cells.old.items }
 {
-    let mut cells = blank_row(alloc, usize::from(width))?;
-    for pane in panes {
-        paint_line(&mut cells, pane, line);
+    let top = pane.area.y as usize;
+    let bottom = (top + pane.area.height as usize).min(cells.len());
+    for line in top..bottom {
+        paint_line(&mut cells[line], pane, line);
     }
-    Ok(cells)
 }
 
-/// So many rows of a grid.
-pub fn draw_rows(
-    alloc: Global,
-    panes: &[Pane],
-    width: u16,
-    height: u16,
-) -> Result<Seq<Seq<u8>>, AllocError>
-    ensures { IfOk result (λ cells. cells ≡ rows (drawn panes.now) width height) }
+/// The rows of a grid on which the windows that are shown were painted in drawing order, each over what is below it.
+pub fn painted_rows(alloc: Global, world: &World, size: Size) -> Result<Vec<Seq<u8>>, AllocError>
+    ensures { IfOk result (λ cells. cells.items ≡ rows (character world.now) size.width size.height) }
 {
-    let mut cells = Seq::new(alloc);
-    for line in 0..u32::from(height) {
-        cells.push(draw_row(alloc, panes, width, line)?)?;
+    let shown = world.shown_windows()?;
+    let blank = blank_rows(alloc, usize::from(size.width()), usize::from(size.height()))?;
+    let mut cells = blank.into_items();
+    for placed in &shown {
+        let pane = pane_of(alloc, world, placed)?;
+        paint(&mut cells, &pane);
     }
     Ok(cells)
 }

@@ -1,24 +1,13 @@
 //! The screen: what each cell shows, and which window is on top there.
 ghost use Rattle.std.specs.Prelude.{◌≡◌, OnOk, OnErr, IfOk, option_map};
 ghost use Rattle.tks_state.specs.Layout.{topmost};
-ghost use Rattle.tks_opt.specs.Cells.{rows};
-ghost use Rattle.tks_screen.specs.Screen.{character, shown};
+ghost use Rattle.tks_screen.specs.Screen.{shown};
 
 use crate::grid::Grid;
-use crate::pane::{draw_rows, panes_of};
+use crate::pane::painted_rows;
 use std::alloc::{AllocError, Global};
 use tks_state::World;
-use tks_text::{Seq, Size};
 use tks_tree::WindowId;
-
-// What the screen shows in so many cells.
-fn shown_rows(alloc: Global, world: &World, size: Size) -> Result<Seq<Seq<u8>>, AllocError>
-    ensures { IfOk result (λ cells. cells ≡ rows (character world.now) size.width size.height) }
-{
-    let panes = panes_of(alloc, world)?;
-    let cells = draw_rows(alloc, &panes, size.width(), size.height())?;
-    Ok(cells)
-}
 
 /// Leaves in a grid what the screen shows: in each cell the character of the last window in drawing order that
 /// covers it. Where memory is refused, the grid is as it was.
@@ -27,7 +16,7 @@ pub fn dump(alloc: Global, world: &World, grid: &mut Grid) -> Result<(), AllocEr
     ensures ok { OnOk result (grid.new ≡ record grid.old { rows = shown world.now }) }
     ensures err { OnErr result (grid.new ≡ grid.old) }
 {
-    let rows = shown_rows(alloc, world, grid.size())?;
+    let rows = painted_rows(alloc, world, grid.size())?;
     grid.set_rows(rows);
     Ok(())
 }
