@@ -2,6 +2,7 @@
 
 use crate::text::{push_fault, push_text};
 use std::alloc::Global;
+use tks_share::Share;
 use tks_text::{Failure, Seq, Txt, decimal_of};
 use tks_vars::{Parameter, Procedure, Vars};
 
@@ -78,8 +79,8 @@ impl Calls {
     ) -> Result<bool, Failure> {
         match call {
             "new" => self.variables = Vars::new(alloc),
-            "copy" => self.copy = self.variables.try_clone()?,
-            "back" => self.variables = self.copy.try_clone()?,
+            "copy" => self.copy = self.variables.share()?,
+            "back" => self.variables = self.copy.share()?,
             "set" => self.variables.set(name, &value)?,
             "set global" => self.variables.set_global(name, &value)?,
             "unset" => self.variables.unset(name)?,

@@ -47,14 +47,13 @@ fn tags(alloc: Global, first: &str, second: &str, len: usize) -> Option<Seq<Tag>
 // The text widget with the characters `abc`, these tags and these marks.
 fn made(alloc: Global, class: Class, tags: Seq<Tag>, marks: Seq<Mark>) -> Option<TextWidget> {
     let options = Options::new(alloc, class, &text(alloc, ".a")?).ok()?;
-    TextWidget::restore(alloc, options, text(alloc, "abc")?, tags, marks)
+    TextWidget::restore(alloc, options, text(alloc, "abc")?, tags, marks).ok()?
 }
 
 // Whether the first tag of a text widget is on its second character alone.
-fn first_is_on_second(alloc: Global, widget: &TextWidget) -> Option<bool> {
+fn first_is_on_second(widget: &TextWidget) -> Option<bool> {
     let tag = widget.tags().first()?;
-    let ranges = tag.on.ranges(alloc).ok()?;
-    match ranges.as_slice() {
+    match tag.on.ranges() {
         [range] => Some(range.first == 1 && range.last == 2 && tag.on.len() == 3),
         _ => Some(false),
     }
@@ -66,7 +65,7 @@ fn is_restored(alloc: Global) -> Option<bool> {
     let marks = marks(alloc, "insert", "m", 3)?;
     let widget = made(alloc, Class::Text, tags, marks)?;
     let all = widget.tags().len() == 2 && widget.marks().len() == 2;
-    Some(all && first_is_on_second(alloc, &widget)?)
+    Some(all && first_is_on_second(&widget)?)
 }
 
 // Whether one is made with tags of these names, for a text of so many characters.

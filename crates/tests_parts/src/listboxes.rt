@@ -4,11 +4,12 @@ use crate::texts::text;
 use std::alloc::Global;
 use tks_listbox::{Item, ListWidget};
 use tks_opt::Options;
-use tks_text::{Class, Seq};
+use tks_share::SharedList;
+use tks_text::Class;
 
 // The items `a` and, selected, `b`.
-fn two_items(alloc: Global) -> Option<Seq<Item>> {
-    let mut items = Seq::new(alloc);
+fn two_items(alloc: Global) -> Option<SharedList<Item>> {
+    let mut items = SharedList::new(alloc);
     let first = Item {
         text: text(alloc, "a")?,
         is_selected: false,
@@ -23,16 +24,20 @@ fn two_items(alloc: Global) -> Option<Seq<Item>> {
 }
 
 // The listbox of a class's first options, these items, and an active one.
-fn made(alloc: Global, class: Class, items: Seq<Item>, active: usize) -> Option<ListWidget> {
+fn made(alloc: Global, class: Class, items: SharedList<Item>, active: usize) -> Option<ListWidget> {
     let options = Options::new(alloc, class, &text(alloc, ".a")?).ok()?;
     ListWidget::restore(alloc, options, items, active)
 }
 
 // Whether a listbox keeps two items, which is selected, and the active one.
 fn is_kept(listbox: &ListWidget) -> bool {
-    match listbox.items() {
-        [first, second] => {
-            !first.is_selected && second.is_selected && second.text.as_bytes() == b"b".as_slice()
+    let items = listbox.items();
+    match (items.get(0), items.get(1)) {
+        (Some(first), Some(second)) => {
+            items.len() == 2
+                && !first.is_selected
+                && second.is_selected
+                && second.text.as_bytes() == b"b".as_slice()
         }
         _ => false,
     }
@@ -51,7 +56,7 @@ fn is_made(alloc: Global, class: Class, active: usize) -> Option<bool> {
 
 // Whether a listbox without items is made with an active place.
 fn is_made_empty(alloc: Global, active: usize) -> bool {
-    made(alloc, Class::Listbox, Seq::new(alloc), active).is_some()
+    made(alloc, Class::Listbox, SharedList::new(alloc), active).is_some()
 }
 
 #[test]

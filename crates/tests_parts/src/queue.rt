@@ -4,6 +4,7 @@ use crate::plain_queue::{PlainQueue, has_letter, put_letter, queue_call_agrees};
 use std::alloc::Global;
 use tests_disk::Dice;
 use tks_queue::{Place, Queue};
+use tks_share::Share;
 
 #[test]
 fn the_queue_does_what_a_plain_list_does(rt: HostRuntime) {

@@ -28,7 +28,7 @@ impl Keys {
             tag: Txt::from_bytes(alloc, b"all").ok()?,
             bindings: Bindings::new(alloc),
             virtuals: Virtuals::new(alloc),
-            history: History::new(alloc),
+            history: History::new(alloc).ok()?,
         })
     }
 

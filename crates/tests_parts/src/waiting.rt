@@ -5,6 +5,7 @@ use crate::texts::text_of_bytes as text;
 use crate::trial::call_agrees;
 use std::alloc::Global;
 use tests_disk::Dice;
+use tks_share::Share;
 use tks_text::{ErrorNumber, Failure, Txt};
 use tks_timer::{Timers, Waiting};
 

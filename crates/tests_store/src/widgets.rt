@@ -54,7 +54,7 @@ fn lines_again(alloc: Global, bytes: &[u8]) -> Option<Vec<u8>> {
     };
     let (widget, _) = lines_of(alloc, options, bytes).ok()?;
     let mut out = Vec::new(alloc);
-    put_lines(alloc, &mut out, &widget).ok()?;
+    put_lines(&mut out, &widget).ok()?;
     Some(out)
 }
 

@@ -1,6 +1,7 @@
 //! The order of the focus, and the numbers of windows.
 
 use std::alloc::Global;
+use tks_share::Share;
 use tks_text::{Class, Txt};
 use tks_tree::{Tree, WindowId};
 
@@ -96,7 +97,7 @@ fn has_two(tree: &Tree) -> Option<bool> {
 
 // The number of such a window, on a tree whose copy keeps its two.
 fn number_beside_copy(alloc: Global, tree: &mut Tree) -> Option<u64> {
-    let copy = tree.try_clone().ok()?;
+    let copy = tree.share().ok()?;
     let number = made_anew(alloc, tree);
     if has_two(&copy) == Some(true) && has_two(tree) == Some(true) {
         number

@@ -6,6 +6,7 @@ use tks_app::Apps;
 use tks_cmd::command;
 use tks_eval::Plan;
 use tks_limits::is_within;
+use tks_share::{Marked, Share};
 use tks_tcl::Stop;
 use tks_text::{Limits, Size, Txt};
 use tks_vars::Vars;
@@ -95,7 +96,7 @@ fn limits_are_kept(rt: HostRuntime) {
     assert_eq!(rt; differing(alloc, &mut world, &short, &rows), "none");
 }
 
-// What words with spaces between them come to, in the form of a row.
+// What words with spaces between them come to, in the form of a row; where they pass a limit, the world goes back, as a step does.
 fn command_answer(alloc: Global, world: &mut World, limits: &Limits, row: &str) -> Option<Vec<u8>> {
     let mut words = Vec::new(alloc);
     for word in row.split(' ') {
@@ -103,6 +104,7 @@ fn command_answer(alloc: Global, world: &mut World, limits: &Limits, row: &str) 
         words.push(text).ok()?;
     }
     let mut variables = Vars::new(alloc);
+    let mark = world.mark().ok()?;
     match command(alloc, world, &mut variables, words.as_slice(), limits) {
         Ok(Some(Plan::Answer(code, text))) => {
             let reply = Reply {
@@ -112,7 +114,10 @@ fn command_answer(alloc: Global, world: &mut World, limits: &Limits, row: &str) 
             };
             shown(alloc, &reply)
         }
-        Err(Stop::TooLarge) => Vec::from_slice(alloc, b"large").ok(),
+        Err(Stop::TooLarge) => {
+            world.back_to(mark);
+            Vec::from_slice(alloc, b"large").ok()
+        }
         _ => None,
     }
 }
@@ -243,7 +248,7 @@ fn go_their_ways(alloc: Global, world: &mut World, copy: &mut World) -> bool {
 
 // Whether the copy of a world in which `x` is 5 goes its own way.
 fn parts_from_its_copy(alloc: Global, world: &mut World) -> Option<bool> {
-    let mut copy = world.try_clone().ok()?;
+    let mut copy = world.share().ok()?;
     Some(go_their_ways(alloc, world, &mut copy))
 }
 

@@ -14,3 +14,4 @@ pub mod Digits
 pub mod Framing
 pub mod Legal
 pub mod Destroys
+mod Alone

@@ -22,6 +22,11 @@ abbrev pub sets_link : List (List ℕ) → Bool
 sets_link [] = false
 sets_link (name ∷ words) = same_text name (codes "-textvariable")
 
+-- are the words of a whole command those of `configure`?
+abbrev pub is_configure : List (List ℕ) → Bool
+is_configure (path ∷ name ∷ words) = same_text name (codes "configure")
+is_configure words = false
+
 module _ (limits : Limits) where
   -- ---- options
 

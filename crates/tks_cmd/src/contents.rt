@@ -3,7 +3,7 @@ ghost use Rattle.std.specs.Prelude.{◌≡◌};
 ghost use Rattle.tks_cmd.specs.Contents.{may_hold, holds_within};
 
 use tks_state::Widget;
-use tks_text::{Limits, fits};
+use tks_text::Limits;
 
 // Whether a list of so many passes no limit.
 fn may_hold(count: usize, limits: &Limits) -> bool
@@ -22,7 +22,7 @@ pub fn holds_within(widget: &Widget, limits: &Limits) -> bool
         Widget::Frame(_) | Widget::Caption(_) | Widget::Entry(_) => true,
         Widget::Listbox(listbox) => may_hold(listbox.items().len(), limits),
         Widget::Text(lines) => {
-            fits(lines.text(), limits)
+            lines.len() <= limits.text as usize
                 && may_hold(lines.tags().len(), limits)
                 && may_hold(lines.marks().len(), limits)
         }

@@ -30,7 +30,7 @@ fn delivered(world: &World, event: Event) -> Event
 fn remember(world: &mut World, event: &Event) -> Result<(), AllocError>
     ensures { OnOk result (world.new ≡ with_event event.now world.old) }
 {
-    world.add_event(event.try_clone()?)?;
+    world.add_event(event)?;
     Ok(())
 }
 
@@ -39,7 +39,7 @@ fn own_tags(world: &World, window: WindowId) -> Option<&Seq<Txt>>
     ensures { option_copied result ≡ on_kept (kept_of world.now.kept window) None (λ k. k.tags) }
 {
     match world.kept(window) {
-        Some(kept) => kept.tags.as_ref(),
+        Some(kept) => kept.tags(),
         None => None,
     }
 }

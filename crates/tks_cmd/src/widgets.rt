@@ -1,18 +1,24 @@
 //! The windows' own commands: `configure`, and what else a widget answers, with the globals that it is linked to.
-ghost use Rattle.std.specs.Prelude.{◌≡◌, Some, OnErr, IfOk};
+ghost use Rattle.std.specs.Prelude.{◌≡◌, true, false, Some, OnErr, IfOk, IfSome};
+ghost use Rattle.tks_tcl.specs.Cause.{value_or_fault};
 ghost use Rattle.tks_tcl.specs.Meets.{GivesSo};
-ghost use Rattle.tks_state.specs.Widget.{class_of};
+ghost use Rattle.tks_state.specs.World as worlds;
+ghost use Rattle.tks_vars.specs.Variables.{Variables};
+ghost use Rattle.tks_state.specs.Widget.{class_of, stands_alone};
+ghost use Rattle.tks_state.specs.Windows.{kept_of};
 ghost use Rattle.tks_state.specs.Links.{seen};
 ghost use Rattle.tks_cmd.specs.Changes.{outcome, plan_of};
-ghost use Rattle.tks_cmd.specs.Widgets.{sets_link, configured_pair, configured, told_words, assigned_does, action_does, configure_does, called, window_does};
+ghost use Rattle.tks_cmd.specs.Widgets.{sets_link, is_configure, configured_pair, configured, told_words, assigned_does, action_does, configure_does, called, window_does};
 ghost use Rattle.tks_cmd.specs.Meets.{KeepsSo};
 
+use crate::contents::holds_within;
 use crate::links::{set_global, settle};
 use std::alloc::Global;
 use std::mem;
 use tks_button::Assignment;
 use tks_eval::Plan;
 use tks_opt::{Said, are_pairs};
+use tks_share::{Copied, Share};
 use tks_state::{Widget, World};
 use tks_tcl::{Interrupt, wrong_words};
 use tks_text::{Limits, Txt};
@@ -145,7 +151,7 @@ fn run_action(
     let Some(first) = widget.assigned(variables, words)? else {
         return tell_words(alloc, words, widget, variables, limits);
     };
-    let mut copy = variables.try_clone()?;
+    let mut copy = variables.share()?;
     let told = assign_and_tell(alloc, words, widget, first, &mut copy, limits)?;
     mem::swap(variables, &mut copy);
     Ok(told)
@@ -167,8 +173,8 @@ fn configure_all(
     if let [_option, _value] = pairs {
         return configure_pair(alloc, pairs, widget, variables, limits);
     }
-    let mut copy = variables.try_clone()?;
-    let configured = configure(alloc, pairs, widget.try_clone()?, &mut copy, limits)?;
+    let mut copy = variables.share()?;
+    let configured = configure(alloc, pairs, widget.copied(alloc)?, &mut copy, limits)?;
     mem::swap(variables, &mut copy);
     Ok(configured)
 }
@@ -229,6 +235,48 @@ fn plan_of(said: Said) -> Plan
     }
 }
 
+// Whether the words of a whole command are those of `configure`.
+fn is_configure(words: &[Txt]) -> bool
+    ensures { result ≡ is_configure words.now }
+{
+    match words {
+        [_, name, ..] => name.as_bytes() == b"configure".as_slice(),
+        _ => false,
+    }
+}
+
+// Calls the widget of a window with the words of a whole command.
+fn call_widget(world: &mut World, window: WindowId, words: &[Txt]) -> Result<Said, Interrupt>
+    ensures value { GivesSo (λ said. (said, world.new)) result (value_or_fault (worlds.called world.old window words.now)) }
+    ensures err { OnErr result (world.new ≡ world.old) }
+{
+    let said = world.call_widget(window, words)?;
+    Ok(said)
+}
+
+// What a window that stands alone answers to words other than those of `configure`. Its widget stays where it stands.
+fn run_alone(
+    world: &mut World,
+    window: WindowId,
+    words: &[Txt],
+    limits: &Limits,
+) -> Result<Plan, Interrupt>
+    requires alone { IfSome (kept_of world.old.kept window) (λ k. stands_alone k.widget ≡ true) }
+    requires other { is_configure words.now ≡ false }
+    ensures value { (v : Variables) → GivesSo (λ p. outcome p world.new v) result (window_does limits.now window words.now world.old v) }
+    ensures world { KeepsSo result world.old world.new }
+{
+    let said = call_widget(world, window, words)?;
+    if let Some(kept) = world.kept(window) {
+        let widget = kept.widget.get();
+        widget.stands();
+        if !holds_within(widget, limits) {
+            return Err(Interrupt::TooLarge);
+        }
+    }
+    Ok(plan_of(said))
+}
+
 /// What a window answers to the words of a whole command, its path first.
 pub fn run_window(
     alloc: Global,
@@ -245,7 +293,11 @@ pub fn run_window(
     let Some(kept) = world.kept(window) else {
         return Ok(Plan::Answer(0, Txt::new(alloc)));
     };
-    let told = call(alloc, words, kept.widget.get(), variables, limits)?;
+    let widget = kept.widget.get();
+    if widget.stands_alone() && !is_configure(words) {
+        return run_alone(world, window, words, limits);
+    }
+    let told = call(alloc, words, widget, variables, limits)?;
     world.set_widget(window, told.widget)?;
     Ok(plan_of(told.said))
 }

@@ -21,6 +21,7 @@ use tks_eval::Plan;
 use tks_limits::widget_fits;
 use tks_lines::TextWidget;
 use tks_listbox::ListWidget;
+use tks_share::Share;
 use tks_state::{Widget, World};
 use tks_tcl::{Interrupt, wrong_words};
 use tks_text::{Class, ErrorNumber, Failure, Limits, ScriptFault, Txt};
@@ -189,7 +190,7 @@ fn make(
 {
     check_path(world.tree(), path)?;
     let answer = path.try_clone()?;
-    let mut copy = variables.try_clone()?;
+    let mut copy = variables.share()?;
     let widget = kind.widget(alloc, path, options, &mut copy, limits)?;
     add_window(world, path, widget, limits)?;
     mem::swap(variables, &mut copy);

@@ -86,7 +86,7 @@ pub fn content_of(alloc: Global, options: Options, bytes: &[u8]) -> Result<(Widg
 }
 
 /// Adds what a widget holds besides its options.
-pub fn put_content(alloc: Global, out: &mut Vec<u8>, widget: &Widget) -> Result<(), AllocError>
+pub fn put_content(out: &mut Vec<u8>, widget: &Widget) -> Result<(), AllocError>
     ensures puts { PutsSo result out.old.items out.new.items ((content (options_of widget.now)).write widget.now) }
     ensures legal { OnOk result ((content (options_of widget.now)).Legal widget.now) }
 {
@@ -109,7 +109,7 @@ pub fn put_content(alloc: Global, out: &mut Vec<u8>, widget: &Widget) -> Result<
         }
         Widget::Text(text) => {
             let _ = text.options();
-            put_lines(alloc, out, text)
+            put_lines(out, text)
         }
     }
 }

@@ -14,7 +14,7 @@ use tks_codec_variables::{put_table, table_length, table_of};
 use tks_event::Held;
 use tks_spelling::reading::{presence_of, u8_of, u64_of};
 use tks_spelling::writing::{put_presence, put_u8, put_u64};
-use tks_spelling::{Texts, Unread, list_length, list_of, put_list};
+use tks_spelling::{Texts, Unread, items_length, list_of, put_items};
 use tks_state::World;
 use tks_text::{Seq, Txt};
 use tks_tree::WindowId;
@@ -111,7 +111,7 @@ fn put_parts(out: &mut Vec<u8>, world: &World) -> Result<(), AllocError>
     put_held(out, &world.held())?;
     put_press(out, world.pressed())?;
     put_table(out, Texts, world.memories().texts())?;
-    put_list(out, Texts, world.faults())?;
+    put_items(out, Texts, world.faults().iter(), world.faults().len())?;
     put_u8(out, RULES)
 }
 
@@ -141,6 +141,6 @@ pub fn ends_length(world: &World) -> u64
 {
     press_length(world.pressed())
         .saturating_add(table_length(&Texts, world.memories().texts()))
-        .saturating_add(list_length(&Texts, world.faults()))
+        .saturating_add(items_length(&Texts, world.faults().iter()))
         .saturating_add(11)
 }

@@ -86,26 +86,20 @@ impl Following<Line> for Lines {
 
 // Adds what stands behind the options of a window.
 #[tactic(auto, using(tks_spelling::proofs::Puts::flattened_puts))]
-fn put_rest(
-    alloc: Global,
-    out: &mut Vec<u8>,
-    kept: &Kept,
-    packing: Option<Settings>,
-) -> Result<(), AllocError>
+fn put_rest(out: &mut Vec<u8>, kept: &Kept, packing: Option<Settings>) -> Result<(), AllocError>
     ensures puts { PutsSo result out.old.items out.new.items (flattened (rest_parts kept.now packing)) }
     ensures legal { OnOk result (RestIsLegal kept.now packing) }
 {
-    put_tags(out, kept.tags.as_ref())?;
+    put_tags(out, kept.tags())?;
     put_flag(out, kept.packing.propagates())?;
     put_contents(out, &kept.packing)?;
     put_packing(out, packing)?;
-    put_content(alloc, out, kept.widget.get())
+    put_content(out, kept.widget.get())
 }
 
 // Adds the parts of a window.
 #[tactic(auto, using(tks_spelling::proofs::Puts::flattened_puts))]
 fn put_parts(
-    alloc: Global,
     out: &mut Vec<u8>,
     window: &Window<'_>,
     kept: &Kept,
@@ -119,13 +113,12 @@ fn put_parts(
     put_text(out, window.path)?;
     put_class(out, window.class)?;
     put_options(out, kept.widget.get().options())?;
-    put_rest(alloc, out, kept, packing)
+    put_rest(out, kept, packing)
 }
 
 /// Adds a window that is packed so, if it is.
 #[tactic(auto, unfolding(tks_spelling::specs::Writing::flattened))]
 pub fn put_line(
-    alloc: Global,
     out: &mut Vec<u8>,
     window: &Window<'_>,
     kept: &Kept,
@@ -135,7 +128,7 @@ pub fn put_line(
     ensures puts { PutsSo result out.old.items out.new.items (kinds.line.write (line_with (window_seen window.now) kept.now packing)) }
     ensures legal { OnOk result (kinds.line.Legal (line_with (window_seen window.now) kept.now packing)) }
 {
-    put_parts(alloc, out, window, kept, packing)
+    put_parts(out, window, kept, packing)
 }
 
 // The length of what stands behind the options of a window.
@@ -143,7 +136,7 @@ pub fn put_line(
 fn rest_length(kept: &Kept, packing: Option<Settings>) -> u64
     ensures { result ≡ counted (length (flattened (rest_parts kept.now packing))) }
 {
-    tags_length(kept.tags.as_ref())
+    tags_length(kept.tags())
         .saturating_add(contents_length(&kept.packing))
         .saturating_add(packing_length(packing))
         .saturating_add(content_length(kept.widget.get()))

@@ -158,7 +158,7 @@ fn put_each(
             unreachable!()
         };
         let packing = packed.get(&window.id.number()).copied();
-        put_line(alloc, out, &window, one, packing)?;
+        put_line(out, &window, one, packing)?;
     }
     Ok(())
 }

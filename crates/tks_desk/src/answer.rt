@@ -10,6 +10,7 @@ use itoa::Buffer;
 use std::io::Write;
 use tks_screen::Grid;
 use tks_session::{Refused, Reply};
+use tks_share::{Items, SharedList};
 use tks_text::{Seq, Txt};
 
 #[tactic(auto, using(crate::proofs::Writes::flattened_writes))]
@@ -134,16 +135,16 @@ fn name_of(why: Refused) -> &'static str
 
 /// Writes errors that no script was there to see, a line each, and the end of them.
 #[tactic(auto, using(crate::proofs::Writes::flattened_writes))]
-pub fn put_faults<W: Write>(writer: &mut W, faults: &[Txt]) -> Result<(), RunFault>
+pub fn put_faults<W: Write>(writer: &mut W, faults: &SharedList<Txt>) -> Result<(), RunFault>
     ensures { WritesSo result (W.contents writer.old) (W.contents writer.new) (faults_lines faults.now) }
 {
-    put_told_faults(writer, faults)?;
+    put_told_faults(writer, faults.iter())?;
     put_last(writer, b"end\n")
 }
 
 // Writes errors that no script was there to see, a line each.
-fn put_told_faults<W: Write>(writer: &mut W, faults: &[Txt]) -> Result<(), RunFault>
-    ensures { WritesSo result (W.contents writer.old) (W.contents writer.new) (faults_told faults.now) }
+fn put_told_faults<W: Write>(writer: &mut W, faults: Items<'_, Txt>) -> Result<(), RunFault>
+    ensures { WritesSo result (W.contents writer.old) (W.contents writer.new) (faults_told faults.entry) }
 {
     for fault in faults {
         put_told_fault(writer, fault)?;

@@ -4,7 +4,7 @@ ghost use Rattle.std.specs.List.{list_all};
 ghost use Rattle.tks_limits.specs.Within as kinds;
 
 use crate::texts::{fits, may_hold};
-use tks_bind::{Binding, Bindings, VirtualEvent, Virtuals};
+use tks_bind::{Binding, Bindings, History, VirtualEvent, Virtuals};
 use tks_event::{Event, Pattern, Sequence};
 use tks_queue::{Queue, Queued};
 use tks_share::Items;
@@ -100,10 +100,10 @@ fn event_fits(event: &Event, limits: &Limits) -> bool
 }
 
 /// Whether the texts of past events fit.
-pub fn history_fits(events: &[Event], limits: &Limits) -> bool
-    ensures { result ≡ kinds.history_fits limits.now events.now }
+pub fn history_fits(history: &History, limits: &Limits) -> bool
+    ensures { result ≡ kinds.history_fits limits.now history.now }
 {
-    for event in events {
+    for event in history.events() {
         if !event_fits(event, limits) {
             return false;
         }

@@ -8,7 +8,7 @@ use crate::texts::{fits, may_hold, texts_fit};
 use tks_lines::{Mark, Tag, TextWidget};
 use tks_listbox::{Item, ListWidget};
 use tks_opt::Options;
-use tks_share::SharedList;
+use tks_share::{Items, SharedList};
 use tks_state::{Kept, Widget};
 use tks_text::{Limits, Seq, Txt};
 use tks_tree::Tree;
@@ -61,8 +61,8 @@ fn tags_fit(tags: Option<&Seq<Txt>>, limits: &Limits) -> bool
 }
 
 // Whether the texts of items fit.
-fn items_fit(items: &[Item], limits: &Limits) -> bool
-    ensures { result ≡ list_all (λ i. kinds.fits limits.now i.text) items.now }
+fn items_fit(items: Items<'_, Item>, limits: &Limits) -> bool
+    ensures { result ≡ list_all (λ i. kinds.fits limits.now i.text) items.entry }
 {
     for item in items {
         if !fits(item.text.as_bytes(), limits) {
@@ -77,7 +77,7 @@ fn listbox_fits(listbox: &ListWidget, limits: &Limits) -> bool
     ensures { result ≡ kinds.listbox_fits limits.now listbox.now }
 {
     let items = listbox.items();
-    may_hold(items.len(), limits) && items_fit(items, limits)
+    may_hold(items.len(), limits) && items_fit(items.iter(), limits)
 }
 
 // Whether the names of tags fit.
@@ -110,7 +110,7 @@ fn lines_fit(widget: &TextWidget, limits: &Limits) -> bool
 {
     let tags = widget.tags();
     let marks = widget.marks();
-    fits(widget.text().as_bytes(), limits)
+    widget.len() <= limits.text as usize
         && may_hold(tags.len(), limits)
         && names_fit(tags, limits)
         && may_hold(marks.len(), limits)
@@ -140,7 +140,7 @@ pub fn widget_fits(widget: &Widget, limits: &Limits) -> bool
 fn kept_fits(kept: &Kept, limits: &Limits) -> bool
     ensures { result ≡ kinds.kept_fits limits.now kept.now }
 {
-    widget_fits(kept.widget.get(), limits) && tags_fit(kept.tags.as_ref(), limits)
+    widget_fits(kept.widget.get(), limits) && tags_fit(kept.tags(), limits)
 }
 
 /// Whether what is kept of each window fits.

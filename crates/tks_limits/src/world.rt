@@ -5,10 +5,11 @@ ghost use Rattle.tks_limits.specs.Within as kinds;
 ghost use Rattle.tks_limits.specs.Within.{within};
 
 use crate::events::{bindings_fit, history_fits, queue_fits, timers_fit, virtuals_fit};
-use crate::texts::{fits, may_hold, texts_fit};
+use crate::texts::{fits, may_hold};
 use crate::variables::variables_fit;
 use crate::windows::{all_kept_fit, paths_fit};
 use tks_app::Memories;
+use tks_share::SharedList;
 use tks_state::World;
 use tks_text::{Limits, Txt};
 use tks_vars::Iter;
@@ -45,9 +46,21 @@ fn events_fit(world: &World, limits: &Limits) -> bool
 {
     bindings_fit(world.bindings(), limits)
         && virtuals_fit(world.virtuals(), limits)
-        && history_fits(world.history().events(), limits)
+        && history_fits(world.history(), limits)
         && queue_fits(world.queue(), limits)
         && timers_fit(world.timers(), limits)
+}
+
+// Whether no fault's text passes a limit.
+fn faults_fit(faults: &SharedList<Txt>, limits: &Limits) -> bool
+    ensures { result ≡ kinds.texts_fit limits.now faults.now }
+{
+    for text in faults.iter() {
+        if !fits(text.as_bytes(), limits) {
+            return false;
+        }
+    }
+    true
 }
 
 /// Whether a world keeps within limits: no text that stands in it is longer than `text` bytes, and none of its lists that grow
@@ -60,5 +73,5 @@ pub fn is_within(world: &World, limits: &Limits) -> bool
         && variables_fit(world.variables(), limits)
         && events_fit(world, limits)
         && memories_fit(world.memories(), limits)
-        && texts_fit(world.faults(), limits)
+        && faults_fit(world.faults(), limits)
 }

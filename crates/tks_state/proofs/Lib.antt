@@ -1,6 +1,8 @@
 pub mod ByWindow
 mod Places
-mod Layouts
+mod Called
+pub mod Alone
+pub mod Layouts
 mod Marks
 pub mod Children
 mod Linked

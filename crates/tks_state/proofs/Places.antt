@@ -46,6 +46,13 @@ module _ (w : ℕ) where
       let first : First (k ∷ ks) i k = position-Some is (k ∷ ks) i k (sym p) in
       slice_get-get_or (k ∷ ks) i k first.0 ∙ sym (kept_first (k ∷ ks) i k first)
 
+  -- something stands at the place that was found
+  pub stands_there : (ks : List Kept) (i : ℕ) → Some i ≡ position is ks → slice_get ks i ≡ None → ⊥
+  stands_there [] i p none = true≢false (ap is_some p)
+  stands_there (k ∷ ks) i p none =
+      let first : First (k ∷ ks) i k = position-Some is (k ∷ ks) i k (sym p) in
+      true≢false (ap is_some (sym (slice_get-get_or (k ∷ ks) i k first.0) ∙ none))
+
   -- another put there stands in the place of what is kept of the window
   pub put_there : (new : Kept) (ks : List Kept) (i : ℕ) → Some i ≡ position is ks → set ks i new ≡ replaced w new ks
   put_there new ks i p = replaced_first new ks i new (position-Some is ks i new (sym p))

@@ -6,6 +6,7 @@ pub mod ClassBindings
 pub mod FirstTable
 pub mod EventLoop
 pub mod Windows
+pub mod Calling
 pub mod World
 pub mod ByWindow
 pub mod Layout

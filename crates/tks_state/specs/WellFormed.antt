@@ -2,6 +2,7 @@
 use Rattle.std.specs.Prelude.{ℕ, ◌≡◌, ◌==◌, ◌≤◌, ◌<◌, ◌^◌, true, List, [], length, map, Some}
 use Rattle.std.specs.List.{AllByRecursion, IsDistinct}
 use Rattle.tks_text.specs.declared.class.Class.{Class}
+use Rattle.tks_text.specs.declared.class.Class.TheVariants as class
 use Rattle.tks_tree.specs.Windows as tree
 use Rattle.tks_tree.specs.WellFormed as trees
 use Rattle.tks_bind.specs.History.{are_physical, max_history}
@@ -10,11 +11,29 @@ use Rattle.tks_event.specs.Legality.{AreEvents}
 use Rattle.tks_queue.specs.Legal.{AreLegal}
 use Rattle.tks_timer.specs.WellFormed.{AreWaiting}
 use Rattle.tks_state.specs.Events.{Events, max_faults}
-use Rattle.tks_state.specs.Widget.{class_of}
+use Rattle.tks_opt.specs.Options.{Legal}
+use Rattle.tks_button.specs.Frame.{is_frame}
+use Rattle.tks_button.specs.Caption.{has_caption}
+use Rattle.tks_state.specs.Widget.{class_of, options_of}
 use Rattle.tks_state.specs.Windows.{Windows}
 use Rattle.tks_state.specs.EventLoop.{EventLoop, all_in}
 use Rattle.tks_state.specs.World.{World, windows_of, events_of, loop_of}
 use Rattle.tks_state.specs.declared.kept.Kept.{Kept}
+use Rattle.tks_state.specs.declared.widget.Widget.{Widget}
+use Rattle.tks_state.specs.declared.widget.Widget.TheVariants as widget
+
+-- the class of its options is that of what it is
+abbrev pub IsOfItsClass : Widget → Type 0
+IsOfItsClass (widget.Frame t) = is_frame t.class ≡ true
+IsOfItsClass (widget.Caption t) = has_caption t.class ≡ true
+IsOfItsClass (widget.Entry e) = e.options.class ≡ class.Entry
+IsOfItsClass (widget.Listbox l) = l.options.class ≡ class.Listbox
+IsOfItsClass (widget.Text t) = t.options.class ≡ class.Text
+
+-- what holds of all widgets
+pub record WellFormedWidget (w : Widget) : Type 0 where
+  pub class : IsOfItsClass w
+  pub options : Legal (options_of w)
 
 -- whose something is: the number of the window, and its class
 abbrev pub mark_of : Kept → ℕ × Class

@@ -1,6 +1,6 @@
 -- What a window of any class asks for, shows and answers (frame(n), label(n), button(n), checkbutton(n), entry(n),
 -- listbox(n), text(n)): that of its class.
-use Rattle.std.specs.Prelude.{ℕ, Bool, List, Result, Ok}
+use Rattle.std.specs.Prelude.{ℕ, Bool, true, false, List, Result, Ok}
 use Rattle.tks_text.specs.declared.class.Class.{Class}
 use Rattle.tks_text.specs.declared.fault.ScriptFault.{ScriptFault}
 use Rattle.tks_opt.specs.Options as options
@@ -45,6 +45,14 @@ called (widget.Caption t) words = after (caption.called t words) (λ x. Ok (x.0,
 called (widget.Entry e) words = after (entry.called e words) (λ x. Ok (x.0, widget.Entry x.1))
 called (widget.Listbox l) words = after (listbox.called l words) (λ x. Ok (x.0, widget.Listbox x.1))
 called (widget.Text t) words = after (lines.called t words) (λ x. Ok (x.0, widget.Text x.1))
+
+-- whether it neither shows a global nor sets one: its class has no option for that
+abbrev pub stands_alone : Widget → Bool
+stands_alone (widget.Frame t) = true
+stands_alone (widget.Caption t) = false
+stands_alone (widget.Entry e) = false
+stands_alone (widget.Listbox l) = true
+stands_alone (widget.Text t) = true
 
 -- how large it asks to be
 abbrev pub requested : Widget → Extent

@@ -10,6 +10,9 @@ use Rattle.tks_pack.specs.Packing as packing
 use Rattle.tks_pack.specs.Packing.{Packed, nothing_packed, forgotten}
 use Rattle.tks_tree.specs.Path.{root_path}
 use Rattle.tks_tree.specs.Windows as tree
+use Rattle.tks_opt.specs.declared.said.Said.{Said}
+use Rattle.tks_opt.specs.declared.said.Said.TheVariants.{Text}
+use Rattle.tks_state.specs.Widget as widgets
 use Rattle.tks_state.specs.Widget.{class_of}
 use Rattle.tks_state.specs.declared.widget.Widget.{Widget}
 use Rattle.tks_state.specs.declared.widget.Widget.TheVariants as widget
@@ -55,6 +58,11 @@ new_kept number w = record { window = number; widget = w; tags = None; packing =
 -- another widget in the place of a window's
 abbrev pub with_widget_at : List Kept → ℕ → Widget → List Kept
 with_widget_at kept number v = on_kept (kept_of kept number) kept (λ k. replaced number (with_widget k v) kept)
+
+-- what the widget of a window answers to the words of a whole command, and what is kept then; where no window has the number,
+-- nothing is said
+abbrev pub called_at : List Kept → ℕ → List (List ℕ) → Result (Said × List Kept) ScriptFault
+called_at kept number words = on_kept (kept_of kept number) (Ok (Text [], kept)) (λ k. after (widgets.called k.widget words) (λ x. Ok (x.0, with_widget_at kept number x.1)))
 
 -- other tags of a window
 abbrev pub with_tags_at : List Kept → ℕ → Option (List (List ℕ)) → List Kept
@@ -116,6 +124,10 @@ destroyed x number = after (tree.destroyed x.tree number) (λ _. Ok (without x n
 -- a window that is another widget
 abbrev pub changed : Windows → ℕ → Widget → Windows
 changed x number v = record x { kept = with_widget_at x.kept number v }
+
+-- the widget of a window, called with the words of a whole command
+abbrev pub called : Windows → ℕ → List (List ℕ) → Result (Said × Windows) ScriptFault
+called x number words = after (called_at x.kept number words) (λ y. Ok (y.0, record x { kept = y.1 }))
 
 -- a window with other tags (bindtags(n))
 abbrev pub tagged : Windows → ℕ → Option (List (List ℕ)) → Windows

@@ -4,6 +4,7 @@ use Rattle.std.specs.Prelude.{ℕ, Bool, if◌then◌else◌, List, Option, Resu
 use Rattle.tks_text.specs.Size.{Extent}
 use Rattle.tks_text.specs.declared.fault.ScriptFault.{ScriptFault}
 use Rattle.tks_opt.specs.Options as options
+use Rattle.tks_opt.specs.declared.said.Said.{Said}
 use Rattle.tks_tree.specs.Windows as tree
 use Rattle.tks_vars.specs.Variables.{Variables, no_variables}
 use Rattle.tks_app.specs.Memories.{first_memories}
@@ -115,6 +116,10 @@ destroyed w number = options.after (windows.destroyed (windows_of w) number) (λ
 -- a window that is another widget
 abbrev pub with_widget : World → ℕ → Widget → World
 with_widget w number v = with_windows w (windows.changed (windows_of w) number v)
+
+-- the widget of a window, called with the words of a whole command
+abbrev pub called : World → ℕ → List (List ℕ) → Result (Said × World) ScriptFault
+called w number words = options.after (windows.called (windows_of w) number words) (λ x. Ok (x.0, with_windows w x.1))
 
 -- a window packed in the one that it stands in (pack(n))
 abbrev pub packed : World → ℕ → List (List ℕ) → Result World ScriptFault

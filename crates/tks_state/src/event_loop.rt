@@ -12,7 +12,7 @@ use std::alloc::{AllocError, AllocFailed, Global};
 use std::marker::Model;
 use tks_event::{Event, Held};
 use tks_queue::{Place, Queue, Queued};
-use tks_share::Items;
+use tks_share::{Items, Share};
 use tks_text::Txt;
 use tks_timer::{AfterFault, Timers};
 use tks_tree::{Tree, WindowId};
@@ -247,17 +247,16 @@ impl EventLoop {
     pub fn left(&self, tree: &Tree) -> Result<EventLoop, AllocError>
         ensures { IfOk result (λ x. x ≡ left tree.now.windows self.now) }
     {
-        let mut left = self.try_clone()?;
+        let mut left = self.share()?;
         leave(&mut left.queue, tree)?;
         left.focus = left_focus(tree, left.focus);
         left.pressed = left_pressed(tree, left.pressed);
         Ok(left)
     }
+}
 
-    /// The same, held once more. Nothing of it is copied.
-    pub fn try_clone(&self) -> Result<EventLoop, AllocError>
-        ensures { IfOk result (λ x. x ≡ self.now) }
-    {
+impl Share for EventLoop {
+    fn share(&self) -> Result<EventLoop, AllocError> {
         Ok(EventLoop {
             clock: self.clock,
             queue: self.queue.share()?,

@@ -1,5 +1,5 @@
 //! What scripts bound to events rest on: the bindings, virtual events, the history, and the faults of such scripts.
-ghost use Rattle.std.specs.Prelude.{◌≡◌, ◌≢◌, ◌↔◌, ◌≤◌, ◌^◌, [], Some, None, if◌then◌else◌, nat_le, Err, length, option_copied, IfOk, IfErr, OnOk, OnErr};
+ghost use Rattle.std.specs.Prelude.{◌≡◌, ◌≢◌, ◌↔◌, ◌≤◌, ◌^◌, [], Some, None, if◌then◌else◌, nat_le, Err, length, option_copied, IfOk, OnOk, OnErr};
 ghost use Rattle.tks_bind.specs.Binding.{bound};
 ghost use Rattle.tks_bind.specs.Choosing.{chosen};
 ghost use Rattle.tks_bind.specs.History as history;
@@ -9,28 +9,26 @@ ghost use Rattle.tks_state.specs.WellFormed.{WellFormedEvents};
 
 use crate::class_bindings::first_bindings;
 use crate::faults::Faults;
-use std::alloc::{AllocError, AllocFailed, Global};
+use std::alloc::{AllocError, Global};
 use std::marker::Model;
 use tks_bind::{BindFault, Binding, Bindings, History, PhysicalSequence, Virtuals};
 use tks_event::{Event, Sequence, VirtualName};
-use tks_share::Shared;
+use tks_share::{Share, SharedList};
 use tks_text::{Txt, begins_dot};
 use tks_tree::Tree;
 
 /// What scripts bound to events rest on. Copies share the parts that none of them has changed.
 pub struct Events {
-    alloc: Global,
     bindings: Bindings,
     virtuals: Virtuals,
-    history: Shared<History>,
-    faults: Shared<Faults>,
+    history: History,
+    faults: Faults,
 }
 
 // Written out, so that to let go of it is one step for whoever owns it.
 impl Drop for Events {
     fn drop(self) {
         let Events {
-            alloc: _,
             bindings: _,
             virtuals: _,
             history: _,
@@ -56,11 +54,10 @@ impl Events {
         ensures { IfOk result (λ events. events ≡ first_events) }
     {
         Ok(Events {
-            alloc,
             bindings: first_bindings(alloc)?,
             virtuals: Virtuals::new(alloc),
-            history: Shared::new(alloc, History::new(alloc))?,
-            faults: Shared::new(alloc, Faults::none(alloc))?,
+            history: History::new(alloc)?,
+            faults: Faults::none(alloc),
         })
     }
 
@@ -74,15 +71,14 @@ impl Events {
     ) -> Result<Option<Events>, AllocError>
         ensures { IfOk result (λ made. made ≡ (if nat_le (length faults.items) max_faults then Some (record { bindings = bindings; virtuals = virtuals; history = history; faults = faults.items }) else None)) }
     {
-        let Some(faults) = Faults::restore(faults) else {
+        let Some(faults) = Faults::restore(alloc, faults)? else {
             return Ok(None);
         };
         Ok(Some(Events {
-            alloc,
             bindings,
             virtuals,
-            history: Shared::new(alloc, history)?,
-            faults: Shared::new(alloc, faults)?,
+            history,
+            faults,
         }))
     }
 
@@ -99,15 +95,15 @@ impl Events {
     {
         let _ = self.bindings.next();
         let _ = self.virtuals.events();
-        let _ = self.history.get().events();
-        let _ = self.faults.get().texts();
+        let _ = self.history.events();
+        let _ = self.faults.texts();
     }
 
     /// The texts of the last errors, the oldest first.
-    pub fn faults(&self) -> &[Txt]
+    pub fn faults(&self) -> &SharedList<Txt>
         ensures { result.now ≡ self.now.faults }
     {
-        self.faults.get().texts()
+        self.faults.texts()
     }
 
     /// The binding of a tag that an event fires.
@@ -115,7 +111,7 @@ impl Events {
         ensures { option_copied result ≡ chosen (record { bindings = self.now.bindings.bindings; tag = tag.now; event = event.now; history = self.now.history; virtuals = self.now.virtuals }) }
     {
         self.bindings
-            .chosen(tag, event, self.history.get(), &self.virtuals)
+            .chosen(tag, event, &self.history, &self.virtuals)
     }
 
     /// Sets the script that a tag has for a sequence.
@@ -131,7 +127,7 @@ impl Events {
     pub fn history(&self) -> &History
         ensures { result.now ≡ self.now.history }
     {
-        self.history.get()
+        &self.history
     }
 
     /// The virtual events.
@@ -177,21 +173,17 @@ impl Events {
     pub fn left(&self, tree: &Tree) -> Result<Events, AllocError>
         ensures { IfOk result (λ x. x ≡ record self.now { bindings = held tree.now.windows self.now.bindings }) }
     {
-        let mut left = self.try_clone()?;
+        let mut left = self.share()?;
         hold(&mut left.bindings, tree)?;
         Ok(left)
     }
 
-    /// Adds an event to the history; a virtual one is passed over. Where memory is refused, it hands the event back.
-    pub fn add_event(&mut self, event: Event) -> Result<(), AllocFailed<Event>>
-        ensures ok { OnOk result (self.new ≡ record self.old { history = history.with_event event self.old.history }) }
+    /// Adds a copy of an event to the history; a virtual one is passed over.
+    pub fn add_event(&mut self, event: &Event) -> Result<(), AllocError>
+        ensures ok { OnOk result (self.new ≡ record self.old { history = history.with_event event.now self.old.history }) }
         ensures err { OnErr result (self.new ≡ self.old) }
-        ensures handed_back { IfErr result (λ refused. refused.value ≡ event) }
     {
-        match self.history.get_mut(self.alloc) {
-            Ok(history) => history.add(event),
-            Err(_) => Err(AllocFailed { value: event }),
-        }
+        self.history.add_copy(event)
     }
 
     /// Adds an error's text to the faults; where there were 32, the oldest goes.
@@ -199,15 +191,13 @@ impl Events {
         ensures ok { OnOk result (self.new ≡ record self.old { faults = with_fault text self.old.faults }) }
         ensures err { OnErr result (self.new ≡ self.old) }
     {
-        self.faults.get_mut(self.alloc)?.add(text)
+        self.faults.add(text)
     }
+}
 
-    /// The same, held once more. Nothing of it is copied.
-    pub fn try_clone(&self) -> Result<Events, AllocError>
-        ensures { IfOk result (λ x. x ≡ self.now) }
-    {
+impl Share for Events {
+    fn share(&self) -> Result<Events, AllocError> {
         Ok(Events {
-            alloc: self.alloc,
             bindings: self.bindings.share()?,
             virtuals: self.virtuals.share()?,
             history: self.history.share()?,

@@ -2,6 +2,7 @@
 #![tactic(auto)]
 
 mod by_window;
+mod calling;
 mod class_bindings;
 mod event_loop;
 mod events;
@@ -10,7 +11,6 @@ mod kept;
 mod laws;
 mod layout;
 mod links;
-mod mark;
 mod restoring;
 mod widget;
 mod windows;
@@ -22,7 +22,6 @@ pub use laws::{
     widgets_of_one_variable_show_one_text, windows_are_shown_where_they_stand,
 };
 pub use layout::Placed;
-pub use mark::Mark;
 pub use restoring::{WindowParts, WorldParts};
 pub use widget::Widget;
 pub use world::World;

@@ -9,6 +9,7 @@ use std::alloc::{AllocError, Global};
 use tks_button::{Assignment, Caption};
 use tks_opt::OptionName;
 use tks_pack::Extent;
+use tks_share::Copied;
 use tks_text::{Seq, Txt};
 use tks_vars::Vars;
 
@@ -98,7 +99,7 @@ impl Widget {
         ensures class { IfOk result (λ w. class_of w ≡ class_of self.now) }
     {
         let Some(name) = self.link() else {
-            return self.try_clone();
+            return self.copied(alloc);
         };
         match global_if(variables, name) {
             Some(text) => self.with_text(text),

@@ -8,7 +8,7 @@ ghost use Rattle.tks_state.specs.Restoring.{kept_of_parts, is_kept_of, are_in_st
 
 use crate::event_loop::EventLoop;
 use crate::events::Events;
-use crate::kept::Kept;
+use crate::kept::{Kept, held_tags};
 use crate::widget::Widget;
 use std::alloc::{AllocError, Global};
 use tks_app::Memories;
@@ -146,7 +146,7 @@ fn kept_with(alloc: Global, window: WindowId, part: WindowParts) -> Result<Kept,
     Ok(Kept {
         window,
         widget: Shared::new(alloc, widget)?,
-        tags,
+        tags: held_tags(alloc, tags)?,
         packing,
     })
 }

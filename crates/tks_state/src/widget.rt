@@ -1,16 +1,18 @@
 //! What a window is, by its class.
-ghost use Rattle.std.specs.Prelude.{◌≡◌, IfOk, OnErr};
+ghost use Rattle.std.specs.Prelude.{◌≡◌, IfOk, IfSome, OnErr};
 ghost use Rattle.tks_text.specs.Fault.{Gives};
 ghost use Rattle.tks_pack.specs.Packing.{capped};
-ghost use Rattle.tks_state.specs.Widget.{options_of, class_of, configured, called, requested, shown};
+ghost use Rattle.tks_state.specs.WellFormed.{WellFormedWidget};
+ghost use Rattle.tks_state.specs.Widget.{options_of, class_of, stands_alone, configured, called, requested, shown};
 
-use std::alloc::AllocError;
+use std::alloc::{AllocError, Global};
 use tks_button::{Caption, Frame};
 use tks_entry::EntryWidget;
 use tks_lines::TextWidget;
 use tks_listbox::ListWidget;
 use tks_opt::{Options, Said};
 use tks_pack::Extent;
+use tks_share::Copied;
 use tks_text::{Failure, Seq, Txt};
 
 /// What a window is, by its class.
@@ -55,6 +57,40 @@ impl Widget {
             Widget::Entry(entry) => entry.options(),
             Widget::Listbox(listbox) => listbox.options(),
             Widget::Text(text) => text.options(),
+        }
+    }
+
+    /// What holds of all widgets.
+    pub fn stands(&self)
+        ensures { WellFormedWidget self.now }
+    {
+        let _ = self.options().class();
+        match self {
+            Widget::Frame(frame) => {
+                let _ = frame.options();
+            }
+            Widget::Caption(caption) => {
+                let _ = caption.options();
+            }
+            Widget::Entry(entry) => {
+                let _ = entry.options();
+            }
+            Widget::Listbox(listbox) => {
+                let _ = listbox.options();
+            }
+            Widget::Text(text) => {
+                let _ = text.options();
+            }
+        }
+    }
+
+    /// Whether it neither shows a global nor sets one.
+    pub fn stands_alone(&self) -> bool
+        ensures { result ≡ stands_alone self.now }
+    {
+        match self {
+            Widget::Frame(_) | Widget::Listbox(_) | Widget::Text(_) => true,
+            Widget::Caption(_) | Widget::Entry(_) => false,
         }
     }
 
@@ -119,6 +155,18 @@ impl Widget {
         }
     }
 
+    /// What the words of a whole command come to where they change nothing, the window's path first, as `call` answers; none where
+    /// they may change something.
+    pub fn tell(&self, words: &[Txt]) -> Option<Result<Said, Failure>>
+        ensures { IfSome result (λ r. Gives (λ said. (said, self.now)) r (called self.now words.now)) }
+    {
+        match self {
+            Widget::Listbox(listbox) => listbox.tell(words),
+            Widget::Text(text) => text.tell(words),
+            Widget::Frame(_) | Widget::Caption(_) | Widget::Entry(_) => None,
+        }
+    }
+
     /// How large it asks to be. No more than 2^32 - 1 cells are told of.
     pub fn requested(&self) -> Extent
         ensures { result ≡ requested self.now }
@@ -174,11 +222,10 @@ impl Widget {
             }
         }
     }
+}
 
-    /// An equal widget.
-    pub fn try_clone(&self) -> Result<Widget, AllocError>
-        ensures { IfOk result (λ w. w ≡ self.now) }
-    {
+impl Copied for Widget {
+    fn copied(&self, _alloc: Global) -> Result<Widget, AllocError> {
         match self {
             Widget::Frame(frame) => Ok(Widget::Frame(frame.try_clone()?)),
             Widget::Caption(caption) => Ok(Widget::Caption(caption.try_clone()?)),

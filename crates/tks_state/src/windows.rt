@@ -5,19 +5,21 @@ ghost use Rattle.tks_tree.specs.Windows.{of_number};
 ghost use Rattle.tks_tree.specs.Meets.{MakesSo};
 ghost use Rattle.tks_share.specs.Lists.{Rises};
 ghost use Rattle.tks_state.specs.Widget.{class_of};
-ghost use Rattle.tks_state.specs.Windows.{kept_of, replaced, with_widget_at, with_tags_at, packed_at, forgotten_at, propagating, still_there, first_windows, created, destroyed, changed, tagged, packed, unpacked, with_propagation};
+ghost use Rattle.tks_state.specs.Windows.{kept_of, replaced, with_widget_at, with_tags_at, called_at, called, packed_at, forgotten_at, propagating, still_there, first_windows, created, destroyed, changed, tagged, packed, unpacked, with_propagation};
 ghost use Rattle.tks_state.specs.EventLoop.{Stay};
 ghost use Rattle.tks_state.specs.WellFormed.{WellFormedWindows, mark_of};
 ghost use Rattle.tks_tree.specs.WellFormed.{is_widget_class};
 ghost use Rattle.tks_state.specs.Restoring.{are_windows};
 
-use crate::kept::Kept;
+use crate::calling::Calling;
+use crate::kept::{Kept, held_tags};
 use crate::restoring::{all_pack_children, are_in_step};
 use crate::widget::Widget;
 use std::alloc::{AllocError, Global};
 use std::marker::Model;
 use tks_button::Frame;
-use tks_share::{Copied, Shared, SharedList};
+use tks_opt::Said;
+use tks_share::{Share, Shared, SharedList};
 use tks_text::{ErrorNumber, Failure, ScriptFault, Seq, Txt};
 use tks_tree::{CreateFault, Tree, WindowId};
 
@@ -100,8 +102,46 @@ fn set_widget_at(
     Ok(())
 }
 
+// What the widget of a window answers to the words of a whole command, where they change nothing.
+fn tell_at(
+    kept: &SharedList<Kept>,
+    window: WindowId,
+    words: &[Txt],
+) -> Option<Result<Said, Failure>>
+    requires { Rises (λ k. k.window) 0 kept.now }
+    ensures { IfSome result (λ r. Gives (λ said. (said, kept.now)) r (called_at kept.now window words.now)) }
+{
+    let one = find(kept, window)?;
+    one.widget.get().tell(words)
+}
+
+// Calls the widget of a window with the words of a whole command. One that only tells something is not copied.
+fn call_at(
+    alloc: Global,
+    kept: &mut SharedList<Kept>,
+    window: WindowId,
+    words: &[Txt],
+) -> Result<Said, Failure>
+    requires { Rises (λ k. k.window) 0 kept.old }
+    ensures value { Gives (λ said. (said, kept.new)) result (called_at kept.old window words.now) }
+    ensures marks { map mark_of kept.new ≡ map mark_of kept.old }
+    ensures err { OnErr result (kept.new ≡ kept.old) }
+{
+    if let Some(told) = tell_at(kept, window, words) {
+        return told;
+    }
+    let Some(place) = kept.place_of(window.number()) else {
+        return Ok(Said::Text(Txt::new(alloc)));
+    };
+    match kept.change(place, &mut Calling { alloc, words })? {
+        Some(answer) => answer,
+        None => unreachable!(),
+    }
+}
+
 // Sets the tags of a window, or takes away those that were set.
 fn set_tags_at(
+    alloc: Global,
     kept: &mut SharedList<Kept>,
     window: WindowId,
     tags: Option<Seq<Txt>>,
@@ -114,14 +154,13 @@ fn set_tags_at(
     let Some(one) = find(kept, window) else {
         return Ok(());
     };
-    let one = one.with_tags(tags)?;
+    let one = one.with_tags(held_tags(alloc, tags)?)?;
     replace(kept, window, one)?;
     Ok(())
 }
 
 // Packs a window in a container.
 fn pack_at(
-    alloc: Global,
     kept: &mut SharedList<Kept>,
     container: Option<WindowId>,
     window: WindowId,
@@ -141,14 +180,13 @@ fn pack_at(
     let Some(one) = find(kept, container) else {
         return Ok(());
     };
-    let one = one.packed(alloc, window, options)?;
+    let one = one.packed(window, options)?;
     replace(kept, container, one)?;
     Ok(())
 }
 
 // Takes a window out of a container.
 fn forget_at(
-    alloc: Global,
     kept: &mut SharedList<Kept>,
     container: Option<WindowId>,
     window: WindowId,
@@ -164,14 +202,13 @@ fn forget_at(
     let Some(one) = find(kept, container) else {
         return Ok(());
     };
-    let one = one.forgotten(alloc, window)?;
+    let one = one.forgotten(window)?;
     replace(kept, container, one)?;
     Ok(())
 }
 
 // Says whether a container asks for its contents.
 fn set_propagates_at(
-    alloc: Global,
     kept: &mut SharedList<Kept>,
     container: WindowId,
     propagates: bool,
@@ -184,7 +221,7 @@ fn set_propagates_at(
     let Some(one) = find(kept, container) else {
         return Ok(());
     };
-    let one = one.propagating(alloc, propagates)?;
+    let one = one.propagating(propagates)?;
     replace(kept, container, one)?;
     Ok(())
 }
@@ -259,7 +296,7 @@ impl Windows {
     {
         let class = widget.options().class();
         let widget = Shared::new(self.alloc, widget)?;
-        let mut tree = self.tree.try_clone()?;
+        let mut tree = self.tree.share()?;
         let window = tree.create(path, class)?;
         self.kept.push(Kept::new(self.alloc, window, widget))?;
         self.tree = tree;
@@ -272,10 +309,10 @@ impl Windows {
         ensures { Gives (λ x. x) result (destroyed self.now window) }
     {
         let container = self.tree.parent(window);
-        let mut tree = self.tree.try_clone()?;
+        let mut tree = self.tree.share()?;
         tree.destroy(window)?;
         let mut kept = self.kept.share()?;
-        forget_at(self.alloc, &mut kept, container, window)?;
+        forget_at(&mut kept, container, window)?;
         keep_those_in(&mut kept, &tree)?;
         Ok(Windows {
             alloc: self.alloc,
@@ -295,13 +332,24 @@ impl Windows {
         Ok(())
     }
 
+    /// What the widget of a window answers to the words of a whole command, the window's path first. Where no window has the
+    /// number, the answer is empty.
+    pub fn call(&mut self, window: WindowId, words: &[Txt]) -> Result<Said, Failure>
+        ensures value { Gives (λ said. (said, self.new)) result (called self.old window words.now) }
+        ensures err { OnErr result (self.new ≡ self.old) }
+        ensures tree { self.new.tree ≡ self.old.tree }
+    {
+        let said = call_at(self.alloc, &mut self.kept, window, words)?;
+        Ok(said)
+    }
+
     /// Sets the tags of a window, or takes away those that were set. Where no window has the number, nothing is done.
     pub fn set_tags(&mut self, window: WindowId, tags: Option<Seq<Txt>>) -> Result<(), AllocError>
         ensures ok { OnOk result (self.new ≡ tagged self.old window tags) }
         ensures err { OnErr result (self.new ≡ self.old) }
         ensures tree { self.new.tree ≡ self.old.tree }
     {
-        set_tags_at(&mut self.kept, window, tags)?;
+        set_tags_at(self.alloc, &mut self.kept, window, tags)?;
         Ok(())
     }
 
@@ -312,7 +360,7 @@ impl Windows {
         ensures tree { self.new.tree ≡ self.old.tree }
     {
         let container = self.tree.parent(window);
-        pack_at(self.alloc, &mut self.kept, container, window, options)?;
+        pack_at(&mut self.kept, container, window, options)?;
         Ok(())
     }
 
@@ -323,7 +371,7 @@ impl Windows {
         ensures tree { self.new.tree ≡ self.old.tree }
     {
         let container = self.tree.parent(window);
-        forget_at(self.alloc, &mut self.kept, container, window)?;
+        forget_at(&mut self.kept, container, window)?;
         Ok(())
     }
 
@@ -333,17 +381,16 @@ impl Windows {
         ensures err { OnErr result (self.new ≡ self.old) }
         ensures tree { self.new.tree ≡ self.old.tree }
     {
-        set_propagates_at(self.alloc, &mut self.kept, window, propagates)?;
+        set_propagates_at(&mut self.kept, window, propagates)?;
         Ok(())
     }
 }
 
-impl Copied for Windows {
-    // The two share what they hold, so this costs the same however many windows there are.
-    fn copied(&self, alloc: Global) -> Result<Windows, AllocError> {
+impl Share for Windows {
+    fn share(&self) -> Result<Windows, AllocError> {
         Ok(Windows {
-            alloc,
-            tree: self.tree.try_clone()?,
+            alloc: self.alloc,
+            tree: self.tree.share()?,
             kept: self.kept.share()?,
         })
     }

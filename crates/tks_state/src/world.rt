@@ -1,6 +1,8 @@
 //! The world: what is kept between inputs, and its changes.
 ghost use Rattle.std.specs.Prelude.{◌≡◌, true, ◌≢◌, ◌↔◌, ◌≤◌, ◌+◌, ◌<◌, ◌^◌, [], Err, option_map, option_copied, IfOk, IfErr, IfSome, OnOk, OnErr};
+ghost use Rattle.std.specs.FinMap as map;
 ghost use Rattle.tks_text.specs.Fault.{Gives};
+ghost use Rattle.tks_vars.specs.Variables.{no_variables};
 ghost use Rattle.tks_bind.specs.Choosing.{chosen};
 ghost use Rattle.tks_tree.specs.Meets.{MakesSo};
 ghost use Rattle.tks_tree.specs.WellFormed as trees;
@@ -13,7 +15,7 @@ ghost use Rattle.tks_state.specs.Restoring.{counts_fit, restored};
 ghost use Rattle.tks_queue.specs.EventQueue.{first};
 ghost use Rattle.tks_timer.specs.After.{script_in, kept_under};
 ghost use Rattle.tks_state.specs.World.{with_virtual, without_virtual, without_virtual_sequence, with_clock, queued, without_event, with_timer, with_idle, without_id, without_script, focused, holding, pressed_in};
-ghost use Rattle.tks_state.specs.World.{world_with, first_world, with_window, with_widget, unpacked, destroyed, tagged, packed, with_propagation, bound_to, with_event, with_fault, scene};
+ghost use Rattle.tks_state.specs.World.{world_with, first_world, with_window, with_widget, called, unpacked, destroyed, tagged, packed, with_propagation, bound_to, with_event, with_fault, scene};
 
 use crate::event_loop::{EventLoop, is_there, left_pressed};
 use crate::events::Events;
@@ -27,9 +29,10 @@ use std::mem;
 use tks_app::Memories;
 use tks_bind::{BindFault, Binding, Bindings, History, PhysicalSequence, Virtuals};
 use tks_event::{Event, Held, Sequence, VirtualName};
+use tks_opt::Said;
 use tks_parse_table::ParseTable;
 use tks_queue::{Place, Queue};
-use tks_share::{Shared, SharedList};
+use tks_share::{Share, SharedList};
 use tks_text::{Failure, MAX_NUMBER, MAX_TIME, Seq, Size, Txt};
 use tks_timer::{AfterFault, Timers};
 use tks_tree::{CreateFault, Tree, WindowId};
@@ -40,8 +43,8 @@ use tks_vars::Vars;
 pub struct World {
     alloc: Global,
     accepted: u64,
-    windows: Shared<Windows>,
-    variables: Shared<Vars>,
+    windows: Windows,
+    variables: Vars,
     events: Events,
     event_loop: EventLoop,
     memories: Memories,
@@ -100,8 +103,8 @@ impl World {
         Ok(World {
             alloc,
             accepted: 0,
-            windows: Shared::new(alloc, Windows::first(alloc)?)?,
-            variables: Shared::new(alloc, Vars::new(alloc))?,
+            windows: Windows::first(alloc)?,
+            variables: Vars::new(alloc),
             events: Events::first(alloc)?,
             event_loop: EventLoop::new(alloc),
             memories: Memories::first(alloc, names)?,
@@ -186,10 +189,9 @@ impl World {
     {
         // What holds of all histories is asked for here.
         let _ = events.history.events();
-        let variables = Shared::new(alloc, variables)?;
         let kept = kept_of_parts(alloc, &tree, windows)?;
         let event_loop = event_loop.made();
-        if variables.get().depth() > 0 || !event_loop.is_in(&tree) {
+        if variables.depth() > 0 || !event_loop.is_in(&tree) {
             return Ok(None);
         }
         let Some(windows) = Windows::restore(alloc, tree, kept) else {
@@ -198,10 +200,9 @@ impl World {
         let Some(events) = events.made(alloc)? else {
             return Ok(None);
         };
-        let world = World::of(
+        Ok(Some(World::of(
             alloc, accepted, windows, variables, events, event_loop, memories, grid,
-        )?;
-        Ok(Some(world))
+        )))
     }
 
     // The world of parts that fit together.
@@ -209,28 +210,28 @@ impl World {
         alloc: Global,
         accepted: u64,
         windows: Windows,
-        variables: Shared<Vars>,
+        variables: Vars,
         events: Events,
         event_loop: EventLoop,
         memories: Memories,
         grid: Size,
-    ) -> Result<World, AllocError>
+    ) -> World
         requires counted { accepted ≤ 2 ^ 62 }
         requires there { all_in windows.tree.windows event_loop ≡ true }
         requires rests { variables.locals ≡ [] }
-        ensures { IfOk result (λ w. w ≡ world_with accepted windows variables events event_loop memories grid) }
+        ensures { result ≡ world_with accepted windows variables events event_loop memories grid }
     {
-        Ok(World {
+        World {
             alloc,
             accepted,
-            windows: Shared::new(alloc, windows)?,
+            windows,
             variables,
             events,
             event_loop,
             memories,
             grid,
             parsed: ParseTable::new(alloc),
-        })
+        }
     }
 
     // Where the world's memory comes from.
@@ -242,7 +243,7 @@ impl World {
     pub fn stands(&self)
         ensures { WellFormed self.now }
     {
-        let _ = self.windows.get().tree();
+        let _ = self.windows.tree();
         self.events.stands();
         self.event_loop.stands();
     }
@@ -267,37 +268,45 @@ impl World {
         ensures value { result.now ≡ self.now.tree }
         ensures formed { trees.WellFormed self.now.tree }
     {
-        self.windows.get().tree()
+        self.windows.tree()
     }
 
     /// What is kept of each window, in the order in which the windows were made.
     pub fn all_kept(&self) -> &SharedList<Kept>
         ensures { result.now ≡ self.now.kept }
     {
-        self.windows.get().all()
+        self.windows.all()
     }
 
     /// What is kept of the window of a number.
     pub fn kept(&self, window: WindowId) -> Option<&Kept>
         ensures { option_map (λ k. k.now) result ≡ kept_of self.now.kept window }
     {
-        self.windows.get().get(window)
+        self.windows.get(window)
     }
 
     /// The variables and procedures. No frame of variables stands.
     pub fn variables(&self) -> &Vars
         ensures { result.now ≡ self.now.variables }
     {
-        self.variables.get()
+        &self.variables
     }
 
-    /// Puts other variables, of which no frame stands, in the place of the present ones, which it returns.
-    pub fn replace_variables(&mut self, variables: Shared<Vars>) -> Shared<Vars>
-        requires { variables.locals ≡ [] }
-        ensures before { result ≡ self.old.variables }
-        ensures after { self.new ≡ record self.old { variables = variables } }
+    /// Takes the variables out, of which no frame stands. None are left.
+    pub fn take_variables(&mut self) -> Vars
+        ensures taken { result ≡ self.old.variables }
+        ensures rests { result.locals ≡ [] }
+        ensures left { self.new ≡ record self.old { variables = no_variables } }
     {
-        mem::replace(&mut self.variables, variables)
+        mem::replace(&mut self.variables, Vars::new(self.alloc))
+    }
+
+    /// Puts variables, of which no frame stands, in the place of the present ones.
+    pub fn put_variables(&mut self, variables: Vars)
+        requires { variables.locals ≡ [] }
+        ensures { self.new ≡ record self.old { variables = variables } }
+    {
+        self.variables = variables;
     }
 
     /// Says how many inputs were accepted.
@@ -314,7 +323,7 @@ impl World {
         ensures value { MakesSo (λ id. (id, self.new)) result (with_window self.old path.now widget) }
         ensures err { OnErr result (self.new ≡ self.old) }
     {
-        let window = self.windows.get_mut(self.alloc)?.add(path, widget)?;
+        let window = self.windows.add(path, widget)?;
         Ok(window)
     }
 
@@ -324,8 +333,8 @@ impl World {
         ensures value { Gives (λ _. self.new) result (destroyed self.old window) }
         ensures err { OnErr result (self.new ≡ self.old) }
     {
-        let windows = Shared::new(self.alloc, self.windows.get().without(window)?)?;
-        let tree = windows.get().tree();
+        let windows = self.windows.without(window)?;
+        let tree = windows.tree();
         let events = self.events.left(tree)?;
         let event_loop = self.event_loop.left(tree)?;
         self.windows = windows;
@@ -340,7 +349,17 @@ impl World {
         ensures ok { OnOk result (self.new ≡ with_widget self.old window widget) }
         ensures err { OnErr result (self.new ≡ self.old) }
     {
-        self.windows.get_mut(self.alloc)?.set_widget(window, widget)
+        self.windows.set_widget(window, widget)
+    }
+
+    /// What the widget of a window answers to the words of a whole command, the window's path first. The widget stays where it
+    /// stands, and is copied only where a mark holds it too. Where no window has the number, the answer is empty.
+    pub fn call_widget(&mut self, window: WindowId, words: &[Txt]) -> Result<Said, Failure>
+        ensures value { Gives (λ said. (said, self.new)) result (called self.old window words.now) }
+        ensures err { OnErr result (self.new ≡ self.old) }
+    {
+        let said = self.windows.call(window, words)?;
+        Ok(said)
     }
 
     /// Sets the tags of a window, or takes away those that were set. Where no window has the number, nothing is done.
@@ -348,7 +367,7 @@ impl World {
         ensures ok { OnOk result (self.new ≡ tagged self.old window tags) }
         ensures err { OnErr result (self.new ≡ self.old) }
     {
-        self.windows.get_mut(self.alloc)?.set_tags(window, tags)
+        self.windows.set_tags(window, tags)
     }
 
     /// Packs a window in the one that it stands in, with options and values in turn. `.` is never packed.
@@ -356,7 +375,7 @@ impl World {
         ensures value { Gives (λ _. self.new) result (packed self.old window options.now) }
         ensures err { OnErr result (self.new ≡ self.old) }
     {
-        self.windows.get_mut(self.alloc)?.pack(window, options)?;
+        self.windows.pack(window, options)?;
         Ok(())
     }
 
@@ -365,7 +384,7 @@ impl World {
         ensures ok { OnOk result (self.new ≡ unpacked self.old window) }
         ensures err { OnErr result (self.new ≡ self.old) }
     {
-        self.windows.get_mut(self.alloc)?.forget(window)
+        self.windows.forget(window)
     }
 
     /// Says whether a container asks to be as large as its contents need.
@@ -373,9 +392,7 @@ impl World {
         ensures ok { OnOk result (self.new ≡ with_propagation self.old window propagates) }
         ensures err { OnErr result (self.new ≡ self.old) }
     {
-        self.windows
-            .get_mut(self.alloc)?
-            .set_propagates(window, propagates)
+        self.windows.set_propagates(window, propagates)
     }
 
     /// The bindings, in the order in which they were made.
@@ -386,7 +403,7 @@ impl World {
     }
 
     /// The texts of the last errors, at most 32, of scripts that no script was there to see; the oldest first.
-    pub fn faults(&self) -> &[Txt]
+    pub fn faults(&self) -> &SharedList<Txt>
         ensures { result.now ≡ self.now.faults }
     {
         self.events.faults()
@@ -454,12 +471,10 @@ impl World {
         self.events.remove_virtual_sequence(name, sequence)
     }
 
-    /// Adds an event that is delivered to the history; a virtual one is passed over. Where memory is refused, it hands the event
-    /// back.
-    pub fn add_event(&mut self, event: Event) -> Result<(), AllocFailed<Event>>
-        ensures ok { OnOk result (self.new ≡ with_event event self.old) }
+    /// Adds a copy of an event that is delivered to the history; a virtual one is passed over.
+    pub fn add_event(&mut self, event: &Event) -> Result<(), AllocError>
+        ensures ok { OnOk result (self.new ≡ with_event event.now self.old) }
         ensures err { OnErr result (self.new ≡ self.old) }
-        ensures handed_back { IfErr result (λ refused. refused.value ≡ event) }
     {
         self.events.add_event(event)
     }
@@ -500,7 +515,7 @@ impl World {
         ensures ok { OnOk result (self.new ≡ queued place event self.old) }
         ensures err { OnErr result (self.new ≡ self.old) }
     {
-        if is_there(self.windows.get().tree(), WindowId::of(event.window)) {
+        if is_there(self.windows.tree(), WindowId::of(event.window)) {
             self.event_loop.put_event(place, event)?;
         }
         Ok(())
@@ -573,7 +588,7 @@ impl World {
         ensures bound { self.now.focus ≤ 2 ^ 62 }
     {
         // What holds of all windows is asked for here.
-        let _ = self.windows.get().tree();
+        let _ = self.windows.tree();
         self.event_loop.focus()
     }
 
@@ -581,7 +596,7 @@ impl World {
     pub fn set_focus(&mut self, window: WindowId)
         ensures { self.new ≡ focused window self.old }
     {
-        if is_there(self.windows.get().tree(), window) {
+        if is_there(self.windows.tree(), window) {
             self.event_loop.set_focus(window);
         }
     }
@@ -606,7 +621,7 @@ impl World {
         ensures bound { IfSome result (λ window. window ≤ 2 ^ 62) }
     {
         // What holds of all windows is asked for here.
-        let _ = self.windows.get().tree();
+        let _ = self.windows.tree();
         self.event_loop.pressed()
     }
 
@@ -615,7 +630,7 @@ impl World {
         ensures { self.new ≡ pressed_in window self.old }
     {
         self.event_loop
-            .set_pressed(left_pressed(self.windows.get().tree(), window));
+            .set_pressed(left_pressed(self.windows.tree(), window));
     }
 
     /// What the commands of an application keep.
@@ -625,12 +640,19 @@ impl World {
         &self.memories
     }
 
-    /// Puts other memories in the place of the present ones, which it returns.
-    pub fn replace_memories(&mut self, memories: Memories) -> Memories
-        ensures before { result ≡ self.old.memories }
-        ensures after { self.new ≡ record self.old { memories = memories } }
+    /// Takes the memories out. None are left.
+    pub fn take_memories(&mut self) -> Memories
+        ensures taken { result ≡ self.old.memories }
+        ensures left { self.new ≡ record self.old { memories = map.empty } }
     {
-        mem::replace(&mut self.memories, memories)
+        mem::replace(&mut self.memories, Memories::none(self.alloc))
+    }
+
+    /// Puts memories in the place of the present ones.
+    pub fn put_memories(&mut self, memories: Memories)
+        ensures { self.new ≡ record self.old { memories = memories } }
+    {
+        self.memories = memories;
     }
 
     /// Takes out what the scripts of earlier inputs parsed.
@@ -647,19 +669,18 @@ impl World {
         self.parsed = parsed;
         self.parsed.keep_short();
     }
+}
 
-    /// An equal world. The two share all that they hold, so this takes next to no time, whatever the world holds; what one of
-    /// them changes is copied first.
-    pub fn try_clone(&self) -> Result<World, AllocError>
-        ensures { IfOk result (λ w. w ≡ self.now) }
-    {
+impl Share for World {
+    // What was parsed stays with the one.
+    fn share(&self) -> Result<World, AllocError> {
         Ok(World {
             alloc: self.alloc,
             accepted: self.accepted,
             windows: self.windows.share()?,
             variables: self.variables.share()?,
-            events: self.events.try_clone()?,
-            event_loop: self.event_loop.try_clone()?,
+            events: self.events.share()?,
+            event_loop: self.event_loop.share()?,
             memories: self.memories.share()?,
             grid: self.grid,
             parsed: ParseTable::new(self.alloc),

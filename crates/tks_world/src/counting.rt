@@ -6,7 +6,6 @@ ghost use Rattle.tks_world.specs.Stepped.{max_count, counted, kept, Accepts};
 use std::alloc::Global;
 use tks_app::Memories;
 use tks_input::{Refused, Reply};
-use tks_share::Shared;
 use tks_state::World;
 use tks_text::{MAX_NUMBER, Txt};
 use tks_vars::Vars;
@@ -24,7 +23,7 @@ pub fn accept(
     world: &mut World,
     before: u64,
     memories: Memories,
-    variables: Shared<Vars>,
+    variables: Vars,
     code: u8,
     text: Txt,
 ) -> Result<Reply, Refused>
@@ -37,8 +36,8 @@ pub fn accept(
     }
     let number = before + 1;
     world.set_accepted(number);
-    world.replace_memories(memories);
-    world.replace_variables(variables);
+    world.put_memories(memories);
+    world.put_variables(variables);
     Ok(Reply { number, code, text })
 }
 

@@ -4,7 +4,6 @@ ghost use Rattle.tks_text.specs.declared.fault.ErrorNumber.TheVariants.{OutsideL
 ghost use Rattle.tks_tcl.specs.Cause.{bare};
 ghost use Rattle.tks_eval.specs.Meets.{EndsSo};
 ghost use Rattle.tks_world.specs.Stepped.{Accepts, counted, max_count};
-ghost use Rattle.tks_world.specs.Hosting.{stripped};
 ghost use Rattle.tks_world.specs.Hosts.{setting_of};
 ghost use Rattle.tks_world.specs.Scripts.{script_ends, concluded, lent, script_step};
 ghost use Rattle.tks_world.specs.Meets.{FailsSo, RefusedSo, ReachesSo};
@@ -12,34 +11,23 @@ ghost use Rattle.tks_world.specs.Meets.{FailsSo, RefusedSo, ReachesSo};
 use crate::counting::accept;
 use crate::host::WorldHost;
 use crate::refusal::refused_by;
-use std::alloc::{AllocError, Global};
+use std::alloc::Global;
+use std::mem;
 use tks_app::{AppBody, AppMeaning, Apps, Memories};
 use tks_eval::{Ended, eval};
 use tks_input::{Refused, Reply};
 use tks_parse::{Script, parse};
 use tks_parse_table::ParseTable;
-use tks_share::Shared;
-use tks_state::{Mark, World};
+use tks_share::{Mark, Marked};
+use tks_state::World;
 use tks_tcl::Stop;
 use tks_text::{ErrorNumber, Limits, ScriptFault, Txt, fits};
 use tks_vars::Vars;
 
-/// Takes variables and memories out of the world, beside which they go while scripts run. No frame of these stands.
-pub fn take_parts(alloc: Global, world: &mut World) -> Result<(Vars, Memories), AllocError>
-    ensures { IfOk result (λ parts. (parts.0 ≡ world.old.variables) × (parts.0.locals ≡ []) × (parts.1 ≡ world.old.memories) × (world.new ≡ stripped world.old)) }
-{
-    // That no frame stands is asked for here.
-    world.stands();
-    let variables = world.variables().try_clone()?;
-    world.replace_variables(Shared::new(alloc, Vars::new(alloc))?);
-    let memories = world.replace_memories(Memories::none(alloc));
-    Ok((variables, memories))
-}
-
 /// Keeps what became of the world where an input is accepted, and goes back to what was marked where it is refused.
 pub fn settle(
     world: &mut World,
-    mark: Mark,
+    mark: Mark<World>,
     answer: Result<Reply, Refused>,
 ) -> Result<Reply, Refused>
     ensures answer { result ≡ answer }
@@ -66,8 +54,7 @@ pub fn conclude<T: AppMeaning, B: AppBody>(
     ensures same_place { host.new.world.ghost_name ≡ host.old.world.ghost_name }
     ensures reaches { ReachesSo (counted before host.old.world.now host.old.memories.now code text variables) result host.new.world.now }
 {
-    let memories = host.memories.share()?;
-    let variables = Shared::new(host.alloc, variables)?;
+    let memories = mem::replace(host.memories, Memories::none(host.alloc));
     accept(host.world, before, memories, variables, code, text)
 }
 
@@ -132,8 +119,8 @@ fn run_marked<T: AppMeaning, B: AppBody>(
 ) -> Result<Reply, Refused>
     ensures { ReachesSo (concluded world.old.accepted (script_ends T.meaning limits.now script (lent apps.now limits.now world.old) world.old.variables)) result world.new }
 {
-    let (variables, memories) = take_parts(alloc, world)?;
-    let mut memories = memories;
+    let variables = world.take_variables();
+    let mut memories = world.take_memories();
     run_beside(
         alloc,
         world,
@@ -165,8 +152,9 @@ pub fn step_script<T: AppMeaning, B: AppBody>(
     let mark = world.mark()?;
     let mut parsed = world.take_parsed();
     let answer = run_marked(alloc, world, apps, &mut parsed, script, limits);
+    let answer = settle(world, mark, answer);
     world.put_parsed(parsed);
-    settle(world, mark, answer)
+    answer
 }
 
 /// Runs a script at top level. `return` ends it well; `break` and `continue` are errors.

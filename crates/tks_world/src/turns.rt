@@ -8,7 +8,7 @@ ghost use Rattle.tks_world.specs.Meets.{RefusedSo, ReachesSo};
 
 use crate::host::WorldHost;
 use crate::refusal::refused_by;
-use crate::scripts::{conclude, run_script, settle, take_parts};
+use crate::scripts::{conclude, run_script, settle};
 use crate::telling::told;
 use crate::things::{Thing, is_quiet, take_thing};
 use std::alloc::Global;
@@ -18,6 +18,7 @@ use tks_eval::{Ended, Host, eval_plan};
 use tks_event::Event;
 use tks_input::{Refused, Reply};
 use tks_parse_table::ParseTable;
+use tks_share::Marked;
 use tks_state::World;
 use tks_tcl::Stop;
 use tks_text::{Limits, Txt};
@@ -169,8 +170,8 @@ fn turn_marked<T: AppMeaning, B: AppBody>(
 ) -> Result<Reply, Refused>
     ensures { ReachesSo (turn_step (record { names = apps.now; meaning = T.meaning }) limits.now world.old) result world.new }
 {
-    let (variables, memories) = take_parts(alloc, world)?;
-    let mut memories = memories;
+    let variables = world.take_variables();
+    let mut memories = world.take_memories();
     turn_beside(alloc, world, &mut memories, variables, apps, parsed, limits)
 }
 
@@ -191,6 +192,7 @@ pub fn step_turn<T: AppMeaning, B: AppBody>(
     let mark = world.mark()?;
     let mut parsed = world.take_parsed();
     let answer = turn_marked(alloc, world, apps, &mut parsed, limits);
+    let answer = settle(world, mark, answer);
     world.put_parsed(parsed);
-    settle(world, mark, answer)
+    answer
 }

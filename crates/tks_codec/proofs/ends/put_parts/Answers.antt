@@ -11,5 +11,5 @@ returns-clause-legal c =
     let focus : w.focus < 2 ^ 64 = omega (arith, c.number.type_inv, c.number.ensures, c.focus.ensures) in
     let pressed = subst press.Legal c.pressed.ensures.value c.in_ok-put_press.ensures.legal in
     let kept = subst memories.Legal (c.texts.ensures ∙ c.memories.ensures) c.in_ok-put_table.ensures.legal in
-    let faults = subst texts.Legal c.faults.ensures c.in_ok-put_list.ensures.legal in
+    let faults = subst texts.Legal (c.iter.ensures ∙ c.faults.ensures) c.in_ok-put_items.ensures.legal in
     anyway c.put_u8.result (focus, (held_legal w.held, (pressed, (kept, (faults, ((omega arith, refl), refl))))))

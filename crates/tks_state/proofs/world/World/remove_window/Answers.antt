@@ -1,7 +1,6 @@
-use Rattle.std.proofs.Common.{ap, sym, ◌∙◌}
+use Rattle.std.proofs.Common.{ap, ◌∙◌}
 use Rattle.tks_tree.specs.Windows as tree
 use Rattle.tks_state.specs.EventLoop.{all_in, left}
-use Rattle.tks_state.specs.Windows.{Windows}
 use Rattle.tks_state.proofs.Looping.{left_there}
 use Rattle.tks_state.proofs.world.World.remove_window.Goals as goal
 
@@ -9,8 +8,6 @@ pub invariant_of-self : goal.invariant_of-self
 invariant_of-self c =
     let ws = c.in_ok-windows.windows.tree.windows in
     let loop = c.self.inside.event_loop in
-    let same = c.tree-tree.ensures.value ∙ ap (λ (x : Windows). x.tree) c.get-2.ensures in
     let first = c.tree-tree.ensures.formed.windows.first in
-    let root_first = sym (ap (λ (x : Windows). x.tree.windows) c.get-2.ensures) ∙ first.1 in
-    let there = ap (all_in ws) (c.in_ok-event_loop.ensures ∙ ap (λ (t : tree.Windows). left t.windows loop) same) ∙ left_there ws first.0 loop root_first in
+    let there = ap (all_in ws) (c.in_ok-event_loop.ensures ∙ ap (λ (t : tree.Windows). left t.windows loop) c.tree-tree.ensures.value) ∙ left_there ws first.0 loop first.1 in
     (c.self.invariant.0, there, c.self.invariant.2)
