@@ -1,4 +1,6 @@
 mod Rising
-mod Least
+pub mod Least
 mod Forming
+pub mod Ordering
+pub mod Finding
 pub mod Firsts

@@ -2,5 +2,6 @@
 pub mod After
 pub mod Firsts
 pub mod Ids
+pub mod Order
 pub mod Waits
 pub mod WellFormed

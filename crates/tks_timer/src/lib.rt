@@ -4,6 +4,7 @@
 mod entry;
 mod fault;
 mod laws;
+mod order;
 mod timers;
 
 pub use entry::{Idle, Timer};

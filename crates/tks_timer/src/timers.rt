@@ -1,15 +1,18 @@
 //! The scripts that wait, and what is done to them.
-ghost use Rattle.std.specs.Prelude.{◌≡◌, ◌↔◌, ◌<◌, ◌≤◌, ◌^◌, true, length, Some, Err, IfOk, OnOk, OnErr, option_copied, option_map, IsPermutation};
+ghost use Rattle.std.specs.Prelude.{◌≡◌, ◌==◌, ◌↔◌, ◌<◌, ◌≤◌, ◌^◌, true, length, Some, Err, IfOk, OnOk, OnErr, option_copied, option_map, IsPermutation};
+ghost use Rattle.std.specs.List.{find};
 ghost use Rattle.std.specs.List.Sorted.{IsSorted};
 ghost use Rattle.std.specs.Ordering.{nat_cmp};
 ghost use Rattle.tks_text.specs.Fault.{Gives};
-ghost use Rattle.tks_timer.specs.After.{Content, nothing, no_later, with_timer, with_idle, without, without_found, is_sooner, soonest, lesser, first_due, due_at, first_idle, timer_script, idle_script, kept_under, script_in, told_about, timer_with, idle_with, with_script, ids};
+ghost use Rattle.tks_timer.specs.After.{Content, nothing, no_later, with_timer, with_idle, without, without_found, lesser, due_at, first_idle, kept_under, script_in, told_about, timer_with, idle_with, with_script, ids};
 ghost use Rattle.tks_timer.specs.Firsts.{CancelsLeast, RunsNext};
+ghost use Rattle.tks_timer.specs.Order.{in_turn};
 ghost use Rattle.tks_timer.specs.Waits.{waiting_seen};
 ghost use Rattle.tks_timer.specs.WellFormed.{are_waiting, AreWaiting};
 
 use crate::entry::{Idle, Timer};
 use crate::fault::AfterFault;
+use crate::order::Order;
 use std::alloc::{AllocError, Global};
 use std::marker::Model;
 use tks_share::{Items, Share, SharedList};
@@ -28,6 +31,8 @@ pub enum Waiting<'a> {
 pub struct Timers {
     alloc: Global,
     timers: SharedList<Timer>,
+    /// When each is due, the soonest first.
+    order: Order,
     idles: SharedList<Idle>,
     next: u64,
 }
@@ -38,6 +43,7 @@ impl Drop for Timers {
         let Timers {
             alloc: _,
             timers: _,
+            order: _,
             idles: _,
             next: _,
         } = self;
@@ -51,9 +57,9 @@ impl Model for Timers {
 
     ghost view = { λ t. record { timers = t.timers; idles = t.idles; next = t.next } };
 
-    ghost use Rattle.tks_timer.specs.WellFormed.{AreWaiting};
+    ghost use Rattle.tks_timer.specs.Order.{AreInOrder};
 
-    ghost invariant = { λ t. AreWaiting (record { timers = t.timers; idles = t.idles; next = t.next }) };
+    ghost invariant = { λ t. AreInOrder (record { timers = t.timers; idles = t.idles; next = t.next }) t.order };
 }
 
 impl Timers {
@@ -64,6 +70,7 @@ impl Timers {
         Timers {
             alloc,
             timers: SharedList::new(alloc),
+            order: Order::new(alloc),
             idles: SharedList::new(alloc),
             next: 0,
         }
@@ -82,10 +89,12 @@ impl Timers {
         ensures { IfOk result (λ made. made ≡ record { timers = timers.items; idles = idles.items; next = next }) }
     {
         let timers = SharedList::of(alloc, timers)?;
+        let order = Order::of(alloc, &timers)?;
         let idles = SharedList::of(alloc, idles)?;
         Ok(Timers {
             alloc,
             timers,
+            order,
             idles,
             next,
         })
@@ -149,7 +158,10 @@ impl Timers {
             return Err(AfterFault::OutOfNumbers);
         }
         let due = no_later(due);
+        let mut order = self.order.share()?;
+        order.put((due, id))?;
         self.timers.push(Timer { id, due, script })?;
+        self.order = order;
         self.next = id + 1;
         Ok(id)
     }
@@ -170,15 +182,49 @@ impl Timers {
         Ok(id)
     }
 
+    // The timer of an id.
+    fn timer_of(&self, id: u64) -> Option<&Timer>
+        ensures { option_copied result ≡ find (λ t. t.id == id) self.now.timers }
+    {
+        match self.timers.place_of(id) {
+            None => None,
+            Some(index) => self.timers.get(index),
+        }
+    }
+
+    // The idle script of an id.
+    fn idle_of(&self, id: u64) -> Option<&Idle>
+        ensures { option_copied result ≡ find (λ i. i.id == id) self.now.idles }
+    {
+        match self.idles.place_of(id) {
+            None => None,
+            Some(index) => self.idles.get(index),
+        }
+    }
+
+    // The order of the timers but for the one of an id.
+    fn order_without(&self, id: u64) -> Result<Order, AllocError>
+        ensures { IfOk result (λ order. order ≡ in_turn (without id self.now).timers) }
+    {
+        let mut order = self.order.share()?;
+        let Some(timer) = self.timer_of(id) else {
+            return Ok(order);
+        };
+        order.take((timer.due, timer.id))?;
+        Ok(order)
+    }
+
     /// Takes out the script of an id; where there is none, nothing is done.
     pub fn cancel(&mut self, id: u64) -> Result<(), AllocError>
         ensures ok { OnOk result (self.new ≡ without id self.old) }
         ensures err { OnErr result (self.new ≡ self.old) }
     {
+        let order = self.order_without(id)?;
         let mut timers = self.timers.share()?;
         timers.remove_number(id)?;
         self.idles.remove_number(id)?;
         self.timers = timers;
+        self.order = order;
         Ok(())
     }
 
@@ -212,8 +258,7 @@ impl Timers {
         ensures value { result ≡ due_at now self.now }
         ensures first { RunsNext now self.now.timers result }
     {
-        let (_, id) = first_due(&self.timers, now)?;
-        Some(id)
+        self.order.due(now)
     }
 
     /// The id of the idle script that has waited longest. It takes no memory.
@@ -225,12 +270,16 @@ impl Timers {
     }
 
     // The script of an id.
+    #[tactic(auto, using(crate::proofs::Finding::timer_script_found, crate::proofs::Finding::idle_script_found))]
     fn script(&self, id: u64) -> Option<&Txt>
         ensures { option_copied result ≡ script_in (kept_under id self.now) }
     {
-        match timer_script(&self.timers, id) {
-            Some(script) => Some(script),
-            None => idle_script(&self.idles, id),
+        if let Some(timer) = self.timer_of(id) {
+            return Some(&timer.script);
+        }
+        match self.idle_of(id) {
+            Some(idle) => Some(&idle.script),
+            None => None,
         }
     }
 
@@ -265,14 +314,15 @@ impl Timers {
     }
 
     /// The script of an id, which was written so. Where there is none, the error is about what was written.
+    #[tactic(auto, using(crate::proofs::Finding::timer_script_found, crate::proofs::Finding::idle_script_found))]
     pub fn info(&self, id: u64, written: &Txt) -> Result<Waiting<'_>, Failure>
         ensures { Gives waiting_seen result (told_about written.now (kept_under id self.now)) }
     {
-        if let Some(script) = timer_script(&self.timers, id) {
-            return Ok(Waiting::Timer(script));
+        if let Some(timer) = self.timer_of(id) {
+            return Ok(Waiting::Timer(&timer.script));
         }
-        match idle_script(&self.idles, id) {
-            Some(script) => Ok(Waiting::Idle(script)),
+        match self.idle_of(id) {
+            Some(idle) => Ok(Waiting::Idle(&idle.script)),
             None => Err(Failure::about(ErrorNumber::NoSuchAfterId, written)),
         }
     }
@@ -283,6 +333,7 @@ impl Share for Timers {
         Ok(Timers {
             alloc: self.alloc,
             timers: self.timers.share()?,
+            order: self.order.share()?,
             idles: self.idles.share()?,
             next: self.next,
         })
@@ -296,22 +347,6 @@ fn no_later(time: u64) -> u64
     time.min(MAX_TIME)
 }
 
-// Whether the first is due sooner, or together with the second and of a lesser id.
-fn is_sooner(a: (u64, u64), b: (u64, u64)) -> bool
-    ensures { result ≡ is_sooner a b }
-{
-    a.0 < b.0 || (a.0 == b.0 && a.1 < b.1)
-}
-
-fn soonest(a: Option<(u64, u64)>, b: (u64, u64)) -> (u64, u64)
-    ensures { Some result ≡ soonest a (Some b) }
-{
-    match a {
-        None => b,
-        Some(a) => { if is_sooner(b, a) { b } else { a } }
-    }
-}
-
 // The lesser of two ids.
 fn lesser(a: Option<u64>, b: Option<u64>) -> Option<u64>
     ensures { result ≡ lesser a b }
@@ -321,41 +356,6 @@ fn lesser(a: Option<u64>, b: Option<u64>) -> Option<u64>
         (_, None) => a,
         (Some(x), Some(y)) => { if y < x { Some(y) } else { Some(x) } }
     }
-}
-
-#[tactic(auto, using(crate::proofs::Least::soonest_assoc))]
-fn first_due(timers: &SharedList<Timer>, now: u64) -> Option<(u64, u64)>
-    ensures { result ≡ first_due now timers.now }
-{
-    let mut best = None;
-    for timer in timers.iter() {
-        if timer.due <= now {
-            best = Some(soonest(best, (timer.due, timer.id)));
-        }
-    }
-    best
-}
-
-fn timer_script(timers: &SharedList<Timer>, id: u64) -> Option<&Txt>
-    ensures { option_copied result ≡ timer_script id timers.now }
-{
-    for timer in timers.iter() {
-        if timer.id == id {
-            return Some(&timer.script);
-        }
-    }
-    None
-}
-
-fn idle_script(idles: &SharedList<Idle>, id: u64) -> Option<&Txt>
-    ensures { option_copied result ≡ idle_script id idles.now }
-{
-    for idle in idles.iter() {
-        if idle.id == id {
-            return Some(&idle.script);
-        }
-    }
-    None
 }
 
 #[tactic(auto, using(crate::proofs::Least::lesser_assoc))]

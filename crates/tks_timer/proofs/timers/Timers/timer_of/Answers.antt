@@ -1,0 +1,22 @@
+use Rattle.std.proofs.Common.{◌==◌, sym, ap, ◌∙◌}
+use Rattle.std.specs.List.{find}
+use Rattle.tks_timer.specs.After.{Content}
+use Rattle.tks_timer.proofs.Finding.{found_there, found_nowhere}
+use Rattle.tks_timer.proofs.Forming.{timers_rise}
+use Rattle.tks_timer.proofs.timers.Timers.timer_of.Goals as goal
+
+pub place_of-requires : goal.place_of-requires
+place_of-requires c =
+    let content : Content = record { timers = c.self.inside.timers; idles = c.self.inside.idles; next = c.self.inside.next } in
+    timers_rise content c.self.invariant.waiting
+
+pub returns-in-None : goal.returns-in-None
+returns-in-None c =
+    sym (found_nowhere (λ t. t.id == c.args.id) c.self.inside.timers (sym c.place_of.ensures ∙ c.in-None.is))
+    ∙ ap (λ (all : Content). find (λ t. t.id == c.args.id) all.timers) c.self.view_is
+
+pub returns-in-Some : goal.returns-in-Some
+returns-in-Some c =
+    c.get.ensures
+    ∙ found_there (λ t. t.id == c.args.id) c.self.inside.timers c.in-Some.index (sym c.place_of.ensures ∙ c.in-Some.is)
+    ∙ ap (λ (all : Content). find (λ t. t.id == c.args.id) all.timers) c.self.view_is
