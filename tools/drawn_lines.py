@@ -1,4 +1,4 @@
-"""Lines of the program drawn at random: words of the language, keys and buttons, times, scripts behind their length, and what is
+"""Lines of the program drawn at random: words of the language, keys and buttons, times, rules, scripts behind their length, and what is
 no line at all."""
 from format_tables import KEYSYMS
 
@@ -74,6 +74,9 @@ class Lines:
         self.clock += draws.randint(-5, 50)
         return 'clock %d' % self.clock
 
+    def rules(self):
+        return 'rules ' + self.draws.choice(['1', '1', '2', *NUMBERS])
+
     def drain(self):
         return 'drain ' + self.draws.choice(NUMBERS)
 
@@ -107,8 +110,8 @@ class Lines:
         draws = self.draws
         if draws.random() < 0.0005:
             return self.overlong()
-        kinds = [self.command, self.key, self.button, self.time, self.drain, self.plain, self.load, self.noise]
-        line = draws.choices(kinds, [40, 8, 6, 5, 3, 12, 14, 8])[0]()
+        kinds = [self.command, self.key, self.button, self.time, self.rules, self.drain, self.plain, self.load, self.noise]
+        line = draws.choices(kinds, [40, 8, 6, 5, 1, 3, 12, 14, 8])[0]()
         if draws.random() < 0.08:
             at = draws.randint(0, len(line))
             line = line[at:] if draws.random() < 0.3 else line[:at]

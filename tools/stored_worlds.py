@@ -1,13 +1,13 @@
 """Reads a world from its bytes, as docs/FORMAT.md says; stores.py has the reader, and what two files hold.
 
-`world` gives it with all that stands in it, or raises `Wrong`.
+`world` gives it with all that stands in it, or raises `Wrong`; by which rules one may go is told by the format of its side.
 """
 import re
 from typing import Any, NamedTuple
 
 from format_tables import (ANCHORS, BUTTON, CHECKBUTTON, DOWN, ENTRY, FILLS, FOCUS_IN, FOCUS_OUT, FRAME, KEYSYMS, KEY_DOWN,
                            KEY_UP, LABEL, LISTBOX, ROOT, SIDES, TEXT, UP, VIRTUAL, options_of)
-from stores import MOST, Reader, Wrong
+from stores import FIRST, MOST, Reader, Wrong
 
 LAST = MOST - 1  # The last time that there is.
 
@@ -313,6 +313,7 @@ class World(NamedTuple):
     pressed: Any
     memories: dict
     faults: list
+    rules: int
     sizes: dict
 
 
@@ -329,8 +330,8 @@ class Parts:
         return found
 
 
-def world(reader):
-    """The world behind these bytes; raises Wrong."""
+def world(reader, form):
+    """The world behind these bytes, in a side of this format; raises Wrong."""
     accepted, clock = reader.upto(8, MOST), reader.upto(8, LAST)
     next_window, next_binding, next_id = [reader.upto(8, MOST) for _ in range(3)]
     parts = Parts(reader)
@@ -352,9 +353,9 @@ def world(reader):
     memories = part('memories', lambda: reader.table(reader.text))
     faults = part('faults', lambda: reader.many(reader.text))
     reader.check(len(faults) <= 32, 'more than 32 faults')
-    reader.upto(1, 1, 1)
+    rules = reader.upto(1, 1 if form == FIRST else 2, 1)
     world = World(accepted, clock, next_window, next_binding, next_id, *found, focus, keys, buttons, pressed, memories, faults,
-                  parts.sizes)
+                  rules, parts.sizes)
     check_agreement(reader, world)
     return world
 
@@ -368,20 +369,26 @@ def check_agreement(reader, world):
     reader.check(world.pressed is None or world.pressed in numbers, 'the window of the last press is not there')
 
 
-def world_between(given, start, end, names=None):
-    """The world that the bytes from a place to another are, to the last of them. Where `names` are told, its memories have to
-    be those. Raises Wrong, whose place is one of `given`."""
+def world_in(side, names=None):
+    """The world of a side, to the last of its bytes. Where `names` are told, its memories have to be those. Raises Wrong, whose
+    place is one of the side."""
+    start, end = side.world
+    return world_between(side.given, start, end, side.format, names)
+
+
+def world_between(given, start, end, form, names=None):
+    """The same of the bytes from a place to another, in a side of this format."""
     reader = Reader(given[:end], start)
-    found = world(reader)
+    found = world(reader, form)
     if reader.at < end:
         raise Wrong(reader.at, 'bytes stand behind the world')
     reader.check(names is None or list(found.memories) == names, 'the memories are not those of the names of the header')
     return found
 
 
-def whole_world(given):
-    """The world that these bytes are, to the last of them; None where they are none."""
+def whole_world(given, form):
+    """The world that these bytes are in a side of this format, to the last of them; None where they are none."""
     try:
-        return world_between(given, 0, len(given))
+        return world_between(given, 0, len(given), form)
     except Wrong:
         return None

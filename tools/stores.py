@@ -6,7 +6,9 @@ says what both hold; worlds are read by stored_worlds.py. `Wrong` is raised wher
 import re
 from typing import NamedTuple
 
-GATE, FORMAT, MOST = 1, 1, 1 << 62
+GATE, MOST = 1, 1 << 62
+# The formats of a side: in the second a frame has a count of its inputs, and a world may go by other rules.
+FIRST, SECOND = FORMATS = 1, 2
 TEXT_BYTES = frozenset([9, 10, *range(32, 127)])
 
 
@@ -102,7 +104,7 @@ class Side:
         self.given = given
         self.header = self.world = self.wrong = self.end = None
         self.frames = []
-        if self.is_open and self.format == FORMAT:
+        if self.is_open and self.format in FORMATS:
             try:
                 self.read(Reader(given, 2))
             except Wrong as wrong:
@@ -124,7 +126,7 @@ class Side:
         start = reader.at
         reader.take(found.length)
         self.world = start, reader.at
-        for frame in frames(reader):
+        for frame in frames(reader, self.format):
             self.frames.append(frame)
         self.end = reader.at - 1
 
@@ -138,6 +140,19 @@ def is_open(side):
     return len(side) > 1 and side[0] == GATE
 
 
+def in_first_format(given):
+    """The bytes of a sound side of the second format, as the first one has them; those of a closed side as they are."""
+    side = Side(given)
+    if not side.is_open:
+        return given
+    made = given[:1] + bytes([FIRST]) + given[2:side.world[1]]
+    for frame in side.frames:
+        start = frame.at + 5
+        length = int.from_bytes(given[frame.at + 1:start], 'big')
+        made += bytes([GATE]) + (length - 4).to_bytes(4, 'big') + given[start + 4:start + length]
+    return made + b'\0'
+
+
 def header(reader):
     generation = reader.number(8)
     grid = reader.upto(2, 200, 1), reader.upto(2, 100, 1)
@@ -145,26 +160,37 @@ def header(reader):
     return Header(generation, grid, names, reader.number(8))
 
 
-def frames(reader):
-    """The frames from a gate on, to the closed one."""
+def frames(reader, form):
+    """The frames of a side of this format, from a gate on, to the closed one."""
     while reader.number(1) == GATE:
         at, length = reader.at - 1, reader.count()
         start = reader.at
         reader.take(length)
-        yield Frame(at, inputs(Reader(reader.given[:reader.at], start)))
+        body = Reader(reader.given[:reader.at], start)
+        found = inputs(body) if form == FIRST else counted_inputs(body)
+        reader.lengths += body.lengths
+        yield Frame(at, found)
 
 
 def inputs(reader):
-    """The inputs of a frame's body, to its end."""
+    """The inputs of a frame of the first format, to its end."""
     found = []
     while reader.at < len(reader.given):
         found.append(input_at(reader))
     return found
 
 
+def counted_inputs(reader):
+    """Those of a frame of the second one: so many, to its end."""
+    found = reader.many(lambda: input_at(reader))
+    if reader.at < len(reader.given):
+        raise Wrong(reader.at, 'bytes stand behind the %d inputs of a frame' % len(found))
+    return found
+
+
 def input_at(reader):
     """An input, as the request that gives it."""
-    tag = reader.upto(1, 7, 1)
+    tag = reader.upto(1, 8, 1)
     if tag == 1:
         script = reader.text()
         return 'load %d\n%s\n' % (len(script), script) if '\n' in script else ('cmd ' + script if script else 'cmd') + '\n'
@@ -174,15 +200,18 @@ def input_at(reader):
         return '%s %s\n' % (['key', 'keyup'][tag - 2], name if re.fullmatch(r'\w+', name) else '!')
     if tag < 6:
         return '%s %d %d %d\n' % (['press', 'release'][tag - 4], reader.number(1), reader.number(2), reader.number(2))
-    return 'clock %d\n' % min(reader.number(8), 10 ** 19 - 1) if tag == 6 else 'turn\n'
+    if tag == 6:
+        return 'clock %d\n' % min(reader.number(8), 10 ** 19 - 1)
+    return 'turn\n' if tag == 7 else 'rules %d\n' % reader.number(1)
 
 
 # ---- both sides
 
 class Held(NamedTuple):
-    """What a store holds: which side is live, its header, the bytes of its world, the inputs in its frames."""
+    """What a store holds: which side is live, its format, its header, the bytes of its world, the inputs in its frames."""
 
     side: int
+    format: int
     header: Header
     world: bytes
     inputs: list
@@ -207,10 +236,10 @@ def held_by(sides):
     opened = [side for side in sides if side.is_open]
     if not opened:
         return None
-    if any(side.format != FORMAT for side in opened):
+    if any(side.format not in FORMATS for side in opened):
         return 'version'
     live = live_of(sides)
     if live is None or sides[live].wrong:
         return 'damaged'
     side = sides[live]
-    return Held(live, side.header, side.given[slice(*side.world)], side.inputs)
+    return Held(live, side.format, side.header, side.given[slice(*side.world)], side.inputs)

@@ -1,7 +1,7 @@
 """Tells what stores.py and stored_worlds.py read of a store, in lines of text."""
 from format_tables import CLASSES, ENTRY, KINDS, LISTBOX, MODIFIER_KEYS, MODIFIERS, REPEATS, TEXT, VIRTUAL, options_of
-from stored_worlds import world_between
-from stores import FORMAT, Held, Side, Wrong, held_by, live_of
+from stored_worlds import world_in
+from stores import FORMATS, Held, Side, Wrong, held_by, live_of
 
 NAMES = 'ab'
 # What is told of a text in a list of many.
@@ -49,7 +49,7 @@ def damage(side):
     if side.wrong or not side.world:
         return side.wrong
     try:
-        world_between(side.given, *side.world, side.header.names)
+        world_in(side, side.header.names)
     except Wrong as wrong:
         return wrong
     return None
@@ -76,9 +76,9 @@ def side_state(side, is_live):
     length = len(side.given)
     if not side.is_open:
         return 'the gate is closed; %s' % ('the %d bytes count for nothing' % length if length else 'no bytes')
-    if side.format != FORMAT:
+    if side.format not in FORMATS:
         return 'the gate is open, %d bytes of the format %d, which is not known' % (length, side.format)
-    return 'the gate is open, %d bytes of the format 1%s' % (length, '; this side is live' if is_live else '')
+    return 'the gate is open, %d bytes of the format %d%s' % (length, side.format, '; this side is live' if is_live else '')
 
 
 def damage_lines(side):
@@ -90,7 +90,7 @@ def damage_lines(side):
 def world_lines(side):
     start, end = side.world
     try:
-        world = world_between(side.given, start, end, side.header.names)
+        world = world_in(side, side.header.names)
     except Wrong:
         yield '  a world of %d bytes at %d, which is damaged' % (end - start, start)
         return
@@ -114,7 +114,7 @@ def frame_lines(side):
 def first_input(side):
     """The number of the first input in the frames of a side; 1 where its world can't be read."""
     try:
-        return world_between(side.given, *side.world).accepted + 1
+        return world_in(side).accepted + 1
     except Wrong:
         return 1
 
@@ -145,7 +145,7 @@ class Store:
     def world(self, number):
         """The world of a side."""
         side = self.sides[number]
-        return world_between(side.given, *side.world, side.header.names)
+        return world_in(side, side.header.names)
 
     def lines(self):
         """All that is told of the store."""
@@ -191,8 +191,8 @@ def told_world(world):
 
 def world_parts(world):
     paths = {one.number: one.path for one in world.windows}
-    yield 'behind %d inputs; clock %d; next window %d, binding %d, after#%d' % (
-        world.accepted, world.clock, world.next_window, world.next_binding, world.next_id)
+    yield 'behind %d inputs; rules %d; clock %d; next window %d, binding %d, after#%d' % (
+        world.accepted, world.rules, world.clock, world.next_window, world.next_binding, world.next_id)
     held = [name for bit, name in enumerate(MODIFIER_KEYS) if world.held_keys >> bit & 1]
     held += ['button %d' % (bit + 1) for bit in range(5) if world.held_buttons >> bit & 1]
     press = 'none' if world.pressed is None else paths[world.pressed]

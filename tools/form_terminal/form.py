@@ -4,7 +4,7 @@ from typing import NamedTuple
 
 from gaikyrumo import error_in_words, refusal_in_words, run
 
-MOST_BYTES = 65_536
+MOST_BYTES = 1_048_576
 GRID = re.compile(r'on a grid of (\d+) by (\d+)')
 
 

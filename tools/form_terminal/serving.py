@@ -20,7 +20,7 @@ DELAYS = (0, 1, 2, 4, 8)
 # Seconds that what is told stays at the least.
 TOLD = 3
 # Why a key isn't taken now, and will be.
-WAITS = {'large': '4,096 events wait already', 'memory': 'memory is wanting'}
+WAITS = {'large': '65,536 events wait already', 'memory': 'memory is wanting'}
 ASCII = 'a form takes the letters, digits and signs of ASCII'
 
 

@@ -6,8 +6,8 @@ from typing import NamedTuple
 
 from .start import start
 
-# A line `commit` is put in behind so many requests, since no more than 64 inputs may wait.
-WAITING = 60
+# A line `commit` is put in behind so many requests, since no more than 256 inputs may wait.
+WAITING = 250
 
 
 class Run(NamedTuple):

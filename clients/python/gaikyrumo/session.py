@@ -8,7 +8,7 @@ from .growth import Growth
 from .start import start
 
 # So many inputs may wait for a commit, and so many turns may be asked for at once.
-ROOM = 64
+ROOM = 256
 MOST_TURNS = 10_000
 MOST_LOADED = 1_048_576
 # What of the standard error of a program that ended is told: its last characters.
@@ -20,7 +20,7 @@ PATIENCE = 5
 class Session:
     """A run of the program on a store, which has the store's lock as long as the program runs.
 
-    `size` is the grid's columns and rows. Each call writes a line and reads its answers. Where 64 inputs wait, a call that
+    `size` is the grid's columns and rows. Each call writes a line and reads its answers. Where 256 inputs wait, a call that
     gives one more commits them and sends it again. A call on a program that has ended raises Ended, or SessionFault
     where it wrote what had failed; `start_again` goes on from the store.
 

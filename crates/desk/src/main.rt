@@ -128,7 +128,7 @@ fn tell_refusal<R: Eprint>(rt: &R, store: &str, error: io::Error) {
     let _ = rt.eprintln(error);
 }
 
-// Serves a reader and a writer, over the session on this disk, within the limits of format 1. The disk comes back.
+// Serves a reader and a writer, over the session on this disk, within the limits of format 2. The disk comes back.
 fn serve_on<R: BufRead, W: Write, D: Disk + Drop, B: AppBody>(
     alloc: Global,
     reader: &mut R,
@@ -144,7 +144,7 @@ fn serve_on<R: BufRead, W: Write, D: Disk + Drop, B: AppBody>(
     let Ok(apps) = own_apps(alloc, next, swap) else {
         return (ended_by(writer, &SessionFault::NoMemory), disk);
     };
-    match Session::open(alloc, disk, apps, grid, Limits::format1()) {
+    match Session::open(alloc, disk, apps, grid, Limits::format2()) {
         Ok(mut session) => {
             let end = run(alloc, reader, writer, &mut session);
             let (disk, _apps) = session.close();

@@ -6,7 +6,7 @@ use tks_app::AppBody;
 use tks_disk::{Fuse, Left, MemoryDisk};
 
 /// The line between the lines of one session and those of the next.
-const BETWEEN: &str = "--\n";
+pub const BETWEEN: &str = "--\n";
 
 /// More calls than the lines that are stopped may take.
 const MAX_CALLS: u64 = 1_000;

@@ -14,6 +14,12 @@
 //! written, `stopped` or `told`, and then what the third is answered behind six crashes: what wasn't synced is as it was, as it was
 //! written, or the byte 0, 1, 7 or 255. What is the same for several numbers in turn is written once.
 //!
+//! Behind a line `== stored WIDTH HEIGHT TITLE` stand the bytes of a store's two sides, in hex, and then runs of lines, with a line
+//! `--` between each two of these. The first run is answered by a session that is opened on the store, each other one by a session
+//! on what the one before it left, within the limits of format 2. Behind each it is written what became of either side: `same`; or
+//! `more`, and the bytes that stand now from the last gate on, where those before it are the same; or else `front`, and its gate,
+//! its format and its generation.
+//!
 //! With the words `damage COUNT SEED` it draws so many damaged spellings of each world instead of changing its bytes in turn, and
 //! writes how many are worlds still, where each of them is sound: `tools/damaged_worlds` runs it so.
 #![tactic(auto)]
@@ -22,6 +28,7 @@ mod crashes;
 mod damage;
 mod setup;
 mod sound;
+mod stores;
 mod worlds;
 
 ghost use Rattle.std.specs.Prelude.{◌≡◌, ℕ, List, IfOk};
@@ -34,6 +41,7 @@ use std::alloc::{AllocError, Global};
 use std::env;
 use std::io::{Read, Write};
 use std::process::ExitCode;
+use stores::put_stored;
 use tks_app::{AppAnswer, AppBody, AppClosure};
 use tks_desk::{Own, next_number, own_apps, swap_word};
 use tks_disk::{Disk, MemoryDisk};
@@ -54,6 +62,7 @@ enum Wanted {
     World,
     Again,
     Crashes,
+    Stored,
 }
 
 fn main(rt: HostRuntime) -> ExitCode {
@@ -127,16 +136,25 @@ fn put_session<B: AppBody>(
     let setup = Setup {
         grid: grid_of(rest)?,
         apps: own_apps(alloc, next, swap).ok()?,
-        limits: Limits {
-            pending: PENDING,
-            ..Limits::format1()
-        },
+        limits: limits_of(wanted),
     };
     match wanted {
         Wanted::Answers => put_told(alloc, MemoryDisk::new(alloc), setup, lines, written),
         Wanted::World => put_left(alloc, MemoryDisk::new(alloc), setup, lines, task, written),
         Wanted::Again => put_again(alloc, setup, lines, written),
         Wanted::Crashes => put_stops(alloc, setup, lines, written),
+        Wanted::Stored => put_stored(alloc, setup, lines, written),
+    }
+}
+
+// The limits of a session.
+fn limits_of(wanted: Wanted) -> Limits {
+    match wanted {
+        Wanted::Stored => Limits::format2(),
+        _ => Limits {
+            pending: PENDING,
+            ..Limits::format1()
+        },
     }
 }
 
@@ -148,6 +166,8 @@ fn wanted_by(heading: &str) -> (Wanted, &str) {
         (Wanted::Again, rest)
     } else if let Some(rest) = heading.strip_prefix("crash ") {
         (Wanted::Crashes, rest)
+    } else if let Some(rest) = heading.strip_prefix("stored ") {
+        (Wanted::Stored, rest)
     } else {
         (Wanted::Answers, heading)
     }

@@ -2,7 +2,7 @@
 
 use crate::worlds::spelled;
 use std::alloc::Global;
-use tks_codec::read_world;
+use tks_codec::{Format, read_world};
 use tks_spelling::CodecFault;
 use tks_text::Size;
 
@@ -19,7 +19,7 @@ pub enum Reading {
 
 /// What bytes are read as; nothing where memory is wanting.
 pub fn read(alloc: Global, grid: Size, bytes: &[u8]) -> Option<Reading> {
-    match read_world(alloc, grid, bytes) {
+    match read_world(alloc, Format::Two, grid, bytes) {
         Ok((world, length)) => {
             let (front, _) = bytes.split_at_checked(length)?;
             if spelled(alloc, &world)?.as_slice() == front {
@@ -38,14 +38,14 @@ pub fn read(alloc: Global, grid: Size, bytes: &[u8]) -> Option<Reading> {
 fn is_read_back(alloc: Global, grid: Size, bytes: &[u8]) -> Option<bool> {
     let mut longer = bytes.to_vec(alloc).ok()?;
     longer.push(7).ok()?;
-    let (world, length) = read_world(alloc, grid, longer.as_slice()).ok()?;
+    let (world, length) = read_world(alloc, Format::Two, grid, longer.as_slice()).ok()?;
     Some(length == bytes.len() && spelled(alloc, &world)?.as_slice() == bytes)
 }
 
 // The first cut that isn't refused at its end.
 fn unseen_cut(alloc: Global, grid: Size, bytes: &[u8]) -> Option<usize> {
     for end in 0..bytes.len() {
-        match read_world(alloc, grid, &bytes[..end]) {
+        match read_world(alloc, Format::Two, grid, &bytes[..end]) {
             Err(CodecFault::Bad(place)) if place == end => {}
             _ => return Some(end),
         }

@@ -24,8 +24,8 @@ pub fn spelled(alloc: Global, world: &World) -> Option<Vec<u8>> {
     Some(bytes)
 }
 
-// Adds bytes in hex, in lines.
-fn put_hex(bytes: &[u8], written: &mut Vec<u8>) -> Option<()> {
+/// Adds bytes in hex, in lines.
+pub fn put_hex(bytes: &[u8], written: &mut Vec<u8>) -> Option<()> {
     const DIGITS: [u8; 16] = *b"0123456789abcdef";
     for (place, byte) in bytes.iter().enumerate() {
         if place > 0 && place % WIDTH == 0 {

@@ -90,6 +90,16 @@ fn format1_has_its_limits(rt: HostRuntime) {
     );
 }
 
+#[test]
+fn format2_has_its_limits(rt: HostRuntime) {
+    let limits = Limits::format2();
+    assert_eq!(rt; (limits.fuel, limits.depth), (100_000, 64));
+    assert_eq!(rt;
+        (limits.text, limits.items, limits.pending),
+        (1_048_576, 65_536, 256)
+    );
+}
+
 // Whether a list keeps its items in order.
 fn keeps_items(alloc: Global) -> Option<bool> {
     let mut list = Seq::new(alloc);

@@ -101,18 +101,23 @@ fn talk_on<D: Disk + Drop, B: AppBody, R: BufRead>(
     Some(written)
 }
 
-// The same of one with a grid of 20 by 3.
-fn talk<R: BufRead>(alloc: Global, reader: &mut R) -> Option<Vec<u8>> {
-    let setup = with_both(alloc, 3, Limits::format1())?;
+// The same of one with a grid of 20 by 3, within these limits.
+fn talk<R: BufRead>(alloc: Global, limits: Limits, reader: &mut R) -> Option<Vec<u8>> {
+    let setup = with_both(alloc, 3, limits)?;
     talk_on(alloc, MemoryDisk::new(alloc), setup, reader)
 }
 
-// Whether a reader is answered so.
-fn answers<R: BufRead>(alloc: Global, reader: &mut R, want: &str) -> bool {
-    match talk(alloc, reader) {
+// Whether a reader is answered so within these limits.
+fn answers_within<R: BufRead>(alloc: Global, limits: Limits, reader: &mut R, want: &str) -> bool {
+    match talk(alloc, limits, reader) {
         Some(talked) => talked.as_slice() == want.as_bytes(),
         None => false,
     }
+}
+
+// The same within those of format 1.
+fn answers<R: BufRead>(alloc: Global, reader: &mut R, want: &str) -> bool {
+    answers_within(alloc, Limits::format1(), reader, want)
 }
 
 #[test]
@@ -153,7 +158,7 @@ fn repeated(alloc: Global, front: &str, text: &str, count: usize) -> Option<Vec<
     Some(line)
 }
 
-// Long lines: the steps of an input, the bytes of a script, of a line, of a load.
+// Long lines within the limits of format 1: the steps of an input, the bytes of a script, of a line, of a load.
 const LONG: [(&str, &str, usize, &str); 10] = [
     (
         "cmd set x 5\ncmd ",
@@ -197,17 +202,53 @@ const LONG: [(&str, &str, usize, &str); 10] = [
     ),
 ];
 
-// Whether such a long line is answered so.
-fn answers_long(alloc: Global, front: &str, text: &str, count: usize, want: &str) -> Option<bool> {
+// The same within those of format 2.
+const LONGER: [(&str, &str, usize, &str); 5] = [
+    (
+        "cmd set x 5\ncmd ",
+        "set x;",
+        10_001,
+        "ok 1 5\nok 2 5\nok 3 5\nend",
+    ),
+    ("cmd set x 5", " ", 65_589, "ok 1 5\nok 2 5\nend"),
+    ("cmd set x 5", " ", 65_590, "bad line\nerror 1 E11 x\nend"),
+    ("load 65537\nset x 5", " ", 65_530, "ok 1 5\nok 2 5\nend"),
+    (
+        "load 1048576\nset x 5",
+        " ",
+        1_048_569,
+        "ok 1 5\nok 2 5\nend",
+    ),
+];
+
+// Whether such a long line is answered so within these limits.
+fn answers_long(
+    alloc: Global,
+    limits: Limits,
+    front: &str,
+    repeats: (&str, usize),
+    want: &str,
+) -> Option<bool> {
+    let (text, count) = repeats;
     let input = repeated(alloc, front, text, count)?;
     let mut reader = input.as_slice();
-    Some(answers(alloc, &mut reader, want))
+    Some(answers_within(alloc, limits, &mut reader, want))
 }
 
 #[test]
 fn long_lines(rt: HostRuntime) {
     for (front, text, count, want) in LONG {
-        let is_right = answers_long(rt.alloc(), front, text, count, want);
+        let limits = Limits::format1();
+        let is_right = answers_long(rt.alloc(), limits, front, (text, count), want);
+        assert_eq!(rt; is_right, Some(true), "at {count}");
+    }
+}
+
+#[test]
+fn longer_lines(rt: HostRuntime) {
+    for (front, text, count, want) in LONGER {
+        let limits = Limits::format2();
+        let is_right = answers_long(rt.alloc(), limits, front, (text, count), want);
         assert_eq!(rt; is_right, Some(true), "at {count}");
     }
 }
@@ -332,26 +373,54 @@ fn a_writer_that_breaks_in_a_drain(rt: HostRuntime) {
     }
 }
 
-// 65 times the line `cmd`, then a commit, and the line once more.
-fn many_inputs(alloc: Global) -> Option<Vec<u8>> {
+// Whether a line is answered so within the limits of format 2.
+fn is_answered(alloc: Global, line: &str, want: &str) -> bool {
+    let mut reader = line.as_bytes();
+    answers_within(alloc, Limits::format2(), &mut reader, want)
+}
+
+// The start and the last `set`, and two steps for each turn beside the last test.
+#[test]
+fn a_loop_of_100_000_steps(rt: HostRuntime) {
+    let line = "cmd for {set i 0} {$i < 49998} {incr i} {}; set i";
+    assert!(rt; is_answered(rt.alloc(), line, "ok 1 49998\nend"));
+}
+
+#[test]
+fn a_loop_of_two_steps_more(rt: HostRuntime) {
+    let line = "cmd for {set i 0} {$i < 49999} {incr i} {}; set i";
+    assert!(rt; is_answered(rt.alloc(), line, "refused budget\nend"));
+}
+
+// So many times the line `cmd`, then a commit, and the line once more.
+fn many_inputs(alloc: Global, count: usize) -> Option<Vec<u8>> {
     let mut lines = Vec::new(alloc);
-    for _ in 0..65 {
+    for _ in 0..count {
         lines.extend_from_slice(b"cmd\n").ok()?;
     }
     lines.extend_from_slice(b"commit\ncmd\n").ok()?;
     Some(lines)
 }
 
-#[test]
-fn no_more_than_64_inputs_wait(rt: HostRuntime) {
-    let Some(lines) = many_inputs(rt.alloc()) else {
-        return assert!(rt; false, "no lines");
-    };
+// Whether the answers to so many such lines end so.
+fn ends_so(alloc: Global, limits: Limits, count: usize, want: &[u8]) -> Option<bool> {
+    let lines = many_inputs(alloc, count)?;
     let mut reader = lines.as_slice();
-    let Some(answers) = talk(rt.alloc(), &mut reader) else {
-        return assert!(rt; false, "no session");
-    };
-    let want = b"\nok 63\nok 64\nrefused pending\ncommitted 64\nok 65\nend".as_slice();
-    assert!(rt; answers.as_slice().starts_with(b"ok 1\nok 2\n"));
-    assert!(rt; answers.as_slice().ends_with(want));
+    let answers = talk(alloc, limits, &mut reader)?;
+    let answers = answers.as_slice();
+    Some(answers.starts_with(b"ok 1\nok 2\n") && answers.ends_with(want))
+}
+
+#[test]
+fn no_more_inputs_wait_than_may(rt: HostRuntime) {
+    let first = b"\nok 63\nok 64\nrefused pending\ncommitted 64\nok 65\nend";
+    let second = b"\nok 255\nok 256\nrefused pending\ncommitted 256\nok 257\nend";
+    assert_eq!(rt;
+        ends_so(rt.alloc(), Limits::format1(), 65, first),
+        Some(true)
+    );
+    assert_eq!(rt;
+        ends_so(rt.alloc(), Limits::format2(), 257, second),
+        Some(true)
+    );
 }

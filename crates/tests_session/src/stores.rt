@@ -118,26 +118,41 @@ fn a_store_of_other_commands_or_another_grid(rt: HostRuntime) {
     assert_eq!(rt; other_stores(rt.alloc()), Some(true));
 }
 
-// A gate that is open, the format, and a cut header.
-const CUT: &[u8] = b"\x01\x01\0\0\0";
-
-// Whether such a side of an empty disk is damage, and stays as it is.
-fn cut_side<D: Disk + Drop, B: AppBody>(alloc: Global, disk: D, setup: Setup<B>) -> Option<bool> {
+// Whether such a side of an empty disk has this fault, and stays as it is.
+fn side_on<D: Disk + Drop, B: AppBody>(
+    alloc: Global,
+    disk: D,
+    setup: Setup<B>,
+    side: &[u8],
+    fault: SessionFault,
+) -> Option<bool> {
     let mut disk = disk;
-    disk.write_at(Side::A, 0, CUT).ok()?;
+    disk.write_at(Side::A, 0, side).ok()?;
     disk.sync(Side::A).ok()?;
-    refused_as_it_was(alloc, disk, setup, SessionFault::Damaged, CUT)
+    refused_as_it_was(alloc, disk, setup, fault, side)
 }
 
 // The same of a disk in memory.
-fn cut_side_in_memory(alloc: Global) -> Option<bool> {
+fn side_is(alloc: Global, side: &[u8], fault: SessionFault) -> Option<bool> {
     let setup = with_both(alloc, 3, Limits::format1())?;
-    cut_side(alloc, MemoryDisk::new(alloc), setup)
+    side_on(alloc, MemoryDisk::new(alloc), setup, side, fault)
+}
+
+// A gate that is open, a format, and a cut header.
+#[test]
+fn a_cut_header_is_damage(rt: HostRuntime) {
+    for side in [b"\x01\x01\0\0\0", b"\x01\x02\0\0\0"] {
+        let is_so = side_is(rt.alloc(), side, SessionFault::Damaged);
+        assert_eq!(rt; is_so, Some(true));
+    }
 }
 
 #[test]
-fn a_cut_header_is_damage(rt: HostRuntime) {
-    assert_eq!(rt; cut_side_in_memory(rt.alloc()), Some(true));
+fn another_format_is_a_version(rt: HostRuntime) {
+    for side in [b"\x01\x03\0\0\0", b"\x01\0\0\0\0"] {
+        let is_so = side_is(rt.alloc(), side, SessionFault::Version);
+        assert_eq!(rt; is_so, Some(true));
+    }
 }
 
 // The words and statuses of docs/PROGRAM.md.

@@ -5,8 +5,8 @@ use std::alloc::Global;
 use tks_disk::{MemoryDisk, Side};
 use tks_text::Limits;
 
-// An open gate, the frame's length, the input, and the next gate, closed.
-const FRAME: &[u8] = b"\x01\0\0\0\x0c\x01\0\0\0\x07set x 5\0";
+// An open gate, the frame's length, how many inputs it has, the input, and the next gate, closed.
+const FRAME: &[u8] = b"\x01\0\0\0\x10\0\0\0\x01\x01\0\0\0\x07set x 5\0";
 
 // The first side that lines leave.
 fn side_left(alloc: Global, lines: &[u8]) -> Option<Vec<u8>> {
@@ -42,8 +42,8 @@ fn checkpoints(alloc: Global) -> Option<bool> {
     let a = bytes_of(alloc, &mut disk, Side::A)?;
     let b = bytes_of(alloc, &mut disk, Side::B)?;
     Some(
-        a.as_slice().starts_with(b"\x01\x01\0\0\0\0\0\0\0\x03")
-            && b.as_slice().starts_with(b"\x01\x01\0\0\0\0\0\0\0\x02"),
+        a.as_slice().starts_with(b"\x01\x02\0\0\0\0\0\0\0\x03")
+            && b.as_slice().starts_with(b"\x01\x02\0\0\0\0\0\0\0\x02"),
     )
 }
 

@@ -1,9 +1,10 @@
 -- A machine whose state is a text, to which scripts of one character are added, as long as it stays within a limit.
 use Rattle.std.specs.Prelude.{ℕ, ◌+◌, nat_le, List, [], ◌∷◌, ◌++◌, codes, length, if◌then◌else◌, Option, Some, None}
 use Rattle.tks_text.specs.Text.{is_text}
+use Rattle.tks_spelling.specs.declared.format.Format.{Format}
 use Rattle.tks_spelling.specs.declared.header.Header.{Header}
 use Rattle.tks_input.specs.declared.input.Input.{Input}
-use Rattle.tks_input.specs.declared.input.Input.TheVariants.{Script, KeyPress, KeyRelease, Press, Release, Clock, Turn}
+use Rattle.tks_input.specs.declared.input.Input.TheVariants.{Script, KeyPress, KeyRelease, Press, Release, Clock, Turn, Rules}
 use Rattle.tks_input.specs.declared.reply.Refused.TheVariants.{BadInput, Quiet, TooLarge}
 use Rattle.tks_durable.specs.Machine.{Meaning, Stepped, accepts, refuses}
 
@@ -26,9 +27,10 @@ logged limit text (KeyRelease key) = refuses BadInput
 logged limit text (Press button x y) = refuses BadInput
 logged limit text (Release button x y) = refuses BadInput
 logged limit text (Clock time) = refuses BadInput
+logged limit text (Rules number) = refuses BadInput
 
-abbrev pub stored_text : Header → List ℕ → Option (List ℕ)
-stored_text header bytes = if is_text bytes then Some bytes else None
+abbrev pub stored_text : Format → Header → List ℕ → Option (List ℕ)
+stored_text format header bytes = if is_text bytes then Some bytes else None
 
 abbrev pub logging : ℕ → ℕ → Meaning (List ℕ)
 logging limit pending = record {

@@ -20,6 +20,8 @@ const CLOCK: &[u8] = b"\x06\x01\x02\x03\x04\x05\x06\x07\x08";
 
 const TURN: &[u8] = b"\x07";
 
+const RULES: &[u8] = b"\x08\x02";
+
 const HEADER: &[u8] =
     b"\x00\x00\x00\x00\x00\x00\x00\x02\x00\x50\x00\x18\x00\x00\x00\x02\x00\x00\x00\x01a\x00\x00\x00\x02ab\x00\x00\x00\x00\x00\x01\x00\x07";
 
@@ -39,7 +41,8 @@ fn input(alloc: Global, tag: u8) -> Option<Input> {
             y: 258,
         }),
         6 => Some(Input::Clock(72623859790382856)),
-        _ => Some(Input::Turn),
+        7 => Some(Input::Turn),
+        _ => Some(Input::Rules(2)),
     }
 }
 
@@ -51,7 +54,8 @@ fn input_bytes(tag: u8) -> &'static [u8] {
         4 => PRESS,
         5 => RELEASE,
         6 => CLOCK,
-        _ => TURN,
+        7 => TURN,
+        _ => RULES,
     }
 }
 
@@ -77,7 +81,7 @@ fn is_input_written(alloc: Global, tag: u8) -> Option<bool> {
 
 #[test]
 fn inputs_are_written_as_the_table_says(rt: HostRuntime) {
-    for tag in 1..8 {
+    for tag in 1..9 {
         assert!(rt;
             is_input_written(rt.alloc(), tag) == Some(true),
             "tag {tag}"
@@ -174,7 +178,7 @@ fn is_read(alloc: Global, is_header: bool, spelling: &[u8]) -> Option<bool> {
 
 #[test]
 fn each_byte_of_an_input_matters(rt: HostRuntime) {
-    for tag in 1..8 {
+    for tag in 1..9 {
         let bytes = input_bytes(tag);
         let alloc = rt.alloc();
         let all = is_read(alloc, false, bytes) == Some(true)
@@ -195,7 +199,7 @@ fn each_byte_of_a_header_matters(rt: HostRuntime) {
 
 fn bad_inputs(alloc: Global) -> bool {
     is_bad_at(input_of(alloc, b"\x00"), 0)
-        && is_bad_at(input_of(alloc, b"\x08\x01"), 0)
+        && is_bad_at(input_of(alloc, b"\x09\x01"), 0)
         && is_bad_at(input_of(alloc, b"\x01\x00\x00\x00\x03a\x80c"), 6)
         && is_bad_at(input_of(alloc, b"\x01\xff\xff\xff\xffa\x00"), 6)
         && is_bad_at(input_of(alloc, b"\x01\xff\xff\xff\xffab"), 7)

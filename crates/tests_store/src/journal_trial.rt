@@ -40,11 +40,14 @@ fn begun<D: Disk + Drop>(alloc: Global, disk: D, world: &[u8]) -> Result<Journal
     }
 }
 
-fn adds<D: Disk>(journal: &mut Journal<D>, body: &[u8]) -> bool {
-    if journal.has_failed() || !journal.has_room(body.len()) {
+fn adds<D: Disk>(journal: &mut Journal<D>, lead: &[u8], body: &[u8]) -> bool {
+    if lead.len() >= 1 << 32 || body.len() >= 1 << 32 {
         return false;
     }
-    journal.append(body).is_ok()
+    if journal.has_failed() || !journal.has_room(lead.len() + body.len()) {
+        return false;
+    }
+    journal.append(lead, body).is_ok()
 }
 
 fn renews<D: Disk>(alloc: Global, journal: &mut Journal<D>, world: &[u8]) -> bool {
@@ -60,13 +63,13 @@ fn renews<D: Disk>(alloc: Global, journal: &mut Journal<D>, world: &[u8]) -> boo
 // Does the next thing, and says whether it was acknowledged.
 fn acts<D: Disk>(alloc: Global, journal: &mut Journal<D>, step: usize) -> bool {
     match step {
-        1 => adds(journal, b"one"),
-        2 => adds(journal, b""),
-        3 => adds(journal, b"three"),
+        1 => adds(journal, b"", b"one"),
+        2 => adds(journal, b"", b""),
+        3 => adds(journal, b"thr", b"ee"),
         4 => renews(alloc, journal, b"second"),
-        5 => adds(journal, b"five"),
+        5 => adds(journal, b"five", b""),
         6 => renews(alloc, journal, b""),
-        _ => adds(journal, b"seven"),
+        _ => adds(journal, b"s", b"even"),
     }
 }
 
@@ -90,14 +93,14 @@ pub fn run<D: Disk + Drop>(alloc: Global, disk: D) -> (usize, D) {
 pub fn state(done: usize) -> &'static [u8] {
     match done {
         0 => b"nothing",
-        1 => b"\x01first",
-        2 => b"\x01first\xffone",
-        3 => b"\x01first\xffone\xff",
-        4 => b"\x01first\xffone\xff\xffthree",
-        5 => b"\x02second",
-        6 => b"\x02second\xfffive",
-        7 => b"\x03",
-        _ => b"\x03\xffseven",
+        1 => b"\x01\x02first",
+        2 => b"\x01\x02first\xffone",
+        3 => b"\x01\x02first\xffone\xff",
+        4 => b"\x01\x02first\xffone\xff\xffthree",
+        5 => b"\x02\x02second",
+        6 => b"\x02\x02second\xfffive",
+        7 => b"\x03\x02",
+        _ => b"\x03\x02\xffseven",
     }
 }
 
@@ -110,7 +113,7 @@ pub fn bytes_of<D: Disk>(alloc: Global, disk: &mut D, side: Side) -> Option<Vec<
     Some(bytes)
 }
 
-// Adds each frame's body.
+// Adds each frame.
 fn add_frames<D: Disk + Drop>(
     alloc: Global,
     text: &mut Vec<u8>,
@@ -132,10 +135,12 @@ fn add_frames<D: Disk + Drop>(
 }
 
 fn stored_text<D: Disk + Drop>(alloc: Global, stored: Stored<D>) -> Option<Vec<u8>> {
+    let format = stored.format().byte();
     match stored.world(alloc) {
         Ok((header, world, frames)) => {
             let mut text = Vec::new(alloc);
             text.push((header.generation % 256) as u8).ok()?;
+            text.push(format).ok()?;
             text.extend_from_slice(&world).ok()?;
             if add_frames(alloc, &mut text, frames)? {
                 Some(text)

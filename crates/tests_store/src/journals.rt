@@ -87,13 +87,21 @@ fn first_side(alloc: Global, calls: u64) -> Option<Vec<u8>> {
     bytes_of(alloc, &mut disk, Side::A)
 }
 
+// A side of the first format: a world and two frames.
+const OLD: &[u8] =
+    b"\x01\x01\0\0\0\0\0\0\0\x07\0\x14\0\x03\0\0\0\0\0\0\0\0\0\0\0\x02ab\x01\0\0\0\x03xyz\x01\0\0\0\0\0";
+
 #[test]
 fn a_side_that_is_cut_is_damaged(rt: HostRuntime) {
     let alloc = rt.alloc();
     let whole =
-        b"\x01\x01\0\0\0\0\0\0\0\x07\0\x14\0\x03\0\0\0\0\0\0\0\0\0\0\0\x02ab\x01\0\0\0\x03xyz\x01\0\0\0\0\0";
+        b"\x01\x02\0\0\0\0\0\0\0\x07\0\x14\0\x03\0\0\0\0\0\0\0\0\0\0\0\x02ab\x01\0\0\0\x03xyz\x01\0\0\0\0\0";
     assert_eq!(rt;
-        sides_hold(alloc, whole, b"", b"\x07ab\xffxyz\xff"),
+        sides_hold(alloc, whole, b"", b"\x07\x02ab\xffxyz\xff"),
+        Some(true)
+    );
+    assert_eq!(rt;
+        sides_hold(alloc, OLD, b"", b"\x07\x01ab\xffxyz\xff"),
         Some(true)
     );
     for cut in 0..whole.len() {
@@ -116,30 +124,32 @@ fn a_side_that_is_cut_is_damaged(rt: HostRuntime) {
 fn sides_at_fault_are_told_apart(rt: HostRuntime) {
     let alloc = rt.alloc();
     let five = b"\x01\x01\0\0\0\0\0\0\0\x05\0\x14\0\x03\0\0\0\0\0\0\0\0\0\0\0\x01a\0";
-    let six = b"\x01\x01\0\0\0\0\0\0\0\x06\0\x14\0\x03\0\0\0\0\0\0\0\0\0\0\0\x01b\0";
+    let six = b"\x01\x02\0\0\0\0\0\0\0\x06\0\x14\0\x03\0\0\0\0\0\0\0\0\0\0\0\x01b\0";
     let none = b"\x01\x01\0\0\0\0\0\0\0\0\0\x14\0\x03\0\0\0\0\0\0\0\0\0\0\0\x01b\0";
     let cut = b"\x01\x01\0\0\0\0\0\0\0\x05\0\x14\0\x03\0\0\0\0\0\0\0\0\0\0\0\x09a\0";
     let long =
         b"\x01\x01\0\0\0\0\0\0\0\x05\0\x14\0\x03\0\0\0\0\0\0\0\0\0\0\0\x01a\x01\xff\xff\xff\xff\0";
     assert_eq!(rt; sides_hold(alloc, b"", b"", b"nothing"), Some(true));
     assert_eq!(rt; sides_hold(alloc, b"\x01", b"\x01", b"nothing"), Some(true));
-    assert_eq!(rt; sides_hold(alloc, b"\x01\x09", b"", b"unknown"), Some(true));
+    assert_eq!(rt; sides_hold(alloc, b"\x01\0", b"", b"unknown"), Some(true));
+    assert_eq!(rt; sides_hold(alloc, b"\x01\x03", b"", b"unknown"), Some(true));
+    assert_eq!(rt; sides_hold(alloc, six, b"\x01\x03", b"unknown"), Some(true));
     assert_eq!(rt;
-        sides_hold(alloc, b"\x01\x01", b"\x01\x02", b"unknown"),
+        sides_hold(alloc, b"\x01\x01", b"\x01\x02", b"damaged"),
         Some(true)
     );
     assert_eq!(rt;
         sides_hold(alloc, b"\x01\x01\0\0\0", b"", b"damaged"),
         Some(true)
     );
-    assert_eq!(rt; sides_hold(alloc, five, six, b"\x06b"), Some(true));
-    assert_eq!(rt; sides_hold(alloc, six, five, b"\x06b"), Some(true));
+    assert_eq!(rt; sides_hold(alloc, five, six, b"\x06\x02b"), Some(true));
+    assert_eq!(rt; sides_hold(alloc, six, five, b"\x06\x02b"), Some(true));
     assert_eq!(rt; sides_hold(alloc, five, five, b"damaged"), Some(true));
     assert_eq!(rt; sides_hold(alloc, none, b"", b"damaged"), Some(true));
-    assert_eq!(rt; sides_hold(alloc, cut, six, b"\x06b"), Some(true));
+    assert_eq!(rt; sides_hold(alloc, cut, six, b"\x06\x02b"), Some(true));
     assert_eq!(rt; sides_hold(alloc, cut, b"", b"damaged"), Some(true));
     assert_eq!(rt; sides_hold(alloc, long, b"", b"damaged"), Some(true));
-    assert_eq!(rt; sides_hold(alloc, long, six, b"\x06b"), Some(true));
+    assert_eq!(rt; sides_hold(alloc, long, six, b"\x06\x02b"), Some(true));
 }
 
 // The bytes that eight things leave on the first side, the third of its generation.
@@ -147,7 +157,7 @@ fn sides_at_fault_are_told_apart(rt: HostRuntime) {
 fn a_side_is_written_to_the_byte(rt: HostRuntime) {
     let side = first_side(rt.alloc(), 10_000);
     let wanted =
-        b"\x01\x01\0\0\0\0\0\0\0\x03\0\x14\0\x03\0\0\0\0\0\0\0\0\0\0\0\0\x01\0\0\0\x05seven\0";
+        b"\x01\x02\0\0\0\0\0\0\0\x03\0\x14\0\x03\0\0\0\0\0\0\0\0\0\0\0\0\x01\0\0\0\x05seven\0";
     let begins = side.is_some_and(|bytes| bytes.as_slice().starts_with(wanted));
     assert!(rt; begins);
 }

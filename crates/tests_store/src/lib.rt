@@ -1,7 +1,7 @@
 //! Tests of bytes: spellings of inputs, headers, events, what waits, windows' parts and variables, written out by hand, read
 //! and written again, and spellings that are damaged. Tests of what a crash leaves: of journals, beside a plain reader, and of
-//! sessions, over a machine whose state is a text, stopped at each call of the disk and crashed in each way, and sides that
-//! aren't theirs.
+//! sessions, over a machine whose state is a text, stopped at each call of the disk and crashed in each way, sides that aren't
+//! theirs, and sides of both formats.
 #![tactic(auto)]
 
 #[cfg(test)]
@@ -12,6 +12,8 @@ mod crashes;
 mod damaged;
 #[cfg(test)]
 mod events;
+#[cfg(test)]
+mod formats;
 #[cfg(test)]
 mod inputs;
 #[cfg(test)]

@@ -7,7 +7,7 @@ ghost use Rattle.tests_store.specs.Logging.{logging, longer};
 use std::alloc::{AllocError, Global};
 use tks_durable::Machine;
 use tks_input::{Input, Refused, Reply};
-use tks_spelling::{Header, within_side};
+use tks_spelling::{Format, Header, within_side};
 use tks_text::{Seq, Size, Txt};
 
 // Adds more to a text, as long as it stays within the limit.
@@ -62,6 +62,7 @@ impl Machine for Log {
     fn stored(
         &self,
         alloc: Global,
+        _format: Format,
         _header: &Header,
         bytes: &[u8],
     ) -> Result<Option<Txt>, AllocError> {

@@ -27,14 +27,28 @@ fn behind_names(bytes: &[u8]) -> Option<&[u8]> {
     Some(rest)
 }
 
-// The generation of an open side, and the length of its world with what stands behind the header.
-fn head(bytes: &[u8]) -> Option<(u64, u64, &[u8])> {
+// What the front of an open side tells, and what stands behind its header.
+#[derive(Clone, Copy)]
+struct Head<'a> {
+    format: u8,
+    generation: u64,
+    world_length: u64,
+    rest: &'a [u8],
+}
+
+fn read_head(bytes: &[u8]) -> Option<Head<'_>> {
+    let format = *bytes.get(1)?;
     let (_, rest) = taken(bytes, 2)?;
     let (generation, rest) = taken(rest, 8)?;
     let (_, rest) = taken(rest, 4)?;
     let rest = behind_names(rest)?;
-    let (world, rest) = taken(rest, 8)?;
-    Some((number(generation), number(world), rest))
+    let (world_length, rest) = taken(rest, 8)?;
+    Some(Head {
+        format,
+        generation: number(generation),
+        world_length: number(world_length),
+        rest,
+    })
 }
 
 // Adds the bodies of the frames from this gate on, each behind a byte 255. None where one is cut.
@@ -55,11 +69,11 @@ fn add_frames(text: &mut Vec<u8>, bytes: &[u8]) -> Option<bool> {
 }
 
 // The text of a live side.
-fn live_text(alloc: Global, side: (u64, u64, &[u8])) -> Option<Vec<u8>> {
-    let (generation, world, rest) = side;
+fn live_text(alloc: Global, side: Head) -> Option<Vec<u8>> {
     let mut text = Vec::new(alloc);
-    text.push((generation % 256) as u8).ok()?;
-    let Some((world, frames)) = taken(rest, world) else {
+    text.push((side.generation % 256) as u8).ok()?;
+    text.push(side.format).ok()?;
+    let Some((world, frames)) = taken(side.rest, side.world_length) else {
         return b"damaged".to_vec(alloc).ok();
     };
     text.extend_from_slice(world).ok()?;
@@ -75,10 +89,10 @@ fn is_open(side: &[u8]) -> bool {
 }
 
 fn is_unknown(side: &[u8]) -> bool {
-    is_open(side) && side.get(1) != Some(&1)
+    is_open(side) && !matches!(side.get(1), Some(&1) | Some(&2))
 }
 
-/// What two sides hold, as a text: the generation as a byte, the world, and each frame's body behind a byte 255; or a word.
+/// What two sides hold, as a text: the generation and the format as bytes, the world, and each frame behind a byte 255; or a word.
 /// None where memory is refused.
 pub fn plain_text(alloc: Global, a: &[u8], b: &[u8]) -> Option<Vec<u8>> {
     if is_unknown(a) || is_unknown(b) {
@@ -86,9 +100,9 @@ pub fn plain_text(alloc: Global, a: &[u8], b: &[u8]) -> Option<Vec<u8>> {
     }
     match (is_open(a), is_open(b)) {
         (false, false) => b"nothing".to_vec(alloc).ok(),
-        (true, false) => one_text(alloc, head(a)),
-        (false, true) => one_text(alloc, head(b)),
-        (true, true) => both_text(alloc, head(a), head(b)),
+        (true, false) => one_text(alloc, read_head(a)),
+        (false, true) => one_text(alloc, read_head(b)),
+        (true, true) => both_text(alloc, read_head(a), read_head(b)),
     }
 }
 
@@ -96,21 +110,22 @@ fn is_given(generation: u64) -> bool {
     1 <= generation && generation <= 1 << 62
 }
 
-fn one_text(alloc: Global, side: Option<(u64, u64, &[u8])>) -> Option<Vec<u8>> {
+fn one_text(alloc: Global, side: Option<Head>) -> Option<Vec<u8>> {
     match side {
-        Some(side) if is_given(side.0) => live_text(alloc, side),
+        Some(side) if is_given(side.generation) => live_text(alloc, side),
         _ => b"damaged".to_vec(alloc).ok(),
     }
 }
 
-fn both_text(
-    alloc: Global,
-    a: Option<(u64, u64, &[u8])>,
-    b: Option<(u64, u64, &[u8])>,
-) -> Option<Vec<u8>> {
+// Whether two sides can be told apart.
+fn differ(a: &Head, b: &Head) -> bool {
+    is_given(a.generation) && is_given(b.generation) && a.generation != b.generation
+}
+
+fn both_text(alloc: Global, a: Option<Head>, b: Option<Head>) -> Option<Vec<u8>> {
     match (a, b) {
-        (Some(a), Some(b)) if is_given(a.0) && is_given(b.0) && a.0 != b.0 => {
-            live_text(alloc, if b.0 < a.0 { a } else { b })
+        (Some(a), Some(b)) if differ(&a, &b) => {
+            live_text(alloc, if b.generation < a.generation { a } else { b })
         }
         _ => b"damaged".to_vec(alloc).ok(),
     }

@@ -46,13 +46,14 @@ fn lives<D: Disk>(alloc: Global, session: &mut Durable<D, Log>, acts: &[u8]) -> 
     Some(told)
 }
 
-const LOG: Log = Log {
+/// A machine with room for a text of six letters, of which two may wait.
+pub const LOG: Log = Log {
     limit: 6,
     pending: 2,
 };
 
-// A session's life on this disk: how many letters were acknowledged, and the disk.
-fn lived<D: Disk + Drop>(alloc: Global, disk: D, log: Log, acts: &[u8]) -> (Option<u64>, D) {
+/// A session's life on this disk: how many letters were acknowledged, and the disk.
+pub fn lived<D: Disk + Drop>(alloc: Global, disk: D, log: Log, acts: &[u8]) -> (Option<u64>, D) {
     match Durable::open(alloc, disk, log) {
         Ok(mut session) => {
             let told = lives(alloc, &mut session, acts);
@@ -117,8 +118,8 @@ fn each_crash_opens(
     Some(true)
 }
 
-// How many letters were acknowledged, where the disk, crashed in each way, opens to a prefix of all the letters with these.
-fn kept(
+/// How many letters were acknowledged, where the disk, crashed in each way, opens to a prefix of all the letters with these.
+pub fn kept(
     alloc: Global,
     disk: &MemoryDisk,
     log: Log,
@@ -212,14 +213,16 @@ fn opened(alloc: Global, a: &[u8], b: &[u8]) -> Option<Result<Vec<u8>, SessionFa
     filled_opens(alloc, MemoryDisk::new(alloc), a, b)
 }
 
-fn opens(alloc: Global, a: &[u8], b: &[u8], text: &[u8]) -> bool {
+/// Whether sides of these bytes open to this text.
+pub fn opens(alloc: Global, a: &[u8], b: &[u8], text: &[u8]) -> bool {
     match opened(alloc, a, b) {
         Some(Ok(found)) => found.as_slice() == text,
         _ => false,
     }
 }
 
-fn fails(alloc: Global, a: &[u8], b: &[u8], fault: SessionFault) -> bool {
+/// Whether this fault is why sides of these bytes aren't opened.
+pub fn fails(alloc: Global, a: &[u8], b: &[u8], fault: SessionFault) -> bool {
     match opened(alloc, a, b) {
         Some(Err(found)) => found == fault,
         _ => false,
@@ -241,8 +244,12 @@ fn sides_open_as_their_bytes_say(rt: HostRuntime) {
         "one generation twice"
     );
     assert!(rt;
-        fails(alloc, b"\x01\x09", b"", SessionFault::Version),
-        "another format"
+        fails(alloc, b"\x01\x03", b"", SessionFault::Version),
+        "the format behind the newest"
+    );
+    assert!(rt;
+        fails(alloc, SIDE, b"\x01\0", SessionFault::Version),
+        "no format, beside a sound side"
     );
     assert!(rt;
         fails(alloc, b"\x01\x01\0\0\0", b"", SessionFault::Damaged),

@@ -14,6 +14,8 @@ mod places;
 #[cfg(test)]
 mod refusals;
 #[cfg(test)]
+mod rules;
+#[cfg(test)]
 mod tree;
 #[cfg(test)]
 mod turns;

@@ -4,6 +4,8 @@ use Rattle.std.specs.Prelude.{if◌then◌else◌}
 use Rattle.tks_text.specs.Size.{Extent}
 use Rattle.tks_spelling.specs.Spelling.{Lawful, Read, ◌>>=◌, passed}
 use Rattle.tks_spelling.specs.Reading.{Fails}
+use Rattle.tks_spelling.specs.declared.format.Format.{Format}
+use Rattle.tks_spelling.specs.declared.format.Format.TheVariants as formats
 use Rattle.tks_spelling.specs.declared.unread.Unread.{Unread}
 use Rattle.tks_spelling.specs.declared.unread.Unread.TheVariants as unread
 use Rattle.tks_spelling.proofs.EachKind.{test_lawful, field_lawful, through_lawful}
@@ -25,8 +27,8 @@ use Rattle.tks_codec.proofs.OfWindows.{windows_lawful, windows_next}
 same_counts : (x y : Counts) → x.accepted ≡ y.accepted → x.clock ≡ y.clock → x.window ≡ y.window → x.binding ≡ y.binding → x.timer ≡ y.timer → x ≡ y
 same_counts x y a c w b t = rw (a, c, w, b, t) refl
 
-fields_lawful : (grid : Extent) → Lawful (fields grid)
-fields_lawful grid =
+fields_lawful : (format : Format) (grid : Extent) → Lawful (fields format grid)
+fields_lawful format grid =
     field_lawful counts_of _ _
     (λ c w k h. same_counts (counts_of w) c (ap (λ (w : World). w.accepted) h.1.1.1.1.1.1) (ap (λ (w : World). w.clock) h.1.1.1.1.1.1)
     (windows_next c.window (windows_of w) h.0) (happenings_next c.binding (happenings_of w) h.1.1.0) (waiting_next c.timer w.timers h.1.1.1.1.0))
@@ -36,16 +38,16 @@ fields_lawful grid =
     field_lawful happenings_of _ _ (λ hs w k h. ap happenings_of h.1.1.1) (happenings_lawful c.binding) (λ hs.
     field_lawful (λ w. w.queue) _ _ (λ q w k h. ap (λ (w : World). w.queue) h.1.1) queue_lawful (λ q.
     field_lawful (λ w. w.timers) _ _ (λ ts w k h. ap (λ (w : World). w.timers) h.1) (waiting_lawful c.timer) (λ ts.
-    through_lawful ends_of _ _ (λ e k. refl) ends_lawful))))))
+    through_lawful ends_of _ _ (λ e k. refl) (ends_lawful format)))))))
 
--- a world whose other parts have spellings has one
-pub fields_legal : (w : World) → WellFormed w → (windows w.tree.next).Legal (windows_of w) → (w.variables.locals ≡ [] → variables.Legal w.variables) → (happenings w.bindings.next).Legal (happenings_of w) → WaitsAreLegal w → (fields w.grid).Legal w
+-- a world whose other parts have spellings has one in a side of the second format
+pub fields_legal : (w : World) → WellFormed w → (windows w.tree.next).Legal (windows_of w) → (w.variables.locals ≡ [] → variables.Legal w.variables) → (happenings w.bindings.next).Legal (happenings_of w) → WaitsAreLegal w → (fields formats.Two w.grid).Legal w
 fields_legal w h ws vs hs waits =
     let counted = counts_legal (counts_of w) h.counted h.event_loop.clock h.windows.windows.bounded h.events.bindings.next h.event_loop.timers.next in
     (counted, (ws, (vs h.rests, (hs, (waits.queue, (waits.timers, (waits.ends, refl)))))))
 
-pub world_lawful : (grid : Extent) → Lawful (world grid)
-world_lawful grid = test_lawful is_possible (fields grid) (λ v h. omega arith) (fields_lawful grid)
+pub world_lawful : (format : Format) (grid : Extent) → Lawful (world format grid)
+world_lawful format grid = test_lawful is_possible (fields format grid) (λ v h. omega arith) (fields_lawful format grid)
 
 -- ---- reading
 
@@ -58,9 +60,9 @@ unfolding or_this
 some_same x y e = ap (or_this x) e
 
 -- a world that was read is a possible one
-pub possible_read : (grid : Extent) (bytes rest : List ℕ) (p : WorldParts) (w : World) → fields_at grid bytes ≡ Ok (world_of p, rest) → Some w ≡ restored p → world_at grid bytes ≡ Ok (w, rest)
+pub possible_read : (format : Format) (grid : Extent) (bytes rest : List ℕ) (p : WorldParts) (w : World) → fields_at format grid bytes ≡ Ok (world_of p, rest) → Some w ≡ restored p → world_at format grid bytes ≡ Ok (w, rest)
 unfolding fields_at world_at
-possible_read grid bytes rest p w e h = ap (λ (r : Read World). r >>= passed is_possible) e ∙ by (is_possible (world_of p)) h
+possible_read format grid bytes rest p w e h = ap (λ (r : Read World). r >>= passed is_possible) e ∙ by (is_possible (world_of p)) h
   where
     found : Bool → Read World
     found b = if b then Ok (world_of p, rest) else Err (suc (length rest))
@@ -72,9 +74,9 @@ possible_read grid bytes rest p w e h = ap (λ (r : Read World). r >>= passed is
     by true h = ap (λ (x : World). Ok (x, rest)) (sym (some_same w (world_of p) h))
     by false h = absurd cc
 
-pub impossible_read : (grid : Extent) (bytes rest : List ℕ) (p : WorldParts) → fields_at grid bytes ≡ Ok (world_of p, rest) → None ≡ restored p → world_at grid bytes ≡ Err (length rest + 1)
+pub impossible_read : (format : Format) (grid : Extent) (bytes rest : List ℕ) (p : WorldParts) → fields_at format grid bytes ≡ Ok (world_of p, rest) → None ≡ restored p → world_at format grid bytes ≡ Err (length rest + 1)
 unfolding fields_at world_at
-impossible_read grid bytes rest p e h = ap (λ (r : Read World). r >>= passed is_possible) e ∙ by (is_possible (world_of p)) h
+impossible_read format grid bytes rest p e h = ap (λ (r : Read World). r >>= passed is_possible) e ∙ by (is_possible (world_of p)) h
   where
     found : Bool → Read World
     found b = if b then Ok (world_of p, rest) else Err (suc (length rest))

@@ -148,22 +148,22 @@ module _ (setting : Setting) where
   not_answered why request st before after same = record { none = refl; same = refl; nothing = subst (λ a. Appends before a []) (sym same) (appends_nothing before) }
 
 module _ {D : Type 0} (own : Setting) (old new : SessionState D) (input : Input) where
-  room_tried : is_full_at own.limits.pending old.journal.gate old.waiting input ≡ false → tried own (standing old) input ≡ step own.app old.world input own.limits
+  room_tried : is_full_at own.limits.pending old.journal.format old.journal.gate old.waiting input ≡ false → tried own (standing old) input ≡ step own.app old.world input own.limits
   room_tried room = ap (λ b. cond b (Refuses PendingFull) (step own.app old.world input own.limits)) room
 
   pub accepted_tried : (reply : Reply) → step own.app old.world input own.limits ≡ Accepts new.world reply
-      → is_full_at own.limits.pending old.journal.gate old.waiting input ≡ false → tried own (standing old) input ≡ Accepts new.world reply
+      → is_full_at own.limits.pending old.journal.format old.journal.gate old.waiting input ≡ false → tried own (standing old) input ≡ Accepts new.world reply
   accepted_tried reply is room = room_tried room ∙ is
 
   pub refused_tried : (why : Refused) → Tried own old input why → tried own (standing old) input ≡ Refuses why
   refused_tried why is = room_tried is.room ∙ is.refused
 
-  pub full_tried : is_full_at own.limits.pending old.journal.gate old.waiting input ≡ true → tried own (standing old) input ≡ Refuses PendingFull
+  pub full_tried : is_full_at own.limits.pending old.journal.format old.journal.gate old.waiting input ≡ true → tried own (standing old) input ≡ Refuses PendingFull
   full_tried full = ap (λ b. cond b (Refuses PendingFull) (step own.app old.world input own.limits)) full
 
   module _ (result : Result (Unit {0}) RunFault) (before after : Option (List ℕ)) where
     pub input_accepted : (reply : Reply) → step own.app old.world input own.limits ≡ Accepts new.world reply
-        → is_full_at own.limits.pending old.journal.gate old.waiting input ≡ false → new ≡ record old { world = new.world; waiting = old.waiting ++ input ∷ [] }
+        → is_full_at own.limits.pending old.journal.format old.journal.gate old.waiting input ≡ false → new ≡ record old { world = new.world; waiting = old.waiting ++ input ∷ [] }
         → WritesSo result before after (reply_line reply) → AnswersSo own result (Post input) (input ∷ []) (standing old) (standing new) before after
     input_accepted reply is room so writes =
         subst (λ st. AnswersSo own result (Post input) (input ∷ []) (standing old) st before after) (sym (ap standing so))

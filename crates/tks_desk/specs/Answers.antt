@@ -3,6 +3,8 @@ use Rattle.std.specs.Prelude.{◌≡◌, ℕ, zero, suc, ◌+◌, ◌^◌, ◌||
 use Rattle.std.specs.Io.KnownBytes.{Appends}
 use Rattle.tks_state.specs.World.{World}
 use Rattle.tks_screen.specs.Screen.{shown}
+use Rattle.tks_spelling.specs.declared.format.Format.{Format}
+use Rattle.tks_spelling.specs.declared.format.Format.TheVariants.{Two}
 use Rattle.tks_durable.specs.Durable.{gate_behind, gate_behind_world, is_full_at}
 use Rattle.tks_input.specs.declared.input.Input.{Input}
 use Rattle.tks_input.specs.declared.input.Input.TheVariants.{Turn}
@@ -120,16 +122,18 @@ bye = codes "bye\n"
 
 -- ---- the answers to a whole input
 
--- what answers depend on: the world, the inputs that wait for a commit, where the next gate stands, and how many sides were begun
+-- what answers depend on: the world, the inputs that wait for a commit, the format of the side on which they will stand and where
+-- its next gate does, and how many sides were begun
 pub record Standing : Type 0 where
   pub world : World
   pub waiting : List Input
+  pub format : Format
   pub gate : ℕ
   pub generation : ℕ
 
 -- that of a session
 abbrev pub standing : {D : Type 0} → SessionState D → Standing
-standing s = record { world = s.world; waiting = s.waiting; gate = s.journal.gate; generation = s.journal.generation }
+standing s = record { world = s.world; waiting = s.waiting; format = s.journal.format; gate = s.journal.gate; generation = s.journal.generation }
 
 -- behind an input that was accepted
 abbrev pub posted : Standing → Input → World → Standing
@@ -137,7 +141,7 @@ posted st input new = record st { world = new; waiting = st.waiting ++ input ∷
 
 -- behind a commit
 abbrev pub stored : Standing → Standing
-stored st = record st { waiting = []; gate = gate_behind st.gate st.waiting }
+stored st = record st { waiting = []; gate = gate_behind st.format st.gate st.waiting }
 
 -- whether memory was there for an input, or refused
 pub data Memory : Type 0 where
@@ -174,7 +178,7 @@ turn_told false (Refuses why) done st again next = said (drain_ended (Some why) 
 module _ (setting : Setting) where
   -- behind a checkpoint
   abbrev pub begun : Standing → Standing
-  begun st = record st { waiting = []; gate = gate_behind_world (terminal_in setting) (st.generation + 1) st.world; generation = st.generation + 1 }
+  begun st = record st { waiting = []; format = Two; gate = gate_behind_world (terminal_in setting) (st.generation + 1) st.world; generation = st.generation + 1 }
 
   -- the spelling of the world is too long for a side, or as many sides were begun as may be
   unfoldable pub is_too_large : Standing → Bool
@@ -186,7 +190,7 @@ module _ (setting : Setting) where
 
   -- an input is refused where as many wait as may; else it is stepped
   abbrev pub tried : Standing → Input → Stepped
-  tried st input = if is_full_at setting.limits.pending st.gate st.waiting input then Refuses PendingFull else step setting.app st.world input setting.limits
+  tried st input = if is_full_at setting.limits.pending st.format st.gate st.waiting input then Refuses PendingFull else step setting.app st.world input setting.limits
 
   -- the answer to an input, and what follows behind it
   abbrev pub answered : Input → Stepped → Standing → (Standing → Talk) → Talk

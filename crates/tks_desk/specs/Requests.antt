@@ -2,7 +2,7 @@
 use Rattle.std.specs.Prelude.{◌≡◌, ℕ, zero, suc, ◌-◌, nat_le, nat_lt, if◌then◌else◌, List, [], ◌∷◌, take, drop, length, codes, Option, Some, None}
 use Rattle.tks_text.specs.Text.{is_text, same_text}
 use Rattle.tks_input.specs.declared.input.Input.{Input}
-use Rattle.tks_input.specs.declared.input.Input.TheVariants.{Script, KeyPress, KeyRelease, Press, Release, Clock, Turn}
+use Rattle.tks_input.specs.declared.input.Input.TheVariants.{Script, KeyPress, KeyRelease, Press, Release, Clock, Turn, Rules}
 use Rattle.tks_desk.specs.Lines.{first_line, after_line, past_newline}
 use Rattle.tks_desk.specs.Reading.{max_line}
 use Rattle.tks_desk.specs.Words.{is_word, number_in, pointed_in, split_word}
@@ -43,6 +43,14 @@ abbrev pub clock_asks : Option ℕ → Asked
 clock_asks None = Alone Bad
 clock_asks (Some time) = Alone (Post (Clock time))
 
+-- rules by their number, where a byte holds it
+abbrev pub max_rules : ℕ
+max_rules = 255
+
+abbrev pub rules_asks : Option ℕ → Asked
+rules_asks None = Alone Bad
+rules_asks (Some number) = if nat_le number max_rules then Alone (Post (Rules number)) else Alone Bad
+
 -- so many turns, where there may be so many
 abbrev pub drain_asks : Option ℕ → Asked
 drain_asks None = Alone Bad
@@ -70,8 +78,9 @@ words_ask name rest =
     else (if same_text name (codes "press") then button_asks (λ button x y. Press button x y) (pointed_in rest)
     else (if same_text name (codes "release") then button_asks (λ button x y. Release button x y) (pointed_in rest)
     else (if same_text name (codes "clock") then clock_asks (number_in rest)
+    else (if same_text name (codes "rules") then rules_asks (number_in rest)
     else (if same_text name (codes "drain") then drain_asks (number_in rest)
-    else Alone Bad)))))))
+    else Alone Bad))))))))
 
 abbrev pub asked_by : Option (List ℕ × List ℕ) → List ℕ → Asked
 asked_by None line = word_asks line

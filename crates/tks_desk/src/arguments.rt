@@ -29,6 +29,7 @@ Lines that it reads, and answers one by one:
   press B X Y    button B goes down in the cell of column X, row Y
   release B X Y  button B goes up there
   clock MS       sets the clock, in milliseconds
+  rules N        says by which rules scripts run: 1, as from the start
   turn           runs one thing that waits
   drain N        runs N turns, or fewer where nothing more waits
   screen         shows the rows of the grid, each between bars

@@ -3,7 +3,7 @@ ghost use Rattle.std.specs.Prelude.{ℕ, List, ◌≡◌, ◌<◌, ◌≤◌, If
 ghost use Rattle.tks_input.specs.declared.input.Input.TheVariants.{KeyPress, KeyRelease, Press, Release};
 ghost use Rattle.tks_text.specs.Text.{IsText};
 ghost use Rattle.tks_desk.specs.Reading.{max_line, InReading, IsLine, Pays, unread};
-ghost use Rattle.tks_desk.specs.Requests.{asked_of, asked_of_text, button_asks, clock_asks, drain_asks, key_asks, loads, script_in, word_asks, words_ask, LoadsSo, ReadsRequest};
+ghost use Rattle.tks_desk.specs.Requests.{asked_of, asked_of_text, button_asks, clock_asks, drain_asks, key_asks, loads, rules_asks, script_in, word_asks, words_ask, LoadsSo, ReadsRequest};
 
 use crate::ending::RunFault;
 use crate::input::{Line, next_line};
@@ -48,6 +48,9 @@ pub enum Asked {
 
 /// The most bytes that a script has which is loaded.
 const MAX_LOAD: u64 = 1_048_576;
+
+/// The greatest number of rules that an input can hold.
+const MAX_RULES: u64 = 255;
 
 /// The most turns that are drained.
 const MAX_TURNS: u64 = 10_000;
@@ -192,6 +195,8 @@ fn words_ask(alloc: Global, name: &[u8], rest: &[u8]) -> Result<Asked, AllocErro
         Ok(release_asks(pointed_in(rest)))
     } else if name == b"clock".as_slice() {
         Ok(clock_asks(number_in(rest)))
+    } else if name == b"rules".as_slice() {
+        Ok(rules_asks(number_in(rest)))
     } else if name == b"drain".as_slice() {
         Ok(drain_asks(number_in(rest)))
     } else {
@@ -262,6 +267,18 @@ fn clock_asks(time: Option<u64>) -> Asked
     match time {
         Some(time) => Asked::Alone(Request::Post(Input::Clock(time))),
         None => Asked::Alone(Request::Bad),
+    }
+}
+
+// What rules of a number ask for.
+fn rules_asks(number: Option<u64>) -> Asked
+    ensures { result ≡ rules_asks number }
+{
+    match number {
+        Some(number) if number <= MAX_RULES => {
+            Asked::Alone(Request::Post(Input::Rules(number as u8)))
+        }
+        _ => Asked::Alone(Request::Bad),
     }
 }
 

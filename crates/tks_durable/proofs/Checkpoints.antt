@@ -1,6 +1,7 @@
 -- What the journal is behind a checkpoint.
 use Rattle.std.proofs.Common.{◌≡◌, ◌+◌, ℕ, List, length, ap, ◌∙◌}
 use Rattle.tks_spelling.specs.Header as headers
+use Rattle.tks_spelling.specs.declared.format.Format.TheVariants.{Two}
 use Rattle.tks_spelling.specs.declared.header.Header.{Header}
 use Rattle.tks_journal.specs.Journal.{JournalState}
 use Rattle.tks_journal.specs.Sides.{other_of}
@@ -10,7 +11,7 @@ use Rattle.tks_durable.specs.Machine.{Meaning, header_of}
 module _ {D W : Type 0} (m : Meaning W) (old : JournalState D) (disk : D) (world : W) where
   -- the other side is live, in this generation and with its gate here
   abbrev pub begun : ℕ → ℕ → JournalState D
-  begun generation gate = record old { disk = disk; live = other_of old.live; generation = generation; gate = gate }
+  begun generation gate = record old { disk = disk; live = other_of old.live; format = Two; generation = generation; gate = gate }
 
   pub checkpointed_so : (new : JournalState D) (h : Header) (head bytes : List ℕ) (generation : ℕ) → new ≡ begun h.generation (2 + length head + length bytes)
       → h ≡ header_of m generation world → generation ≡ old.generation + 1 → head ≡ headers.header.write h → bytes ≡ m.bytes world → new ≡ checkpointed m old disk world

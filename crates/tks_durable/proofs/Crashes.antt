@@ -8,15 +8,16 @@ use Rattle.tks_journal.specs.Resting.{AllHold, OneOf, begun_as}
 use Rattle.tks_journal.specs.Sides.{Kept, holds, with_frames, live_of}
 use Rattle.tks_journal.specs.declared.fault.SideFault.{SideFault}
 use Rattle.tks_journal.proofs.Phases.{weaker}
+use Rattle.tks_spelling.specs.declared.format.Format.{Format}
 use Rattle.tks_spelling.specs.declared.header.Header.{Header}
 use Rattle.tks_durable.specs.Crash.{AllOpenTo, HoldsAcknowledged, OpensToCount, OpensToPrefix, Stands}
 use Rattle.tks_durable.specs.Durable.{DurableState}
-use Rattle.tks_durable.specs.Inputs.{inputs_in}
+use Rattle.tks_durable.specs.Inputs.{frame_in}
 use Rattle.tks_durable.specs.Machine.{Meaning}
 use Rattle.tks_durable.specs.Opening.{opened, opens, run}
 use Rattle.tks_durable.proofs.Runs.{frame_more}
 
-module _ {W : Type 0} (m : Meaning W) (reads : Images) (live : Side × ℕ) (body : List ℕ) (inputs : List Input) (is_live : live_of (holds reads) ≡ Some live) (are : inputs_in body ≡ Some inputs) where
+module _ {W : Type 0} (m : Meaning W) (reads : Images) (live : Side × Format × ℕ) (body : List ℕ) (inputs : List Input) (is_live : live_of (holds reads) ≡ Some live) (are : frame_in live.1 body ≡ Some inputs) where
   -- with the frame or without it
   either : (i : Images) → OneOf (holds reads) (with_frames (body ∷ []) (holds reads)) i → OpensToPrefix m (opens m reads) inputs i
   either i = ⊎_elim
@@ -43,7 +44,7 @@ module _ {W : Type 0} (m : Meaning W) (v : View) (settled : IsSettled v) where
   }
 
 -- behind a commit
-module _ {W : Type 0} (m : Meaning W) (v new : View) (live : Side × ℕ) (body : List ℕ) (inputs : List Input) (world : W) (is_live : live_of (holds v.reads) ≡ Some live) (are : inputs_in body ≡ Some inputs)
+module _ {W : Type 0} (m : Meaning W) (v new : View) (live : Side × Format × ℕ) (body : List ℕ) (inputs : List Input) (world : W) (is_live : live_of (holds v.reads) ≡ Some live) (are : frame_in live.1 body ≡ Some inputs)
     (stands : Stands m v inputs world) (all : AllHold new (with_frames (body ∷ []) (holds v.reads))) where
   opens_so : opened m (with_frames (body ∷ []) (holds v.reads)) ≡ Ok world
   opens_so = frame_more m (holds v.reads) live body inputs is_live are ∙ stands

@@ -1,6 +1,7 @@
 -- Runs of calls that write nothing, and what opening finds.
 use Rattle.std.proofs.Common.{◌≡◌, ◌∙◌, inl, List, [], ◌∷◌, ℕ, Some, None, Option, Ok, Err, Result, IfErr, refl, sym, ap, arith}
 use Rattle.std.specs.Prelude.{MatchResult}
+use Rattle.tks_spelling.specs.declared.format.Format.{Format}
 use Rattle.tks_spelling.specs.declared.header.Header.{Header}
 use Rattle.tks_disk.specs.DiskModel.{View, Images}
 use Rattle.tks_disk.specs.declared.disk.Side.{Side}
@@ -9,7 +10,7 @@ use Rattle.tks_journal.specs.Opening.{Unwritten}
 use Rattle.tks_journal.specs.Sides.{holds, kept}
 use Rattle.tks_journal.proofs.Phases.{then, weaker}
 use Rattle.tks_input.specs.declared.input.Input.{Input}
-use Rattle.tks_input.specs.declared.input.Input.TheVariants.{Script, KeyPress, KeyRelease, Press, Release, Clock, Turn}
+use Rattle.tks_input.specs.declared.input.Input.TheVariants.{Script, KeyPress, KeyRelease, Press, Release, Clock, Turn, Rules}
 use Rattle.tks_input.specs.declared.reply.Refused.{Refused}
 use Rattle.tks_input.specs.declared.reply.Refused.TheVariants as refused
 use Rattle.tks_durable.specs.Crash.{OfBytes, OpenFails, OpensAsOneOf, OpensSo}
@@ -31,15 +32,15 @@ unwritten_yet v only_now = record {
   leaves = record { later = omega arith; each = only_now; now = λ i left. left; before = λ t i le left. inl left };
 }
 
-module _ {W : Type 0} (m : Meaning W) (live : Side) (header : Header) (bytes : List ℕ) where
+module _ {W : Type 0} (m : Meaning W) (live : Side) (format : Format) (header : Header) (bytes : List ℕ) where
   -- a world that is stored, and the frames behind it
-  pub stored_opens : (world : W) (others : Option (List (List ℕ))) → m.stored header bytes ≡ Some world → opened m (kept live header bytes others) ≡ with_bodies m (admitted m header world) others
+  pub stored_opens : (world : W) (others : Option (List (List ℕ))) → m.stored format header bytes ≡ Some world → opened m (kept live format header bytes others) ≡ with_bodies m format (admitted m header world) others
   stored_opens world None is = refl
-  stored_opens world (Some bodies) is = ap (λ o. restored m header o bodies) is
+  stored_opens world (Some bodies) is = ap (λ o. restored m format header o bodies) is
 
-  pub none_opens : (others : Option (List (List ℕ))) → m.stored header bytes ≡ None → opened m (kept live header bytes others) ≡ Err Damaged
+  pub none_opens : (others : Option (List (List ℕ))) → m.stored format header bytes ≡ None → opened m (kept live format header bytes others) ≡ Err Damaged
   none_opens None is = refl
-  none_opens (Some bodies) is = ap (λ o. restored m header o bodies) is
+  none_opens (Some bodies) is = ap (λ o. restored m format header o bodies) is
 
 module _ {W : Type 0} where
   reached_fault : (input : Input) (stepped : Stepped W) → IfErr (reached input stepped) OfBytes
@@ -54,6 +55,7 @@ module _ {W : Type 0} where
       bad_fault (Release button x y) = tt
       bad_fault (Clock time) = tt
       bad_fault Turn = tt
+      bad_fault (Rules number) = tt
 
       why_fault : (input : Input) (why : Refused) → OfBytes (fault_of input why)
       why_fault input refused.BadInput = bad_fault input

@@ -1,5 +1,5 @@
 -- Lists of inputs, read one after the other.
-use Rattle.std.proofs.Common.{◌≡◌, ◌<◌, ◌≤◌, ℕ, zero, suc, ◌-◌, List, [], ◌∷◌, ◌++◌, length, take, drop, Some, None, Ok, Err, refl, sym, ◌∙◌, ap, subst, arith}
+use Rattle.std.proofs.Common.{◌≡◌, ◌<◌, ◌≤◌, ℕ, zero, suc, ◌+◌, ◌-◌, List, [], ◌∷◌, ◌++◌, length, take, drop, Option, Some, None, IfSome, Ok, Err, refl, sym, ◌∙◌, ap, subst, arith}
 use Rattle.std.proofs.lemmas.List.{length-drop, length-append, length-take}
 use Rattle.std.proofs.Math.Seq.{drop-append_seam}
 use Rattle.std.specs.List.{AllByRecursion}
@@ -57,3 +57,30 @@ pub none_left : (bytes : List ℕ) → length bytes ≡ 0 → inputs_in bytes �
 unfolding inputs_in
 none_left [] e = refl
 none_left (byte ∷ bytes) e = absurd (cc e)
+
+-- So many inputs were found, and these are left, of all.
+abbrev pub CountsOn : ℕ → Option (List Input) → Option (List Input) → Type 0
+CountsOn count None all = all ≡ None
+CountsOn count (Some others) all = IfSome all (λ inputs. length inputs ≡ count + length others)
+
+pub counts_first : (all : Option (List Input)) → CountsOn 0 all all
+counts_first None = refl
+counts_first (Some inputs) = omega arith
+
+pub counts_next : (count : ℕ) (input : Input) (rest others all : Option (List Input)) → CountsOn count rest all → rest ≡ with_input input others → CountsOn (count + 1) others all
+counts_next count input rest None all c is = subst (λ r. CountsOn count r all) is c
+counts_next count input rest (Some others) all c is = one_more all (subst (λ r. CountsOn count r all) is c)
+  where
+    one_more : (all : Option (List Input)) → IfSome all (λ inputs. length inputs ≡ count + length (input ∷ others)) → IfSome all (λ inputs. length inputs ≡ count + 1 + length others)
+    one_more None c = tt
+    one_more (Some inputs) c = omega (arith, c)
+
+pub counts_all : (count : ℕ) (rest all : Option (List Input)) → CountsOn count rest all → rest ≡ Some [] → IfSome all (λ inputs. count ≡ length inputs)
+counts_all count rest all c is = at_end all (subst (λ r. CountsOn count r all) is c)
+  where
+    at_end : (all : Option (List Input)) → IfSome all (λ inputs. length inputs ≡ count + 0) → IfSome all (λ inputs. count ≡ length inputs)
+    at_end None c = tt
+    at_end (Some inputs) c = omega (arith, c)
+
+pub counts_none : (count : ℕ) (rest all : Option (List Input)) (P : List Input → Type 0) → CountsOn count rest all → rest ≡ None → IfSome all P
+counts_none count rest all P c is = subst (λ r. IfSome r P) (sym (subst (λ r. CountsOn count r all) is c)) tt

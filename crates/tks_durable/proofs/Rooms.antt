@@ -8,19 +8,19 @@ use Rattle.tks_input.specs.declared.input.Input.{Input}
 use Rattle.tks_input.specs.declared.reply.Refused.{Refused}
 use Rattle.tks_input.specs.declared.reply.Refused.TheVariants.{BadInput, ClockBack, PendingFull, Budget, Depth, TooLarge, NoMemory, Quiet, Failed}
 use Rattle.tks_input.specs.declared.reply.Reply.{Reply}
-use Rattle.tks_journal.specs.Journal.{JournalState, room_for}
+use Rattle.tks_journal.specs.Journal.{JournalState}
 use Rattle.tks_durable.specs.Inputs.{inputs_in, spelled}
 use Rattle.tks_durable.specs.Machine.{Meaning, accepts}
 use Rattle.tks_durable.specs.Opening.{reached, run}
 use Rattle.tks_durable.specs.Refusing.{PostRefused, RoomRefused}
-use Rattle.tks_durable.specs.Durable.{DurableState, IsPending, is_full, or_none}
+use Rattle.tks_durable.specs.Durable.{DurableState, IsPending, has_room_at, is_full, or_none}
 use Rattle.tks_durable.specs.declared.fault.SessionFault.{SessionFault}
 use Rattle.tks_durable.proofs.Pending.{how_long, how_many}
 use Rattle.tks_durable.proofs.Runs.{run_on}
 
 full_is : {D : Type 0} (pending : ℕ) (journal : JournalState D) (waiting : List Input) (input : Input) (many room : Bool) → nat_le pending (length waiting) ≡ many
-    → room_for journal (length (spelled waiting) + length (codec.input.write input)) ≡ room → is_full pending journal waiting input ≡ (many || not room)
-full_is pending journal waiting input many room m r = ap (λ b. b || not (room_for journal (length (spelled waiting) + length (codec.input.write input)))) m ∙ ap (λ b. many || not b) r
+    → has_room_at journal.format journal.gate (length (spelled waiting) + length (codec.input.write input)) ≡ room → is_full pending journal waiting input ≡ (many || not room)
+full_is pending journal waiting input many room m r = ap (λ b. b || not (has_room_at journal.format journal.gate (length (spelled waiting) + length (codec.input.write input)))) m ∙ ap (λ b. many || not b) r
 
 module _ {D : Type 0} (pending : ℕ) (journal : JournalState D) (body : List ℕ) (count : ℕ) (p : IsPending body count) (input : Input) where
   pub full_by_count : pending ≤ count → is_full pending journal (or_none (inputs_in body)) input ≡ true
@@ -32,11 +32,11 @@ module _ {D : Type 0} (pending : ℕ) (journal : JournalState D) (body : List �
   size_with : (longer : List ℕ) (size : ℕ) → longer ≡ body ++ codec.input.write input → size ≡ length longer → length (spelled (or_none (inputs_in body))) + length (codec.input.write input) ≡ size
   size_with longer size is e = omega (arith, how_long body count p, ap length is, length-append body (codec.input.write input))
 
-  pub full_by_room : count < pending → (longer : List ℕ) (size : ℕ) (room : Bool) → longer ≡ body ++ codec.input.write input → size ≡ length longer → room_for journal size ≡ room
+  pub full_by_room : count < pending → (longer : List ℕ) (size : ℕ) (room : Bool) → longer ≡ body ++ codec.input.write input → size ≡ length longer → has_room_at journal.format journal.gate size ≡ room
       → is_full pending journal (or_none (inputs_in body)) input ≡ not room
   full_by_room lt longer size room is e r =
       let few : nat_le pending (length (or_none (inputs_in body))) ≡ false = ap (nat_le pending) (how_many body count p) ∙ grind (arith, nat_tests) in
-      full_is pending journal (or_none (inputs_in body)) input false room few (ap (room_for journal) (size_with longer size is e) ∙ r)
+      full_is pending journal (or_none (inputs_in body)) input false room few (ap (has_room_at journal.format journal.gate) (size_with longer size is e) ∙ r)
 
 -- what a refused step says of a machine that works
 pub post_refused : {D M W : Type 0} (m : Meaning W) (s : DurableState D M W) (input : Input) (why : Refused) (room : Bool) → s.journal.failed ≡ false

@@ -3,6 +3,7 @@ use Rattle.std.proofs.Common.{◌≡◌, ℕ, ◌==◌, ◌&&◌, true, false, L
 use Rattle.std.proofs.lemmas.Bool.Decides.{nat_tests}
 use Rattle.tks_text.specs.Size.{Extent}
 use Rattle.tks_text.specs.Text.{same_text}
+use Rattle.tks_spelling.specs.declared.format.Format.TheVariants.{Two}
 use Rattle.tks_spelling.specs.declared.header.Header.{Header}
 use Rattle.tks_disk.specs.declared.disk.Side.{Side}
 use Rattle.tks_journal.specs.Resting.{begun_as}
@@ -31,8 +32,8 @@ module _ {W : Type 0} (m : Meaning W) (header : Header) (world : W) where
       ∙ ap (λ b. cond b (cond (m.within world) (Ok world) (Err SmallerLimits)) (Err OtherCommands)) (ap (λ x. same_names x m.names) names ∙ names_are m.names)
       ∙ ap (λ b. cond b (Ok world) (Err SmallerLimits)) within
 
-  pub begun_opens : (live : Side) (bytes : List ℕ) → header.grid ≡ m.grid → header.names ≡ m.names → m.within world ≡ true → m.stored header bytes ≡ Some world → opened m (begun_as live header bytes) ≡ Ok world
-  begun_opens live bytes grid names within stored = ap (λ o. restored m header o []) stored ∙ admits grid names within
+  pub begun_opens : (live : Side) (bytes : List ℕ) → header.grid ≡ m.grid → header.names ≡ m.names → m.within world ≡ true → m.stored Two header bytes ≡ Some world → opened m (begun_as live header bytes) ≡ Ok world
+  begun_opens live bytes grid names within stored = ap (λ o. restored m Two header o []) stored ∙ admits grid names within
 
 pub begins : {W : Type 0} (m : Meaning W) (world : W) → world ≡ m.first → m.within world ≡ true → begun m ≡ Ok world
 begins m world is within = ap (λ b. cond b (Ok m.first) (Err SmallerLimits)) (ap m.within (sym is) ∙ within) ∙ ap Ok (sym is)

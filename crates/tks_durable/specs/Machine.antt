@@ -1,6 +1,7 @@
 -- What is made durable, states and what inputs do to them, as functions of values (this project's own rule).
 use Rattle.std.specs.Prelude.{ℕ, Bool, List, length, Option}
 use Rattle.tks_text.specs.Size.{Extent}
+use Rattle.tks_spelling.specs.declared.format.Format.{Format}
 use Rattle.tks_spelling.specs.declared.header.Header.{Header}
 use Rattle.tks_input.specs.declared.input.Input.{Input}
 use Rattle.tks_input.specs.declared.reply.Refused.{Refused}
@@ -18,8 +19,8 @@ pub record Meaning (W : Type 0) : Type 0 where
   pub first : W
   -- the bytes that spell a state
   pub bytes : W → List ℕ
-  -- the state that these bytes spell behind this header, if they spell one
-  pub stored : Header → List ℕ → Option W
+  -- the state that these bytes spell behind this header, in this format, if they spell one
+  pub stored : Format → Header → List ℕ → Option W
   -- does it keep within the limits?
   pub within : W → Bool
   -- is it one that this machine may come to: of its grid and names, within the limits?

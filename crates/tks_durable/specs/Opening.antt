@@ -3,10 +3,11 @@ use Rattle.std.specs.Prelude.{◌≡◌, ℕ, Bool, true, IfOk, List, [], ◌∷
 use Rattle.std.specs.Cmp.Lexicographic.{pointwise}
 use Rattle.tks_text.specs.Size.{Extent}
 use Rattle.tks_text.specs.Text.{same_text}
+use Rattle.tks_spelling.specs.declared.format.Format.{Format}
 use Rattle.tks_spelling.specs.declared.header.Header.{Header}
 use Rattle.tks_disk.specs.DiskModel.{Images}
 use Rattle.tks_input.specs.declared.input.Input.{Input}
-use Rattle.tks_input.specs.declared.input.Input.TheVariants.{Script, KeyPress, KeyRelease, Press, Release, Clock, Turn}
+use Rattle.tks_input.specs.declared.input.Input.TheVariants.{Script, KeyPress, KeyRelease, Press, Release, Clock, Turn, Rules}
 use Rattle.tks_input.specs.declared.reply.Refused.{Refused}
 use Rattle.tks_input.specs.declared.reply.Refused.TheVariants as refused
 use Rattle.tks_journal.specs.Sides.{Kept, holds}
@@ -28,6 +29,7 @@ fault_of_bad (Press button x y) = Damaged
 fault_of_bad (Release button x y) = Damaged
 fault_of_bad (Clock time) = Damaged
 fault_of_bad Turn = Damaged
+fault_of_bad (Rules number) = Damaged
 
 -- why an input of a frame isn't accepted again
 abbrev pub fault_of : Input → Refused → SessionFault
@@ -93,20 +95,20 @@ module _ {W : Type 0} (m : Meaning W) where
   with_inputs start (Some inputs) = run start inputs
 
   -- frames behind it, if none is cut
-  abbrev pub with_bodies : Result W SessionFault → Option (List (List ℕ)) → Result W SessionFault
-  with_bodies start None = Err Damaged
-  with_bodies start (Some bodies) = with_inputs start (inputs_of bodies)
+  abbrev pub with_bodies : Format → Result W SessionFault → Option (List (List ℕ)) → Result W SessionFault
+  with_bodies format start None = Err Damaged
+  with_bodies format start (Some bodies) = with_inputs start (inputs_of format bodies)
 
-  abbrev pub restored : Header → Option W → List (List ℕ) → Result W SessionFault
-  restored header None bodies = Err Damaged
-  restored header (Some world) bodies = with_inputs (admitted header world) (inputs_of bodies)
+  abbrev pub restored : Format → Header → Option W → List (List ℕ) → Result W SessionFault
+  restored format header None bodies = Err Damaged
+  restored format header (Some world) bodies = with_inputs (admitted header world) (inputs_of format bodies)
 
   -- what is held opens to
   abbrev pub opened : Result (Option Kept) SideFault → Result W SessionFault
   opened (Err side.UnknownFormat) = Err Version
   opened (Err side.Damaged) = Err Damaged
   opened (Ok None) = begun
-  opened (Ok (Some kept)) = restored kept.header (m.stored kept.header kept.world) kept.bodies
+  opened (Ok (Some kept)) = restored kept.format kept.header (m.stored kept.format kept.header kept.world) kept.bodies
 
   -- What the bytes of two sides open to.
   abbrev pub opens : Images → Result W SessionFault

@@ -1,11 +1,12 @@
 //! A machine on a disk, between its calls.
 ghost use Rattle.std.specs.Prelude.{◌≡◌, ◌↔◌, ◌<◌, ◌≤◌, ◌++◌, ◌+◌, ◌^◌, ◌∷◌, [], ℕ, true, false, OnOk, OnErr, IfOk, IfErr, Ok, Err, length};
-ghost use Rattle.tks_journal.specs.Journal.{room_for};
+ghost use Rattle.tks_durable.specs.Durable.{has_room_at};
 ghost use Rattle.tks_durable.specs.Machine.{accepts};
 ghost use Rattle.tks_durable.specs.Refusing.{RoomRefused};
 
 use crate::fault::SessionFault;
 use crate::first::new_side;
+use crate::frame::{append_inputs, has_room};
 use crate::machine::Machine;
 use std::alloc::Global;
 use std::marker::Model;
@@ -232,7 +233,7 @@ impl<D: Disk, M: Machine> Durable<D, M> {
             self.acknowledged = self.machine.count(&self.world);
             return Ok(self.acknowledged);
         }
-        match self.journal.append(&self.body) {
+        match append_inputs(&mut self.journal, self.waiting, &self.body) {
             Ok(()) => {
                 self.body.clear();
                 self.waiting = 0;
@@ -293,7 +294,7 @@ impl<D: Disk, M: Machine> Durable<D, M> {
     }
 }
 
-// Steps an input, where a frame of so many bytes finds room.
+// Steps an input, where a frame of inputs of so many bytes finds room.
 fn step_in_room<D: Disk, M: Machine>(
     alloc: Global,
     journal: &Journal<D>,
@@ -302,12 +303,12 @@ fn step_in_room<D: Disk, M: Machine>(
     size: usize,
     input: &Input,
 ) -> Result<Reply, Refused>
-    ensures accepted { IfOk result (λ reply. (room_for journal.now size ≡ true) × ((M.meaning machine.now).step world.old input.now ≡ accepts world.new reply)) }
+    ensures accepted { IfOk result (λ reply. (has_room_at journal.now.format journal.now.gate size ≡ true) × ((M.meaning machine.now).step world.old input.now ≡ accepts world.new reply)) }
     ensures own { OnOk result ((M.meaning machine.now).own world.old ≡ true → (M.meaning machine.now).own world.new ≡ true) }
-    ensures refused { IfErr result (λ why. RoomRefused why (room_for journal.now size) ((M.meaning machine.now).step world.old input.now)) }
+    ensures refused { IfErr result (λ why. RoomRefused why (has_room_at journal.now.format journal.now.gate size) ((M.meaning machine.now).step world.old input.now)) }
     ensures unchanged { OnErr result (world.new ≡ world.old) }
 {
-    if !journal.has_room(size) {
+    if !has_room(journal, size) {
         return Err(Refused::PendingFull);
     }
     match machine.step(alloc, world, input) {

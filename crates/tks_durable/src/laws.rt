@@ -1,10 +1,16 @@
 //! Laws of runs and of crashes.
-ghost use Rattle.std.specs.Prelude.{◌≡◌, ◌++◌, List, Result, Ok, false};
+ghost use Rattle.std.specs.Prelude.{◌≡◌, ◌++◌, ℕ, List, Result, Some, Ok, false};
 ghost use Rattle.tks_disk.specs.DiskModel.{Images};
 ghost use Rattle.tks_input.specs.declared.input.Input.{Input};
 ghost use Rattle.tks_durable.specs.Crash.{HoldsAcknowledged, IsRunOfPrefix, OpensToPrefix};
 ghost use Rattle.tks_durable.specs.Opening.{opens, run};
 ghost use Rattle.tks_durable.specs.declared.fault.SessionFault.{SessionFault};
+ghost use Rattle.tks_spelling.specs.declared.format.Format.TheVariants.{One, Two};
+ghost use Rattle.tks_spelling.specs.declared.header.Header.{Header};
+ghost use Rattle.tks_disk.specs.declared.disk.Side.{Side};
+ghost use Rattle.tks_journal.specs.Sides.{AllShort, kept};
+ghost use Rattle.tks_durable.specs.Inputs.{counted};
+ghost use Rattle.tks_durable.specs.Opening.{opened};
 
 use crate::durable::Durable;
 use crate::machine::Machine;
@@ -15,6 +21,17 @@ use tks_disk::Disk;
 pub fn runs_join<M: Machine>(machine: &M)
     ensures { (start : Result M.World SessionFault) (first second : List Input)
         → run (M.meaning machine.now) start (first ++ second) ≡ run (M.meaning machine.now) (run (M.meaning machine.now) start first) second }
+{
+    let _ = machine;
+}
+
+/// What a store of the first format opens to, it opens to in the second as well, where its world is spelled alike in both and each
+/// of its frames stands behind the number of its inputs.
+pub fn formats_open_alike<M: Machine>(machine: &M)
+    ensures { (live : Side) (header : Header) (world : List ℕ) (bodies : List (List ℕ)) (state : M.World) → AllShort bodies
+        → ((w : M.World) → (M.meaning machine.now).stored One header world ≡ Some w → (M.meaning machine.now).stored Two header world ≡ Some w)
+        → opened (M.meaning machine.now) (kept live One header world (Some bodies)) ≡ Ok state
+        → opened (M.meaning machine.now) (kept live Two header world (Some (counted bodies))) ≡ Ok state }
 {
     let _ = machine;
 }

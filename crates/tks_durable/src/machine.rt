@@ -2,6 +2,7 @@
 ghost use Rattle.std.specs.Prelude.{◌≡◌, ◌<◌, ◌+◌, ◌^◌, List, ℕ, length, true, IfOk, IfErr, IfSome, OnOk, OnErr, Some};
 ghost use Rattle.tks_spelling.specs.Header.{AreNames, header};
 ghost use Rattle.tks_spelling.specs.Lengths.{within_side};
+ghost use Rattle.tks_spelling.specs.declared.format.Format.TheVariants.{Two};
 ghost use Rattle.tks_spelling.specs.declared.header.Header.{Header};
 ghost use Rattle.tks_durable.specs.Machine.{Meaning, accepts};
 ghost use Rattle.tks_durable.specs.Opening.{same_grid, same_names};
@@ -9,7 +10,7 @@ ghost use Rattle.tks_durable.specs.Refusing.{RefusedAs};
 
 use std::alloc::{AllocError, Global};
 use tks_input::{Input, Refused, Reply};
-use tks_spelling::Header;
+use tks_spelling::{Format, Header};
 use tks_text::{Size, Txt};
 
 /// What is made durable: states, and what inputs do to them. Contracts see `meaning` alone, and states by their values.
@@ -34,22 +35,24 @@ pub trait Machine {
         ensures own { IfOk result (λ world. (meaning self.now).within world ≡ true → (meaning self.now).own world ≡ true) }
         ensures short { IfOk result (λ world. length ((meaning self.now).bytes world) < 2 ^ 40) };
 
-    /// The state that these bytes spell behind this header; none where they spell none.
+    /// The state that these bytes spell behind this header, in this format; none where they spell none.
     fn stored(
         &self,
         alloc: Global,
+        format: Format,
         header: &Header,
         bytes: &[u8],
     ) -> Result<Option<Self::World>, AllocError>
-        ensures value { IfOk result (λ found. found ≡ (meaning self.now).stored header.now bytes.now) }
+        ensures value { IfOk result (λ found. found ≡ (meaning self.now).stored format header.now bytes.now) }
         ensures own { IfOk result (λ found. IfSome found (λ world. same_grid header.now.grid (meaning self.now).grid ≡ true
             → same_names header.now.names (meaning self.now).names ≡ true → (meaning self.now).within world ≡ true → (meaning self.now).own world ≡ true)) };
 
-    /// The bytes that spell a state. One that is the machine's own is read back from them behind any header of this machine.
+    /// The bytes that spell a state. One that is the machine's own is read back from them, in the newest format,
+    /// behind any header of this machine.
     fn bytes(&self, alloc: Global, world: &Self::World) -> Result<Vec<u8>, AllocError>
         ensures value { IfOk result (λ bytes. bytes.items ≡ (meaning self.now).bytes world.now) }
         ensures stored { IfOk result (λ bytes. (meaning self.now).own world.now ≡ true
-            → (h : Header) → h.grid ≡ (meaning self.now).grid → h.names ≡ (meaning self.now).names → (meaning self.now).stored h bytes.items ≡ Some world.now) };
+            → (h : Header) → h.grid ≡ (meaning self.now).grid → h.names ≡ (meaning self.now).names → (meaning self.now).stored Two h bytes.items ≡ Some world.now) };
 
     /// How many bytes spell a state, and none where these are more than 2^40. It takes no memory.
     fn length(&self, world: &Self::World) -> Option<u64>

@@ -3,13 +3,15 @@
 ghost use Rattle.std.specs.Prelude.{◌≡◌, ◌≤◌, ◌<◌, ℕ, IfOk, IfSome, Ok, None, length, drop};
 ghost use Rattle.tks_durable.specs.Opening as opening;
 ghost use Rattle.tks_durable.specs.Opening.{IsOwn, then_input, with_inputs};
-ghost use Rattle.tks_durable.specs.Inputs.{inputs_in, with_input};
+ghost use Rattle.tks_durable.specs.Inputs.{frame_in, inputs_in, with_input};
+ghost use Rattle.tks_spelling.specs.declared.format.Format.TheVariants.{Two};
 
 use crate::fault::SessionFault;
 use crate::machine::Machine;
+use byteorder::{BigEndian, ByteOrder};
 use std::alloc::{AllocError, Global};
 use tks_input::{Input, Refused};
-use tks_spelling::{CodecFault, read_input};
+use tks_spelling::{CodecFault, Format, read_input};
 
 // Why an input that was accepted once isn't accepted again.
 fn fault_of(input: &Input, refused: Refused) -> SessionFault
@@ -58,25 +60,69 @@ fn next_input(alloc: Global, bytes: &[u8]) -> Result<Option<(Input, usize)>, All
     }
 }
 
-/// Steps the inputs of a frame's body. What is no list of inputs is damaged.
+// Steps the inputs that bytes are, and says how many they are. What is no list of inputs is damaged.
 #[tactic(auto, using(crate::proofs::Runs::input_first))]
-pub fn replay<M: Machine>(
+fn replay_inputs<M: Machine>(
     alloc: Global,
     machine: &M,
     start: Result<M::World, SessionFault>,
-    body: &[u8],
-) -> Result<Result<M::World, SessionFault>, AllocError>
-    ensures value { IfOk result (λ end. end ≡ with_inputs (M.meaning machine.now) start (inputs_in body.now)) }
-    ensures own { IsOwn (M.meaning machine.now) start → IfOk result (IsOwn (M.meaning machine.now)) }
+    bytes: &[u8],
+) -> Result<(Result<M::World, SessionFault>, usize), AllocError>
+    ensures value { IfOk result (λ end. end.0 ≡ with_inputs (M.meaning machine.now) start (inputs_in bytes.now)) }
+    ensures count { IfOk result (λ end. IfSome (inputs_in bytes.now) (λ inputs. end.1 ≡ length inputs)) }
+    ensures own { IsOwn (M.meaning machine.now) start → IfOk result (λ end. IsOwn (M.meaning machine.now) end.0) }
 {
     let mut so_far = start;
-    let mut rest = body;
+    let mut rest = bytes;
+    let mut count = 0;
     while !rest.is_empty() {
-        let Some((input, count)) = next_input(alloc, rest)? else {
-            return Ok(Err(SessionFault::Damaged));
+        let Some((input, length)) = next_input(alloc, rest)? else {
+            return Ok((Err(SessionFault::Damaged), 0));
         };
         so_far = step_again(alloc, machine, so_far, input)?;
-        rest = &rest[count..];
+        rest = &rest[length..];
+        count += 1;
     }
-    Ok(so_far)
+    Ok((so_far, count))
+}
+
+// Steps the inputs of a frame of the second format.
+fn replay_counted<M: Machine>(
+    alloc: Global,
+    machine: &M,
+    start: Result<M::World, SessionFault>,
+    frame: &[u8],
+) -> Result<Result<M::World, SessionFault>, AllocError>
+    ensures value { IfOk result (λ end. end ≡ with_inputs (M.meaning machine.now) start (frame_in Two frame.now)) }
+    ensures own { IsOwn (M.meaning machine.now) start → IfOk result (IsOwn (M.meaning machine.now)) }
+{
+    if frame.len() < 4 {
+        return Ok(Err(SessionFault::Damaged));
+    }
+    let number = BigEndian::read_u32(&frame[..4]);
+    let (end, count) = replay_inputs(alloc, machine, start, &frame[4..])?;
+    if count != number as usize {
+        return Ok(Err(SessionFault::Damaged));
+    }
+    Ok(end)
+}
+
+/// Steps the inputs of a frame. What is no list of inputs, or of another number than the frame tells, is damaged.
+pub fn replay<M: Machine>(
+    alloc: Global,
+    machine: &M,
+    format: Format,
+    start: Result<M::World, SessionFault>,
+    frame: &[u8],
+) -> Result<Result<M::World, SessionFault>, AllocError>
+    ensures value { IfOk result (λ end. end ≡ with_inputs (M.meaning machine.now) start (frame_in format frame.now)) }
+    ensures own { IsOwn (M.meaning machine.now) start → IfOk result (IsOwn (M.meaning machine.now)) }
+{
+    match format {
+        Format::One => {
+            let (end, _) = replay_inputs(alloc, machine, start, frame)?;
+            Ok(end)
+        }
+        Format::Two => replay_counted(alloc, machine, start, frame),
+    }
 }

@@ -50,13 +50,13 @@ fn replay_next<D: Disk, M: Machine>(
     so_far: Result<M::World, SessionFault>,
 ) -> Result<(Result<M::World, SessionFault>, bool), OpenError>
     ensures more { IfOk result (λ x. x.1 ≡ false → (left.old.at < left.new.at) × (left.new.at ≤ left.old.len)
-        × (D.honest left.old.disk → with_bodies (M.meaning machine.now) x.0 (frames (behind left.new.live left.new.at (D.view left.new.disk).reads))
-        ≡ with_bodies (M.meaning machine.now) so_far (frames (behind left.old.live left.old.at (D.view left.old.disk).reads)))) }
+        × (D.honest left.old.disk → with_bodies (M.meaning machine.now) left.old.format x.0 (frames (behind left.new.live left.new.at (D.view left.new.disk).reads))
+        ≡ with_bodies (M.meaning machine.now) left.old.format so_far (frames (behind left.old.live left.old.at (D.view left.old.disk).reads)))) }
     ensures done { IfOk result (λ x. x.1 ≡ true → IfOk x.0 (λ _. left.new.ended ≡ true)
-        × (D.honest left.old.disk → x.0 ≡ with_bodies (M.meaning machine.now) so_far (frames (behind left.old.live left.old.at (D.view left.old.disk).reads)))) }
+        × (D.honest left.old.disk → x.0 ≡ with_bodies (M.meaning machine.now) left.old.format so_far (frames (behind left.old.live left.old.at (D.view left.old.disk).reads)))) }
     ensures own { IsOwn (M.meaning machine.now) so_far → IfOk result (λ x. IsOwn (M.meaning machine.now) x.0) }
     ensures bytes { IfErr so_far OfBytes → IfOk result (λ x. IfErr x.0 OfBytes) }
-    ensures side { (left.new.live ≡ left.old.live) × (left.new.generation ≡ left.old.generation) × (left.new.len ≡ left.old.len) }
+    ensures side { (left.new.live ≡ left.old.live) × (left.new.format ≡ left.old.format) × (left.new.generation ≡ left.old.generation) × (left.new.len ≡ left.old.len) }
     ensures ours { NoSideFault result }
     ensures unwritten { D.honest left.old.disk → Unwritten (D.view left.old.disk) (D.view left.new.disk) }
     ensures honesty { D.honest left.old.disk ↔ D.honest left.new.disk }
@@ -64,7 +64,7 @@ fn replay_next<D: Disk, M: Machine>(
 {
     match left.next(alloc) {
         Ok(Some(body)) => {
-            let so_far = replay(alloc, machine, so_far, &body)?;
+            let so_far = replay(alloc, machine, left.format(), so_far, &body)?;
             Ok((so_far, false))
         }
         Ok(None) => Ok((so_far, true)),
@@ -81,11 +81,11 @@ fn replay_all<D: Disk, M: Machine>(
     left: &mut Frames<D>,
     start: Result<M::World, SessionFault>,
 ) -> Result<Result<M::World, SessionFault>, OpenError>
-    ensures ran { IfOk result (λ end. D.honest left.old.disk → end ≡ with_bodies (M.meaning machine.now) start (frames (behind left.old.live left.old.at (D.view left.old.disk).reads))) }
+    ensures ran { IfOk result (λ end. D.honest left.old.disk → end ≡ with_bodies (M.meaning machine.now) left.old.format start (frames (behind left.old.live left.old.at (D.view left.old.disk).reads))) }
     ensures ended { IfOk result (λ end. IfOk end (λ _. left.new.ended ≡ true)) }
     ensures own { IsOwn (M.meaning machine.now) start → IfOk result (IsOwn (M.meaning machine.now)) }
     ensures bytes { IfErr start OfBytes → IfOk result (λ end. IfErr end OfBytes) }
-    ensures side { (left.new.live ≡ left.old.live) × (left.new.generation ≡ left.old.generation) }
+    ensures side { (left.new.live ≡ left.old.live) × (left.new.format ≡ left.old.format) × (left.new.generation ≡ left.old.generation) }
     ensures ours { NoSideFault result }
     ensures unwritten { D.honest left.old.disk → Unwritten (D.view left.old.disk) (D.view left.new.disk) }
     ensures honesty { D.honest left.old.disk ↔ D.honest left.new.disk }
@@ -111,17 +111,17 @@ pub fn replay_stored<D: Disk, M: Machine>(
     left: &mut Frames<D>,
 ) -> Result<Result<M::World, SessionFault>, OpenError>
     ensures ran { IfOk result (λ end. D.honest left.old.disk → (live : Side)
-        → opened (M.meaning machine.now) (kept live header.now bytes.now (frames (behind left.old.live left.old.at (D.view left.old.disk).reads))) ≡ end) }
+        → opened (M.meaning machine.now) (kept live left.old.format header.now bytes.now (frames (behind left.old.live left.old.at (D.view left.old.disk).reads))) ≡ end) }
     ensures ended { IfOk result (λ end. IfOk end (λ _. left.new.ended ≡ true)) }
     ensures own { IfOk result (IsOwn (M.meaning machine.now)) }
     ensures bytes { IfOk result (λ end. IfErr end OfBytes) }
-    ensures side { (left.new.live ≡ left.old.live) × (left.new.generation ≡ left.old.generation) }
+    ensures side { (left.new.live ≡ left.old.live) × (left.new.format ≡ left.old.format) × (left.new.generation ≡ left.old.generation) }
     ensures ours { NoSideFault result }
     ensures unwritten { D.honest left.old.disk → Unwritten (D.view left.old.disk) (D.view left.new.disk) }
     ensures honesty { D.honest left.old.disk ↔ D.honest left.new.disk }
     ensures tells { Tells result (D.failures left.old.disk) (D.failures left.new.disk) }
 {
-    match machine.stored(alloc, header, bytes)? {
+    match machine.stored(alloc, left.format(), header, bytes)? {
         Some(world) => {
             let start = admit(machine, header, world);
             replay_all(alloc, machine, left, start)

@@ -19,6 +19,8 @@ pub enum Input {
     Clock(u64),
     /// One queued event, or else one timer or idle script that is due.
     Turn,
+    /// The rules by which scripts are run from here on, by their number.
+    Rules(u8),
 }
 
 impl Input {
@@ -53,6 +55,7 @@ impl Input {
             }),
             Input::Clock(time) => Ok(Input::Clock(*time)),
             Input::Turn => Ok(Input::Turn),
+            Input::Rules(number) => Ok(Input::Rules(*number)),
         }
     }
 }

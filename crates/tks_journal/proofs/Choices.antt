@@ -1,6 +1,7 @@
 -- Which side is live, by what was read of both.
 use Rattle.std.proofs.Common.{◌≡◌, ℕ, ◌==◌, nat_lt, Bool, true, false, cond, List, ◌++◌, length, take, drop, Option, Some, None, IfSome, Result, Ok, Err, refl, sym, ◌∙◌, ap, subst, arith, take-append-drop}
 use Rattle.std.proofs.lemmas.Bool.Decides.{nat_tests}
+use Rattle.tks_spelling.specs.declared.format.Format.{Format}
 use Rattle.tks_spelling.specs.declared.header.Header.{Header}
 use Rattle.tks_disk.specs.DiskModel.{View, Images, on, beside}
 use Rattle.tks_disk.specs.declared.disk.Side.{Side}
@@ -19,21 +20,21 @@ use Rattle.tks_journal.proofs.Faces.{live_holds}
 use Rattle.tks_journal.proofs.Openings.{headed_face}
 use Rattle.tks_journal.proofs.Vacancies.{nothing_held}
 
-head_face : (header : Header) (at : ℕ) (x bytes : List ℕ) → HeadOf header at x → face (take at x ++ bytes) ≡ intact header bytes
-head_face header at x bytes is = ap (λ (l : List ℕ). face (l ++ bytes)) is.front ∙ headed_face header (drop 2 (take at x)) bytes is.spelled is.given
+head_face : (format : Format) (header : Header) (at : ℕ) (x bytes : List ℕ) → HeadOf format header at x → face (take at x ++ bytes) ≡ intact format header bytes
+head_face format header at x bytes is = ap (λ (l : List ℕ). face (l ++ bytes)) is.front ∙ headed_face format header (drop 2 (take at x)) bytes is.spelled is.given
 
 -- a side's face, by its front
 abbrev face_like : Front → List ℕ → Face
 face_like Closed x = closed
 face_like Unknown x = unknown
 face_like Broken x = broken
-face_like (Intact head) x = intact head.header (drop head.at x)
+face_like (Intact head) x = intact head.format head.header (drop head.at x)
 
 front_face : (f : Front) (x : List ℕ) → FrontIs f x → face x ≡ face_like f x
 front_face Closed x is = is
 front_face Unknown x is = is
 front_face Broken x is = is
-front_face (Intact head) x is = ap face (sym (take-append-drop head.at x)) ∙ head_face head.header head.at x (drop head.at x) is.0
+front_face (Intact head) x is = ap face (sym (take-append-drop head.at x)) ∙ head_face head.format head.header head.at x (drop head.at x) is.0
 
 -- ---- a fault
 
@@ -53,7 +54,7 @@ like_fault (Intact h) Closed x y f e = absurd (cc e)
 like_fault (Intact h) (Intact k) x y f e = by_tests (h.header.generation == k.header.generation) (nat_lt k.header.generation h.header.generation) e
   where
     by_tests : (same less : Bool) → cond {A = Result (Option (Side × Head)) SideFault} same (Err Damaged) (cond less (Ok (Some (A, h))) (Ok (Some (B, k)))) ≡ Err f
-        → cond {A = Result (Option Kept) SideFault} same (Err Damaged) (cond less (content A h.header (drop h.at x)) (content B k.header (drop k.at y))) ≡ Err f
+        → cond {A = Result (Option Kept) SideFault} same (Err Damaged) (cond less (content A h.format h.header (drop h.at x)) (content B k.format k.header (drop k.at y))) ≡ Err f
     by_tests true less e = cc e
     by_tests false true e = absurd (cc e)
     by_tests false false e = absurd (cc e)
@@ -92,7 +93,7 @@ live_front_nothing a b v settled is_a is_b e =
 -- ---- one of them
 
 record Selected (side : Side) (head : Head) (i : Images) : Type 0 where
-  head_of : HeadOf head.header head.at (on side i)
+  head_of : HeadOf head.format head.header head.at (on side i)
   size : head.len ≡ length (on side i)
   yields : gives_way head.header.generation (face (beside side i)) ≡ true
 
@@ -123,18 +124,18 @@ selected (Intact h) (Intact k) i side head is_a is_b e = by_tests (h.header.gene
     by_tests false d true l e = of_pair i A side h head (record { head_of = is_a.0; size = is_a.1; yields = ap (gives_way h.header.generation) (front_face (Intact k) i.b is_b) ∙ l }) (cc e)
     by_tests false d false l e = of_pair i B side k head (record { head_of = is_b.0; size = is_b.1; yields = ap (gives_way k.header.generation) (front_face (Intact h) i.a is_a) ∙ not_less h.header.generation k.header.generation d l }) (cc e)
 
-pub live_front_stored : (a b : Front) (v : View) (side : Side) (head : Head) → IsSettled v → FrontIs a v.reads.a → FrontIs b v.reads.b → live_front a b ≡ Ok (Some (side, head)) → StoredAt v side head.header head.at head.len
+pub live_front_stored : (a b : Front) (v : View) (side : Side) (head : Head) → IsSettled v → FrontIs a v.reads.a → FrontIs b v.reads.b → live_front a b ≡ Ok (Some (side, head)) → StoredAt v side head.format head.header head.at head.len
 live_front_stored a b v side head settled is_a is_b e =
     let s = selected a b v.reads side head is_a is_b e in
     record {
       settled = settled;
       size = s.size;
       within = omega (arith, s.size, s.head_of.within);
-      passes = λ bytes. live_holds side (take head.at (on side v.reads) ++ bytes) (beside side v.reads) head.header bytes (head_face head.header head.at (on side v.reads) bytes s.head_of) s.yields;
+      passes = λ bytes. live_holds side (take head.at (on side v.reads) ++ bytes) (beside side v.reads) head.format head.header bytes (head_face head.format head.header head.at (on side v.reads) bytes s.head_of) s.yields;
     }
 
 -- the same as a clause of what was found
 pub live_front_so : (H : Type 0) (a b : Front) (v : View) (o : Option (Side × Head)) → (H → IsSettled v × FrontIs a v.reads.a × FrontIs b v.reads.b) → live_front a b ≡ Ok o
-    → IfSome o (λ found. H → StoredAt v found.0 found.1.header found.1.at found.1.len)
+    → IfSome o (λ found. H → StoredAt v found.0 found.1.format found.1.header found.1.at found.1.len)
 live_front_so H a b v None facts e = tt
 live_front_so H a b v (Some found) facts e = λ h. let f = facts h in live_front_stored a b v found.0 found.1 f.0 f.1 f.2 e

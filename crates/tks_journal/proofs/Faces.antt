@@ -5,6 +5,9 @@ use Rattle.std.proofs.lemmas.Nat.{from_be_bytes-to_be_bytes_4}
 use Rattle.std.proofs.lemmas.Bool.Decides.{nat_tests}
 use Rattle.std.proofs.lemmas.List.{take_at, drop_at, drop-drop}
 use Rattle.tks_spelling.specs.Header.{header_at}
+use Rattle.tks_spelling.specs.Format.{byte_of}
+use Rattle.tks_spelling.specs.declared.format.Format.{Format}
+use Rattle.tks_spelling.specs.declared.format.Format.TheVariants.{One, Two}
 use Rattle.tks_spelling.specs.declared.header.Header.{Header}
 use Rattle.tks_disk.specs.declared.disk.Side.{Side}
 use Rattle.tks_disk.specs.declared.disk.Side.TheVariants.{A, B}
@@ -81,41 +84,42 @@ closed_gate gate [] shut = refl
 closed_gate gate (b ∷ rest) shut = shut_test gate b rest shut
 
 -- a side that was just begun
-pub begun_face : (header : Header) (head behind : List ℕ) → ((rest : List ℕ) → header_at (head ++ rest) ≡ Ok (header, rest)) → is_given header.generation ≡ true → face (1 ∷ 1 ∷ head ++ behind) ≡ intact header behind
+pub begun_face : (format : Format) (header : Header) (head behind : List ℕ) → ((rest : List ℕ) → header_at (head ++ rest) ≡ Ok (header, rest)) → is_given header.generation ≡ true → face (1 ∷ byte_of format ∷ head ++ behind) ≡ intact format header behind
 unfolding face format_of
-begun_face header head behind spelled given = ap headed (spelled behind) ∙ rw given refl
+begun_face One header head behind spelled given = ap (headed One) (spelled behind) ∙ rw given refl
+begun_face Two header head behind spelled given = ap (headed Two) (spelled behind) ∙ rw given refl
 
-decides_a : (header : Header) (rest : List ℕ) (other : Face) → gives_way header.generation other ≡ true → decided (intact header rest) other ≡ content A header rest
-decides_a header rest closed gives = refl
-decides_a header rest unknown gives = absurd (cc gives)
-decides_a header rest broken gives = absurd (cc gives)
-decides_a header rest (intact k y) gives = rw (above_differs header.generation k.generation gives, gives) refl
+decides_a : (format : Format) (header : Header) (rest : List ℕ) (other : Face) → gives_way header.generation other ≡ true → decided (intact format header rest) other ≡ content A format header rest
+decides_a format header rest closed gives = refl
+decides_a format header rest unknown gives = absurd (cc gives)
+decides_a format header rest broken gives = absurd (cc gives)
+decides_a format header rest (intact fk k y) gives = rw (above_differs header.generation k.generation gives, gives) refl
 
-decides_b : (header : Header) (rest : List ℕ) (other : Face) → gives_way header.generation other ≡ true → decided other (intact header rest) ≡ content B header rest
-decides_b header rest closed gives = refl
-decides_b header rest unknown gives = absurd (cc gives)
-decides_b header rest broken gives = absurd (cc gives)
-decides_b header rest (intact k y) gives = rw (below_differs header.generation k.generation gives, not_below header.generation k.generation gives) refl
+decides_b : (format : Format) (header : Header) (rest : List ℕ) (other : Face) → gives_way header.generation other ≡ true → decided other (intact format header rest) ≡ content B format header rest
+decides_b format header rest closed gives = refl
+decides_b format header rest unknown gives = absurd (cc gives)
+decides_b format header rest broken gives = absurd (cc gives)
+decides_b format header rest (intact fk k y) gives = rw (below_differs header.generation k.generation gives, not_below header.generation k.generation gives) refl
 
 -- a side to which the other gives way is live
-pub live_holds : (side : Side) (x other : List ℕ) (header : Header) (rest : List ℕ) → face x ≡ intact header rest → gives_way header.generation (face other) ≡ true → holds (pair side x other) ≡ content side header rest
+pub live_holds : (side : Side) (x other : List ℕ) (format : Format) (header : Header) (rest : List ℕ) → face x ≡ intact format header rest → gives_way header.generation (face other) ≡ true → holds (pair side x other) ≡ content side format header rest
 unfolding held
-live_holds A x other header rest is gives = ap (λ f. decided f (face other)) is ∙ decides_a header rest (face other) gives
-live_holds B x other header rest is gives = ap (λ f. decided (face other) f) is ∙ decides_b header rest (face other) gives
+live_holds A x other format header rest is gives = ap (λ f. decided f (face other)) is ∙ decides_a format header rest (face other) gives
+live_holds B x other format header rest is gives = ap (λ f. decided (face other) f) is ∙ decides_b format header rest (face other) gives
 
 -- ---- what stands behind a header
 
-pub content_is : (live : Side) (header : Header) (world behind : List ℕ) → header.world_length ≡ length world → content live header (world ++ behind) ≡ kept live header world (frames behind)
+pub content_is : (live : Side) (format : Format) (header : Header) (world behind : List ℕ) → header.world_length ≡ length world → content live format header (world ++ behind) ≡ kept live format header world (frames behind)
 unfolding content
-content_is live header world behind size =
+content_is live format header world behind size =
     let n = header.world_length in
     let fits : nat_le n (length (world ++ behind)) ≡ true = le_test n (length (world ++ behind)) (omega (arith, size, length-append world behind)) in
     let took : take n (world ++ behind) ≡ world = take_at world behind n (sym size) in
     let left : drop n (world ++ behind) ≡ behind = drop_at world behind n (sym size) in
-    ap (λ b. cond b (kept live header (take n (world ++ behind)) (frames (drop n (world ++ behind)))) (Err Damaged)) fits
-    ∙ ap (λ l. kept live header l (frames (drop n (world ++ behind)))) took
-    ∙ ap (λ l. kept live header world (frames l)) left
+    ap (λ b. cond b (kept live format header (take n (world ++ behind)) (frames (drop n (world ++ behind)))) (Err Damaged)) fits
+    ∙ ap (λ l. kept live format header l (frames (drop n (world ++ behind)))) took
+    ∙ ap (λ l. kept live format header world (frames l)) left
 
 pub begun_content : (live : Side) (header : Header) (world : List ℕ) (more : List (List ℕ)) (gate : ℕ) (rest : List ℕ) → header.world_length ≡ length world → AllShort more → gate ≢ 1
-    → content live header (world ++ (framed more ++ gate ∷ rest)) ≡ with_frames more (begun_as live header world)
-begun_content live header world more gate rest size all shut = content_is live header world (framed more ++ gate ∷ rest) size ∙ ap (kept live header world) (frames_framed more gate rest all shut)
+    → content live Two header (world ++ (framed more ++ gate ∷ rest)) ≡ with_frames more (begun_as live header world)
+begun_content live header world more gate rest size all shut = content_is live Two header world (framed more ++ gate ∷ rest) size ∙ ap (kept live Two header world) (frames_framed more gate rest all shut)

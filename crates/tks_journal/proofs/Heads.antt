@@ -4,6 +4,7 @@ use Rattle.std.proofs.lemmas.List.{length-drop}
 use Rattle.tks_spelling.specs.Header.{header_at}
 use Rattle.tks_spelling.specs.Header as headers
 use Rattle.tks_spelling.specs.Spelling.{IsBytes}
+use Rattle.tks_spelling.specs.declared.format.Format.{Format}
 use Rattle.tks_spelling.specs.declared.header.Header.{Header}
 use Rattle.tks_spelling.specs.Reading.{FindsSo}
 use Rattle.tks_spelling.specs.declared.fault.CodecFault.{CodecFault}
@@ -19,9 +20,9 @@ unfolding header_at
 spelled_as header head legal is = record { reads = λ rest. ap (λ (l : List ℕ). header_at (l ++ rest)) is ∙ header_lawful.reads_back header rest legal }
 
 -- what is known to be wrong before the bytes end is wrong, whatever follows
-pub wrong_on : (bytes : List ℕ) (place : ℕ) (more : List ℕ) → IsBytes bytes → place < length bytes → header_at bytes ≡ Err (length bytes - place) → headed (header_at (bytes ++ more)) ≡ broken
+pub wrong_on : (format : Format) (bytes : List ℕ) (place : ℕ) (more : List ℕ) → IsBytes bytes → place < length bytes → header_at bytes ≡ Err (length bytes - place) → headed format (header_at (bytes ++ more)) ≡ broken
 unfolding header_at
-wrong_on bytes place more are lt e =
+wrong_on format bytes place more are lt e =
     let front = take place bytes in
     let byte = get_or bytes place 0 in
     let behind = drop (place + 1) bytes in
@@ -29,7 +30,7 @@ wrong_on bytes place more are lt e =
     let left : length bytes - place ≡ suc (length behind) = omega (arith, length-drop (place + 1) bytes) in
     let fails : headers.header.read (front ++ byte ∷ behind) ≡ Err (suc (length behind)) = ap headers.header.read (sym is) ∙ e ∙ ap Err left in
     let longer : bytes ++ more ≡ front ++ byte ∷ (behind ++ more) = ap (λ (l : List ℕ). l ++ more) is ∙ append_assoc front (byte ∷ behind) more in
-    ap (λ (l : List ℕ). headed (headers.header.read l)) longer ∙ ap headed (header_lawful.sure front byte behind (behind ++ more) (subst IsBytes is are) fails)
+    ap (λ (l : List ℕ). headed format (headers.header.read l)) longer ∙ ap (headed format) (header_lawful.sure front byte behind (behind ++ more) (subst IsBytes is are) fails)
 
 pub fault_found : (bytes : List ℕ) (fault : CodecFault) (place : ℕ) → fault ≡ Bad place → FindsSo {T = Header} (Err fault) bytes (header_at bytes) → header_at bytes ≡ Err (length bytes - place)
 fault_found bytes fault place is found = (subst (λ (f : CodecFault). FindsSo {T = Header} (Err f) bytes (header_at bytes)) is found).1

@@ -2,12 +2,13 @@
 use Rattle.std.proofs.Common.{◌≡◌, ◌≢◌, ◌<◌, ◌≤◌, ℕ, ◌+◌, nat_le, false, cond, List, [], ◌∷◌, ◌++◌, length, get_or, take, drop, Option, Some, None, Result, Err, refl, sym, ◌∙◌, ap, arith, append_assoc, length-append, take-append-drop}
 use Rattle.std.proofs.lemmas.Bool.Decides.{nat_tests}
 use Rattle.std.proofs.lemmas.List.{length-drop, length-take, drop_more, drop-drop, take_at, take-take, drop-take}
+use Rattle.tks_spelling.specs.declared.format.Format.{Format}
 use Rattle.tks_spelling.specs.declared.header.Header.{Header}
 use Rattle.tks_disk.specs.DiskModel.{View, Images, on, beside}
 use Rattle.tks_disk.specs.declared.disk.Side.{Side}
 use Rattle.tks_journal.specs.Loading.{behind, with_behind, StoredAt, extended, so_far, FramesAt, ShutAt, FrameIs}
 use Rattle.tks_journal.specs.Moments.{IsSettled}
-use Rattle.tks_journal.specs.Resting.{IsLive, begun_as}
+use Rattle.tks_journal.specs.Resting.{IsLive}
 use Rattle.tks_journal.specs.Sides.{with_front, frames, Kept, kept, content, holds, with_frames, live_of, pair, framed}
 use Rattle.tks_journal.specs.declared.fault.SideFault.{SideFault}
 use Rattle.tks_journal.specs.declared.fault.SideFault.TheVariants.{Damaged}
@@ -68,7 +69,7 @@ extended_front s body (Some more) = sym (more_frames (body ∷ []) more s)
 pub named_behind : (live : Side) (at : ℕ) (reads : Images) → reads ≡ with_behind live at (drop at (on live reads)) reads
 named_behind live at reads = pair_of live reads ∙ ap (λ l. pair live l (beside live reads)) (sym (take-append-drop at (on live reads)))
 
-module _ (v : View) (live : Side) (g at len : ℕ) (f : FramesAt v live g at len) where
+module _ (v : View) (live : Side) (m : Format) (g at len : ℕ) (f : FramesAt v live m g at len) where
   abbrev x : List ℕ
   x = on live v.reads
 
@@ -101,7 +102,7 @@ module _ (v : View) (live : Side) (g at len : ℕ) (f : FramesAt v live g at len
     next_so_far : so_far live on_at v.reads ≡ with_frames (body ∷ []) s
     next_so_far = next_passes (0 ∷ []) ∙ no_frames (with_frames (body ∷ []) s)
 
-    pub frames_on : FramesAt v live g on_at len
+    pub frames_on : FramesAt v live m g on_at len
     frames_on = record {
       settled = f.settled;
       size = f.size;
@@ -121,7 +122,7 @@ module _ (v : View) (live : Side) (g at len : ℕ) (f : FramesAt v live g at len
     held_so_far : holds v.reads ≡ s
     held_so_far = ap holds (named_behind live at v.reads) ∙ f.passes (drop at x) ∙ ap (extended s) none_left ∙ no_frames s
 
-    pub live_at_end : IsLive v live g at
+    pub live_at_end : IsLive v live m g at
     live_at_end = record {
       at_rest = record {
         settled = f.settled;
@@ -135,8 +136,8 @@ module _ (v : View) (live : Side) (g at len : ℕ) (f : FramesAt v live g at len
       is_live = ap live_of held_so_far ∙ f.is_live;
     }
 
-pub frames_still : (v m : View) (live : Side) (g at len : ℕ) → FramesAt v live g at len → IsSettled m → m.reads ≡ v.reads → FramesAt m live g at len
-frames_still v m live g at len f settled same = record {
+pub frames_still : (v m : View) (live : Side) (format : Format) (g at len : ℕ) → FramesAt v live format g at len → IsSettled m → m.reads ≡ v.reads → FramesAt m live format g at len
+frames_still v m live format g at len f settled same = record {
   settled = settled;
   size = f.size ∙ ap (λ (i : Images). length (on live i)) (sym same);
   within = f.within;
@@ -146,15 +147,15 @@ frames_still v m live g at len f settled same = record {
 
 -- ---- the world
 
-extended_kept : (live : Side) (header : Header) (world : List ℕ) (o : Option (List (List ℕ))) → kept live header world o ≡ extended (begun_as live header world) o
-extended_kept live header world None = refl
-extended_kept live header world (Some more) = refl
+extended_kept : (live : Side) (format : Format) (header : Header) (world : List ℕ) (o : Option (List (List ℕ))) → kept live format header world o ≡ extended (kept live format header world (Some [])) o
+extended_kept live format header world None = refl
+extended_kept live format header world (Some more) = refl
 
-module _ (v : View) (live : Side) (header : Header) (at len : ℕ) (f : StoredAt v live header at len) where
+module _ (v : View) (live : Side) (format : Format) (header : Header) (at len : ℕ) (f : StoredAt v live format header at len) where
   abbrev x' : List ℕ
   x' = on live v.reads
 
-  held_behind : holds v.reads ≡ content live header (drop at x')
+  held_behind : holds v.reads ≡ content live format header (drop at x')
   held_behind = ap holds (named_behind live at v.reads) ∙ f.passes (drop at x')
 
   -- the world is cut
@@ -162,7 +163,7 @@ module _ (v : View) (live : Side) (header : Header) (at len : ℕ) (f : StoredAt
   unfolding content
   world_cut short =
       let n = header.world_length in
-      held_behind ∙ ap (λ b. cond b (kept live header (take n (drop at x')) (frames (drop n (drop at x')))) (Err Damaged)) (long_test n (length (drop at x')) (omega (arith, length-drop at x', f.size, short, f.within)))
+      held_behind ∙ ap (λ b. cond b (kept live format header (take n (drop at x')) (frames (drop n (drop at x')))) (Err Damaged)) (long_test n (length (drop at x')) (omega (arith, length-drop at x', f.size, short, f.within)))
 
   module _ (world : List ℕ) (size : length world ≡ header.world_length) (fits : at + header.world_length ≤ len) (is : world ≡ take header.world_length (drop at x')) where
     abbrev end : ℕ
@@ -172,19 +173,19 @@ module _ (v : View) (live : Side) (header : Header) (at len : ℕ) (f : StoredAt
     front_is = sym (take-append-drop at (take end x')) ∙ ap (λ (l : List ℕ). l ++ drop at (take end x')) (take-take at end x' (omega arith))
         ∙ ap (λ (l : List ℕ). take at x' ++ l) (drop-take at header.world_length x' ∙ sym is)
 
-    world_passes : (bytes : List ℕ) → holds (with_behind live end bytes v.reads) ≡ kept live header world (frames bytes)
+    world_passes : (bytes : List ℕ) → holds (with_behind live end bytes v.reads) ≡ kept live format header world (frames bytes)
     world_passes bytes =
         ap (λ l. holds (pair live l (beside live v.reads))) (ap (λ (l : List ℕ). l ++ bytes) front_is ∙ append_assoc (take at x') world bytes)
-        ∙ f.passes (world ++ bytes) ∙ content_is live header world bytes (sym size)
+        ∙ f.passes (world ++ bytes) ∙ content_is live format header world bytes (sym size)
 
-    pub world_held : holds v.reads ≡ kept live header world (frames (behind live end v.reads))
+    pub world_held : holds v.reads ≡ kept live format header world (frames (behind live end v.reads))
     world_held = ap holds (named_behind live end v.reads) ∙ world_passes (drop end x')
 
-    pub frames_begin : FramesAt v live header.generation end len
+    pub frames_begin : FramesAt v live format header.generation end len
     frames_begin = record {
       settled = f.settled;
       size = f.size;
       within = fits;
       is_live = ap live_of (world_passes (0 ∷ []));
-      passes = λ bytes. world_passes bytes ∙ extended_kept live header world (frames bytes) ∙ ap (λ r. extended r (frames bytes)) (sym (world_passes (0 ∷ [])));
+      passes = λ bytes. world_passes bytes ∙ extended_kept live format header world (frames bytes) ∙ ap (λ r. extended r (frames bytes)) (sym (world_passes (0 ∷ [])));
     }

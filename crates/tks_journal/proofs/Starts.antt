@@ -4,6 +4,7 @@ use Rattle.std.proofs.lemmas.Bool.{cases_eq}
 use Rattle.std.proofs.Math.Seq.{get_or-append_seam}
 use Rattle.std.proofs.lemmas.List.{take_at, drop_at}
 use Rattle.tks_spelling.specs.Header.{header_at}
+use Rattle.tks_spelling.specs.declared.format.Format.TheVariants.{Two}
 use Rattle.tks_spelling.specs.declared.header.Header.{Header}
 use Rattle.tks_disk.specs.DiskModel.{View, Images, on, beside}
 use Rattle.tks_disk.specs.declared.disk.Side.{Side}
@@ -45,7 +46,7 @@ module _ (v : View) (side : Side) (header : Header) (head world : List ℕ) (spe
         inl (shut_holds i (on side i) (beside_kept i (b.other_side ∙ shut.other_side)) (closed_front (on side i) (on side m.reads) stem shut.some shut.shut))
 
     abbrev body : List ℕ
-    body = 1 ∷ head ++ (world ++ 0 ∷ [])
+    body = 2 ∷ head ++ (world ++ 0 ∷ [])
 
     module _ (n : View) (staged : Staged side 1 body m n) where
       abbrev x : List ℕ
@@ -73,12 +74,12 @@ module _ (v : View) (side : Side) (header : Header) (head world : List ℕ) (spe
           beside_kept i (a.other_side ∙ staged.other_side ∙ shut.other_side) ∙ ap (λ l. pair side l other) is
 
       -- the side with an open gate and frames
-      open_holds : (more : List (List ℕ)) (g : ℕ) (tail : List ℕ) → AllShort more → g ≢ 1 → holds (pair side (1 ∷ 1 ∷ head ++ (world ++ (framed more ++ g ∷ tail))) other) ≡ with_frames more new
+      open_holds : (more : List (List ℕ)) (g : ℕ) (tail : List ℕ) → AllShort more → g ≢ 1 → holds (pair side (1 ∷ 2 ∷ head ++ (world ++ (framed more ++ g ∷ tail))) other) ≡ with_frames more new
       open_holds more g tail all closed =
-          live_holds side (1 ∷ 1 ∷ head ++ (world ++ (framed more ++ g ∷ tail))) other header (world ++ (framed more ++ g ∷ tail)) (begun_face header head (world ++ (framed more ++ g ∷ tail)) spelled given) vacant.yields
+          live_holds side (1 ∷ 2 ∷ head ++ (world ++ (framed more ++ g ∷ tail))) other Two header (world ++ (framed more ++ g ∷ tail)) (begun_face Two header head (world ++ (framed more ++ g ∷ tail)) spelled given) vacant.yields
           ∙ begun_content side header world more g tail size all closed
 
-      regroup : 1 ∷ (body ++ junk) ≡ 1 ∷ 1 ∷ head ++ (world ++ (framed [] ++ 0 ∷ junk))
+      regroup : 1 ∷ (body ++ junk) ≡ 1 ∷ 2 ∷ head ++ (world ++ (framed [] ++ 0 ∷ junk))
       regroup = simp append_assoc
 
       opened_so : (i : Images) → AtGate side 0 n.reads i → get_or (on side i) 0 0 ≡ 1 → holds i ≡ new
@@ -95,13 +96,13 @@ module _ (v : View) (side : Side) (header : Header) (head world : List ℕ) (spe
       ]
 
       abbrev front : List ℕ
-      front = 1 ∷ 1 ∷ head ++ world
+      front = 1 ∷ 2 ∷ head ++ world
 
       abbrev end : ℕ
       end = 2 + length head + length world
 
       front_is : length front ≡ end
-      front_is = omega (arith, length-append (1 ∷ 1 ∷ head) world)
+      front_is = omega (arith, length-append (1 ∷ 2 ∷ head) world)
 
       split : 1 ∷ (body ++ junk) ≡ front ++ (0 ∷ junk)
       split = simp append_assoc
@@ -124,7 +125,7 @@ module _ (v : View) (side : Side) (header : Header) (head world : List ℕ) (spe
                 carries = λ more g tail all closed.
                     ap (λ l. holds (pair side (l ++ (framed more ++ g ∷ tail)) (beside side f.reads))) taken
                     ∙ ap (λ l. holds (pair side (front ++ (framed more ++ g ∷ tail)) l)) (opened.at_gate.other_side ∙ staged.other_side ∙ shut.other_side)
-                    ∙ ap (λ l. holds (pair side l other)) (append_assoc (1 ∷ 1 ∷ head) world (framed more ++ g ∷ tail))
+                    ∙ ap (λ l. holds (pair side l other)) (append_assoc (1 ∷ 2 ∷ head) world (framed more ++ g ∷ tail))
                     ∙ open_holds more g tail all closed
                     ∙ ap (with_frames more) (sym opened_holds);
               };

@@ -12,8 +12,8 @@ abbrev pub disk_of : {D : Type 0} → Opened D → D
 disk_of (Nothing blank) = blank
 disk_of (Something stored) = stored.disk
 
--- Nothing, or a live side with this header, and behind it its world and frames. What is read is given twice: what it holds, and
+-- Nothing, or a live side of this format with this header, and behind it its world and frames. What is read is given twice: what it holds, and
 -- as it stands.
 abbrev pub OpensTo : {D : Type 0} → Result (Option Kept) SideFault → Images → Opened D → Type 0
 OpensTo held reads (Nothing blank) = held ≡ Ok None
-OpensTo held reads (Something stored) = held ≡ content stored.live stored.header (behind stored.live stored.at reads)
+OpensTo held reads (Something stored) = held ≡ content stored.live stored.format stored.header (behind stored.live stored.at reads)

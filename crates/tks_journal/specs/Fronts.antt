@@ -1,6 +1,8 @@
 -- What the code keeps of a side's front, beside the side's face, and which side it chooses.
 use Rattle.std.specs.Prelude.{◌≡◌, ◌≤◌, ℕ, ◌==◌, nat_lt, true, if◌then◌else◌, List, [], ◌∷◌, ◌++◌, length, take, drop, Option, Some, None, Result, Ok, Err}
+use Rattle.tks_spelling.specs.Format.{byte_of}
 use Rattle.tks_spelling.specs.Header.{header_at}
+use Rattle.tks_spelling.specs.declared.format.Format.{Format}
 use Rattle.tks_spelling.specs.declared.header.Header.{Header}
 use Rattle.tks_disk.specs.declared.disk.Side.{Side}
 use Rattle.tks_disk.specs.declared.disk.Side.TheVariants.{A, B}
@@ -14,32 +16,32 @@ use Rattle.tks_journal.specs.declared.front.Front.{Front}
 use Rattle.tks_journal.specs.declared.front.Front.TheVariants.{Closed, Unknown, Broken, Intact}
 use Rattle.tks_journal.specs.declared.front.Head.{Head}
 
--- these bytes begin with an open gate, the known format and this header, up to this place
-pub record HeadOf (header : Header) (at : ℕ) (bytes : List ℕ) : Type 0 where
+-- these bytes begin with an open gate, this format and this header, up to this place
+pub record HeadOf (format : Format) (header : Header) (at : ℕ) (bytes : List ℕ) : Type 0 where
   pub given : is_given header.generation ≡ true
   pub within : at ≤ length bytes
-  pub front : take at bytes ≡ 1 ∷ 1 ∷ drop 2 (take at bytes)
+  pub front : take at bytes ≡ 1 ∷ byte_of format ∷ drop 2 (take at bytes)
   pub spelled : SpelledAs (drop 2 (take at bytes)) header
 
 abbrev pub FrontIs : Front → List ℕ → Type 0
 FrontIs Closed bytes = face bytes ≡ closed
 FrontIs Unknown bytes = face bytes ≡ unknown
 FrontIs Broken bytes = face bytes ≡ broken
-FrontIs (Intact head) bytes = HeadOf head.header head.at bytes × (head.len ≡ length bytes)
+FrontIs (Intact head) bytes = HeadOf head.format head.header head.at bytes × (head.len ≡ length bytes)
 
--- a side of so many bytes, with an open gate, and of the known format
-pub record IsOpenSide (len : ℕ) (bytes : List ℕ) : Type 0 where
+-- a side of so many bytes, with an open gate, and of this format
+pub record IsOpenSide (format : Format) (len : ℕ) (bytes : List ℕ) : Type 0 where
   pub size : len ≡ length bytes
-  pub opens : take 2 bytes ≡ 1 ∷ 1 ∷ []
+  pub opens : take 2 bytes ≡ 1 ∷ byte_of format ∷ []
 
-abbrev pub front_with : Header → ℕ → ℕ → Front
-front_with header at len = if is_given header.generation then Intact (record { header = header; at = at; len = len }) else Broken
+abbrev pub front_with : Format → Header → ℕ → ℕ → Front
+front_with format header at len = if is_given header.generation then Intact (record { format = format; header = header; at = at; len = len }) else Broken
 
 -- what was made of these bytes, behind a format byte
 abbrev pub AttemptIs : Attempt → List ℕ → Type 0
 AttemptIs (Read header count) bytes = (count ≤ length bytes) × SpelledAs (take count bytes) header
-AttemptIs Wrong bytes = (more : List ℕ) → headed (header_at (bytes ++ more)) ≡ broken
-AttemptIs Short bytes = headed (header_at bytes) ≡ broken
+AttemptIs Wrong bytes = (format : Format) (more : List ℕ) → headed format (header_at (bytes ++ more)) ≡ broken
+AttemptIs Short bytes = (format : Format) → headed format (header_at bytes) ≡ broken
 
 -- the side that is live
 abbrev pub newest : Head → Head → Result (Option (Side × Head)) SideFault

@@ -1,13 +1,15 @@
 -- What contracts see of a journal.
 use Rattle.std.specs.Prelude.{◌≡◌, ℕ, ◌+◌, ◌^◌, nat_le, nat_lt, Bool, ◌&&◌, List, ◌++◌, Ok}
 use Rattle.tks_spelling.specs.Header.{header_at}
+use Rattle.tks_spelling.specs.declared.format.Format.{Format}
 use Rattle.tks_spelling.specs.declared.header.Header.{Header}
 use Rattle.tks_disk.specs.declared.disk.Side.{Side}
 
 pub record JournalState (D : Type 0) : Type 0 where
   pub disk : D
-  -- the side that is live, and its generation
+  -- the side that is live, its format, and its generation
   pub live : Side
+  pub format : Format
   pub generation : ℕ
   -- where on it the closed gate behind the last frame stands
   pub gate : ℕ

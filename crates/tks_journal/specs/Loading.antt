@@ -1,5 +1,6 @@
 -- How far a disk was read, and what contracts see of that.
 use Rattle.std.specs.Prelude.{◌≡◌, ◌≢◌, ◌<◌, ◌≤◌, ◌+◌, ℕ, Bool, List, [], ◌∷◌, ◌++◌, length, take, drop, slice_index, Option, Some, None, Result, Err}
+use Rattle.tks_spelling.specs.declared.format.Format.{Format}
 use Rattle.tks_spelling.specs.declared.header.Header.{Header}
 use Rattle.tks_disk.specs.DiskModel.{View, Images, on, beside}
 use Rattle.tks_disk.specs.declared.disk.Side.{Side}
@@ -12,6 +13,7 @@ use Rattle.tks_journal.specs.declared.fault.SideFault.TheVariants.{Damaged}
 pub record StoredState (D : Type 0) : Type 0 where
   pub disk : D
   pub live : Side
+  pub format : Format
   pub header : Header
   pub at : ℕ
   -- how many bytes the live side has
@@ -21,6 +23,7 @@ pub record StoredState (D : Type 0) : Type 0 where
 pub record FramesState (D : Type 0) : Type 0 where
   pub disk : D
   pub live : Side
+  pub format : Format
   pub generation : ℕ
   pub at : ℕ
   pub len : ℕ
@@ -35,12 +38,12 @@ behind live at reads = drop at (on live reads)
 abbrev pub with_behind : Side → ℕ → List ℕ → Images → Images
 with_behind live at bytes reads = pair live (take at (on live reads) ++ bytes) (beside live reads)
 
--- all is synced, and whatever stands from this place on is read as what stands behind this header
-pub record StoredAt (view : View) (live : Side) (header : Header) (at len : ℕ) : Type 0 where
+-- all is synced, and whatever stands from this place on is read as what stands behind this header, in this format
+pub record StoredAt (view : View) (live : Side) (format : Format) (header : Header) (at len : ℕ) : Type 0 where
   pub settled : IsSettled view
   pub size : len ≡ length (on live view.reads)
   pub within : at ≤ len
-  pub passes : (bytes : List ℕ) → holds (with_behind live at bytes view.reads) ≡ content live header bytes
+  pub passes : (bytes : List ℕ) → holds (with_behind live at bytes view.reads) ≡ content live format header bytes
 
 -- what was held before, and these frames too, unless there is none
 abbrev pub extended : Result (Option Kept) SideFault → Option (List (List ℕ)) → Result (Option Kept) SideFault
@@ -52,11 +55,11 @@ abbrev pub so_far : Side → ℕ → Images → Result (Option Kept) SideFault
 so_far live at reads = holds (with_behind live at (0 ∷ []) reads)
 
 -- all is synced, and whatever stands from this place on is read as frames behind those so far
-pub record FramesAt (view : View) (live : Side) (generation at len : ℕ) : Type 0 where
+pub record FramesAt (view : View) (live : Side) (format : Format) (generation at len : ℕ) : Type 0 where
   pub settled : IsSettled view
   pub size : len ≡ length (on live view.reads)
   pub within : at ≤ len
-  pub is_live : live_of (so_far live at view.reads) ≡ Some (live, generation)
+  pub is_live : live_of (so_far live at view.reads) ≡ Some (live, format, generation)
   pub passes : (bytes : List ℕ) → holds (with_behind live at bytes view.reads) ≡ extended (so_far live at view.reads) (frames bytes)
 
 -- a closed gate stands at this place

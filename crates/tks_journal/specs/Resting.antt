@@ -2,6 +2,8 @@
 use Rattle.std.specs.Prelude.{◌≡◌, ◌≢◌, ◌<◌, ◌⊎◌, ℕ, List, [], ◌∷◌, ◌++◌, length, take, slice_index, Option, Some, None, Result, Ok, Bool, true, false, nat_lt}
 use Rattle.tks_disk.specs.DiskModel.{View, Images, on, beside}
 use Rattle.tks_disk.specs.declared.disk.Side.{Side}
+use Rattle.tks_spelling.specs.declared.format.Format.{Format}
+use Rattle.tks_spelling.specs.declared.format.Format.TheVariants.{Two}
 use Rattle.tks_spelling.specs.declared.header.Header.{Header}
 use Rattle.tks_journal.specs.Moments.{IsSettled}
 use Rattle.tks_journal.specs.declared.fault.SideFault.{SideFault}
@@ -20,10 +22,10 @@ pub record AtRest (view : View) (live : Side) (gate : ℕ) : Type 0 where
   pub shut : slice_index (on live view.reads) gate ≢ 1
   pub carries : Carries live gate view.reads
 
--- a disk at rest, of which this side is live, in this generation
-pub record IsLive (view : View) (live : Side) (generation gate : ℕ) : Type 0 where
+-- a disk at rest, of which this side is live, in this format and generation
+pub record IsLive (view : View) (live : Side) (format : Format) (generation gate : ℕ) : Type 0 where
   pub at_rest : AtRest view live gate
-  pub is_live : live_of (holds view.reads) ≡ Some (live, generation)
+  pub is_live : live_of (holds view.reads) ≡ Some (live, format, generation)
 
 -- what is read holds this, and so does all that a crash now may leave
 pub record AllHold (view : View) (kept : Result (Option Kept) SideFault) : Type 0 where
@@ -44,7 +46,7 @@ abbrev pub gives_way : ℕ → Face → Bool
 gives_way generation closed = true
 gives_way generation unknown = false
 gives_way generation broken = false
-gives_way generation (intact header rest) = nat_lt header.generation generation
+gives_way generation (intact format header rest) = nat_lt header.generation generation
 
 -- a side that can be begun anew, in this generation
 pub record Vacant (side : Side) (generation : ℕ) (reads : Images) : Type 0 where
@@ -53,6 +55,6 @@ pub record Vacant (side : Side) (generation : ℕ) (reads : Images) : Type 0 whe
   -- the other side gives way to it
   pub yields : gives_way generation (face (beside side reads)) ≡ true
 
--- what a side holds that was just begun
+-- what a side holds that was just begun, in the newest format
 abbrev pub begun_as : Side → Header → List ℕ → Result (Option Kept) SideFault
-begun_as live header world = Ok (Some (record { live = live; header = header; world = world; bodies = [] }))
+begun_as live header world = Ok (Some (record { live = live; format = Two; header = header; world = world; bodies = [] }))

@@ -5,7 +5,9 @@ use Rattle.tks_disk.specs.DiskModel.{Images}
 use Rattle.tks_disk.specs.declared.disk.Side.{Side}
 use Rattle.tks_disk.specs.declared.disk.Side.TheVariants.{A, B}
 use Rattle.tks_spelling.specs.Header.{header_at}
+use Rattle.tks_spelling.specs.Format.{of_byte}
 use Rattle.tks_spelling.specs.Spelling.{Read}
+use Rattle.tks_spelling.specs.declared.format.Format.{Format}
 use Rattle.tks_spelling.specs.declared.header.Header.{Header}
 use Rattle.tks_journal.specs.declared.fault.SideFault.{SideFault}
 use Rattle.tks_journal.specs.declared.fault.SideFault.TheVariants.{UnknownFormat, Damaged}
@@ -16,9 +18,9 @@ is_closed [] = true
 is_closed (gate ∷ []) = true
 is_closed (gate ∷ format ∷ rest) = not (gate == 1)
 
--- the byte behind the gate
-unfoldable pub format_of : List ℕ → ℕ
-format_of bytes = slice_index bytes 1
+-- the format that the byte behind the gate stands for, if it is known
+unfoldable pub format_of : List ℕ → Option Format
+format_of bytes = of_byte (slice_index bytes 1)
 
 -- what a side says before its world
 pub data Face : Type 0 where
@@ -27,19 +29,24 @@ pub data Face : Type 0 where
   unknown : Face
   -- open, with a header that is cut or no spelling, or of a generation that is never given out
   broken : Face
-  -- open, with a header and the bytes behind it
-  intact : Header → List ℕ → Face
+  -- open, of this format, with a header and the bytes behind it
+  intact : Format → Header → List ℕ → Face
 
 -- generations are 1 to 2^62
 abbrev pub is_given : ℕ → Bool
 is_given generation = nat_lt 0 generation && nat_le generation (2 ^ 62)
 
-abbrev pub headed : Read Header → Face
-headed (Err left) = broken
-headed (Ok x) = if is_given x.0.generation then intact x.0 x.1 else broken
+abbrev pub headed : Format → Read Header → Face
+headed format (Err left) = broken
+headed format (Ok x) = if is_given x.0.generation then intact format x.0 x.1 else broken
+
+-- what an open side says by its format, and by the bytes behind that
+abbrev pub said_in : Option Format → List ℕ → Face
+said_in None bytes = unknown
+said_in (Some format) bytes = headed format (header_at bytes)
 
 unfoldable pub face : List ℕ → Face
-face bytes = if is_closed bytes then closed else (if format_of bytes == 1 then headed (header_at (drop 2 bytes)) else unknown)
+face bytes = if is_closed bytes then closed else said_in (format_of bytes) (drop 2 bytes)
 
 abbrev pub with_front : List ℕ → Option (List (List ℕ)) → Option (List (List ℕ))
 with_front body None = None
@@ -62,45 +69,46 @@ frames_from zero (gate ∷ bytes) =
 abbrev pub frames : List ℕ → Option (List (List ℕ))
 frames bytes = frames_from 0 bytes
 
--- what two sides hold: the live side, its header, the bytes of its world, and the bodies of the frames behind it
+-- what two sides hold: the live side, its format, its header, the bytes of its world, and the bodies of the frames behind it
 pub record Kept : Type 0 where
   pub live : Side
+  pub format : Format
   pub header : Header
   pub world : List ℕ
   pub bodies : List (List ℕ)
 
-abbrev pub kept : Side → Header → List ℕ → Option (List (List ℕ)) → Result (Option Kept) SideFault
-kept live header world None = Err Damaged
-kept live header world (Some bodies) = Ok (Some (record { live = live; header = header; world = world; bodies = bodies }))
+abbrev pub kept : Side → Format → Header → List ℕ → Option (List (List ℕ)) → Result (Option Kept) SideFault
+kept live format header world None = Err Damaged
+kept live format header world (Some bodies) = Ok (Some (record { live = live; format = format; header = header; world = world; bodies = bodies }))
 
--- a live side with this header, and these bytes behind it
-unfoldable pub content : Side → Header → List ℕ → Result (Option Kept) SideFault
-content live header bytes =
+-- a live side of this format with this header, and these bytes behind it
+unfoldable pub content : Side → Format → Header → List ℕ → Result (Option Kept) SideFault
+content live format header bytes =
     if nat_le header.world_length (length bytes)
-    then kept live header (take header.world_length bytes) (frames (drop header.world_length bytes))
+    then kept live format header (take header.world_length bytes) (frames (drop header.world_length bytes))
     else Err Damaged
 
 -- of two open sides the one with the greater generation is live, and only the header of the other counts
-abbrev pub newer : Header → List ℕ → Header → List ℕ → Result (Option Kept) SideFault
-newer h x k y =
+abbrev pub newer : Format → Header → List ℕ → Format → Header → List ℕ → Result (Option Kept) SideFault
+newer f h x g k y =
     if h.generation == k.generation then Err Damaged
-    else (if nat_lt k.generation h.generation then content A h x else content B k y)
+    else (if nat_lt k.generation h.generation then content A f h x else content B g k y)
 
 -- first an unknown format, then a broken header, of whichever side
 abbrev pub decided : Face → Face → Result (Option Kept) SideFault
 decided unknown b = Err UnknownFormat
 decided closed unknown = Err UnknownFormat
 decided broken unknown = Err UnknownFormat
-decided (intact h x) unknown = Err UnknownFormat
+decided (intact f h x) unknown = Err UnknownFormat
 decided broken closed = Err Damaged
 decided broken broken = Err Damaged
-decided broken (intact k y) = Err Damaged
+decided broken (intact g k y) = Err Damaged
 decided closed broken = Err Damaged
-decided (intact h x) broken = Err Damaged
+decided (intact f h x) broken = Err Damaged
 decided closed closed = Ok None
-decided (intact h x) closed = content A h x
-decided closed (intact k y) = content B k y
-decided (intact h x) (intact k y) = newer h x k y
+decided (intact f h x) closed = content A f h x
+decided closed (intact g k y) = content B g k y
+decided (intact f h x) (intact g k y) = newer f h x g k y
 
 -- What two sides hold: nothing where both are closed, or what the live side has; or why they can't be read.
 unfoldable pub held : List ℕ → List ℕ → Result (Option Kept) SideFault
@@ -115,11 +123,11 @@ with_frames more (Err fault) = Err fault
 with_frames more (Ok None) = Ok None
 with_frames more (Ok (Some k)) = Ok (Some (record k { bodies = k.bodies ++ more }))
 
--- which side is live, and its generation
-abbrev pub live_of : Result (Option Kept) SideFault → Option (Side × ℕ)
+-- which side is live, its format, and its generation
+abbrev pub live_of : Result (Option Kept) SideFault → Option (Side × Format × ℕ)
 live_of (Err fault) = None
 live_of (Ok None) = None
-live_of (Ok (Some k)) = Some (k.live, k.header.generation)
+live_of (Ok (Some k)) = Some (k.live, k.format, k.header.generation)
 
 -- images with these bytes on this side, and those on the other
 abbrev pub pair : Side → List ℕ → List ℕ → Images

@@ -3,7 +3,7 @@ ghost use Rattle.std.specs.Prelude.{◌≡◌, ◌↔◌, ◌<◌, ◌≤◌, �
 ghost use Rattle.tks_disk.specs.DiskModel.{Counts};
 
 use crate::journal::Journal;
-use crate::side::start_side;
+use crate::side::{NEWEST, start_side};
 use std::marker::Model;
 use tks_disk::{Disk, Side};
 use tks_spelling::Header;
@@ -27,6 +27,7 @@ impl<D: Disk> Model for Blank<D> {
 
 impl<D: Disk> Blank<D> {
     ghost use Rattle.tks_disk.specs.declared.disk.Side.TheVariants.{A};
+    ghost use Rattle.tks_spelling.specs.declared.format.Format.TheVariants.{Two};
     ghost use Rattle.tks_journal.specs.Journal.{JournalState, SpelledAs};
     ghost use Rattle.tks_journal.specs.Moments.{LeavesOnly};
     ghost use Rattle.tks_journal.specs.Resting.{AllHold, HoldsNothing, OneOf, begun_as};
@@ -71,13 +72,13 @@ impl<D: Disk> Blank<D> {
             (λ j. LeavesOnly (D.view self) (D.view j.disk) (OneOf (Ok None) (begun_as Side.A header.now world.now)))
             (λ d. LeavesOnly (D.view self) (D.view d) (OneOf (Ok None) (begun_as Side.A header.now world.now))) }
 
-        ensures ok { IfOk result (λ j. j ≡ record { disk = j.disk; live = Side.A; generation = 1; gate = 2 + length head.now + length world.now; failed = false }) }
+        ensures ok { IfOk result (λ j. j ≡ record { disk = j.disk; live = Side.A; format = Two; generation = 1; gate = 2 + length head.now + length world.now; failed = false }) }
         ensures counts { MatchResult result (λ j. D.failures j.disk ≡ D.failures self) (λ d. D.failures self < D.failures d) }
         ensures honesty { MatchResult result (λ j. D.honest self ↔ D.honest j.disk) (λ d. D.honest self ↔ D.honest d) }
     {
         let Blank { mut disk } = self;
         match start_side(&mut disk, Side::A, header, head, world) {
-            Ok(()) => Ok(Journal::at(disk, Side::A, 1, 2 + head.len() + world.len())),
+            Ok(()) => Ok(Journal::at(disk, Side::A, NEWEST, 1, 2 + head.len() + world.len())),
             Err(_) => Err(disk),
         }
     }

@@ -7,12 +7,14 @@ use crate::loading::frame_from;
 use std::alloc::Global;
 use std::marker::Model;
 use tks_disk::{Disk, Side};
+use tks_spelling::Format;
 
 /// A disk whose world was read, and whose frames are being read.
 #[derive(Drop)]
 pub struct Frames<D: Disk> {
     disk: D,
     live: Side,
+    format: Format,
     generation: u64,
     at: usize,
     len: usize,
@@ -25,9 +27,9 @@ impl<D: Disk> Model for Frames<D> {
 
     ghost Value = { FramesState D };
 
-    ghost view = { λ f. record { disk = f.disk; live = f.live; generation = f.generation; at = f.at; len = f.len; ended = f.ended } };
+    ghost view = { λ f. record { disk = f.disk; live = f.live; format = f.format; generation = f.generation; at = f.at; len = f.len; ended = f.ended } };
 
-    ghost invariant = { λ f. D.honest f.disk → FramesAt (D.view f.disk) f.live f.generation f.at f.len × (f.ended ≡ true → ShutAt f.live f.at (D.view f.disk).reads) };
+    ghost invariant = { λ f. D.honest f.disk → FramesAt (D.view f.disk) f.live f.format f.generation f.at f.len × (f.ended ≡ true → ShutAt f.live f.at (D.view f.disk).reads) };
 }
 
 impl<D: Disk> Frames<D> {
@@ -37,19 +39,34 @@ impl<D: Disk> Frames<D> {
     ghost use Rattle.tks_journal.specs.Sides.{frames, with_front};
     ghost use Rattle.tks_journal.specs.declared.fault.SideFault.{SideFault};
 
-    /// The frames from this place on, on a live side of `len` bytes.
-    pub(crate) fn from(disk: D, live: Side, generation: u64, at: usize, len: usize) -> Frames<D>
-        requires { D.honest disk → FramesAt (D.view disk) live generation at len }
-        ensures { result ≡ record { disk = disk; live = live; generation = generation; at = at; len = len; ended = false } }
+    /// The frames from this place on, on a live side of `len` bytes and this format.
+    pub(crate) fn from(
+        disk: D,
+        live: Side,
+        format: Format,
+        generation: u64,
+        at: usize,
+        len: usize,
+    ) -> Frames<D>
+        requires { D.honest disk → FramesAt (D.view disk) live format generation at len }
+        ensures { result ≡ record { disk = disk; live = live; format = format; generation = generation; at = at; len = len; ended = false } }
     {
         Frames {
             disk,
             live,
+            format,
             generation,
             at,
             len,
             ended: false,
         }
+    }
+
+    /// The format of the live side, by which its frames are read.
+    pub fn format(&self) -> Format
+        ensures { result ≡ self.now.format }
+    {
+        self.format
     }
 
     /// The body of the next frame, or none where a closed gate ends them. It writes nothing, holds one frame, and takes memory
@@ -89,17 +106,18 @@ impl<D: Disk> Frames<D> {
     /// The journal, once all frames were handed out.
     pub fn into_journal(self) -> Journal<D>
         requires { self.ended ≡ true }
-        ensures { result ≡ record { disk = self.disk; live = self.live; generation = self.generation; gate = self.at; failed = false } }
+        ensures { result ≡ record { disk = self.disk; live = self.live; format = self.format; generation = self.generation; gate = self.at; failed = false } }
     {
         let Frames {
             disk,
             live,
+            format,
             generation,
             at,
             len: _,
             ended: _,
         } = self;
-        Journal::at(disk, live, generation, at)
+        Journal::at(disk, live, format, generation, at)
     }
 
     /// Gives the disk back, and makes no call of it.
@@ -109,6 +127,7 @@ impl<D: Disk> Frames<D> {
         let Frames {
             disk,
             live: _,
+            format: _,
             generation: _,
             at: _,
             len: _,

@@ -8,18 +8,18 @@ ghost use Rattle.tks_journal.specs.Sides.{is_given};
 use crate::error::OpenError;
 use crate::fault::SideFault;
 use crate::reading::{byte_at, read_exactly};
-use crate::side::FORMAT;
 use std::alloc::Global;
 use tks_disk::{Disk, Side};
-use tks_spelling::{CodecFault, Header, read_header};
+use tks_spelling::{CodecFault, Format, Header, read_header};
 use tks_text::MAX_NUMBER;
 
 /// How many bytes behind the format are read at first.
 const FIRST_READ: usize = 256;
 
-/// The header of an open side.
+/// The format and the header of an open side.
 #[derive(Drop)]
 pub struct Head {
+    pub format: Format,
     pub header: Header,
     /// Where what stands behind it begins.
     pub at: usize,
@@ -66,25 +66,31 @@ fn try_header(alloc: Global, bytes: &[u8]) -> Result<Attempt, OpenError>
     }
 }
 
-/// What an open side of the known format with this header says.
-fn headed(header: Header, at: usize, len: usize) -> Front
-    ensures { result ≡ front_with header at len }
+/// What an open side of this format with this header says.
+fn headed(format: Format, header: Header, at: usize, len: usize) -> Front
+    ensures { result ≡ front_with format header at len }
 {
     if header.generation == 0 || header.generation > MAX_NUMBER {
         return Front::Broken;
     }
-    Front::Intact(Head { header, at, len })
+    Front::Intact(Head {
+        format,
+        header,
+        at,
+        len,
+    })
 }
 
-/// Reads the header of an open side of the known format. It takes no more memory than twice what the header needs.
+/// Reads the header of an open side of this format. It takes no more memory than twice what the header needs.
 fn front_with_header<D: Disk>(
     alloc: Global,
     disk: &mut D,
     side: Side,
+    format: Format,
     len: usize,
 ) -> Result<Front, OpenError>
     requires some { 2 ≤ len }
-    requires side { D.honest disk.old → IsOpenSide len (on side (D.view disk.old).reads) }
+    requires side { D.honest disk.old → IsOpenSide format len (on side (D.view disk.old).reads) }
     ensures front { IfOk result (λ f. D.honest disk.old → FrontIs f (on side (D.view disk.old).reads)) }
     ensures sound { NoSideFault result }
     ensures rests { D.honest disk.old → Rests (D.view disk.old) (D.view disk.new) }
@@ -96,7 +102,7 @@ fn front_with_header<D: Disk>(
     loop {
         let bytes = read_exactly(alloc, disk, side, 2, count)?;
         match try_header(alloc, &bytes)? {
-            Attempt::Read(header, end) => return Ok(headed(header, 2 + end, len)),
+            Attempt::Read(header, end) => return Ok(headed(format, header, 2 + end, len)),
             Attempt::Wrong => return Ok(Front::Broken),
             Attempt::Short => {}
         }
@@ -123,11 +129,11 @@ pub fn front_of<D: Disk>(alloc: Global, disk: &mut D, side: Side) -> Result<Fron
     if gate != 1 {
         return Ok(Front::Closed);
     }
-    let format = byte_at(disk, side, 1)?;
-    if format != FORMAT {
+    let byte = byte_at(disk, side, 1)?;
+    let Some(format) = Format::of_byte(byte) else {
         return Ok(Front::Unknown);
-    }
-    front_with_header(alloc, disk, side, len)
+    };
+    front_with_header(alloc, disk, side, format, len)
 }
 
 /// Which side is live, by the fronts of both.

@@ -1,12 +1,12 @@
 //! A live side at rest, to which frames are added.
-ghost use Rattle.std.specs.Prelude.{◌≡◌, ◌↔◌, ◌<◌, ◌≤◌, ◌^◌, ◌+◌, ◌∷◌, [], ℕ, true, false, OnOk, OnErr, length, Some};
+ghost use Rattle.std.specs.Prelude.{◌≡◌, ◌↔◌, ◌<◌, ◌≤◌, ◌^◌, ◌+◌, ◌++◌, ◌∷◌, [], ℕ, true, false, OnOk, OnErr, length, Some};
 ghost use Rattle.tks_disk.specs.DiskModel.{Counts};
 
 use crate::frame::append_frame;
-use crate::side::{other, start_side};
+use crate::side::{NEWEST, other, start_side};
 use std::marker::Model;
 use tks_disk::{DeviceFault, Disk, Side};
-use tks_spelling::Header;
+use tks_spelling::{Format, Header};
 
 /// The most bytes that a side grows to.
 const SIDE_MAX: usize = 1 << 40;
@@ -18,6 +18,7 @@ const SIDE_MAX: usize = 1 << 40;
 pub struct Journal<D: Disk> {
     disk: D,
     live: Side,
+    format: Format,
     generation: u64,
     gate: usize,
     failed: bool,
@@ -30,9 +31,9 @@ impl<D: Disk> Model for Journal<D> {
 
     ghost Value = { JournalState D };
 
-    ghost view = { λ j. record { disk = j.disk; live = j.live; generation = j.generation; gate = j.gate; failed = j.failed } };
+    ghost view = { λ j. record { disk = j.disk; live = j.live; format = j.format; generation = j.generation; gate = j.gate; failed = j.failed } };
 
-    ghost invariant = { λ j. j.failed ≡ false → D.honest j.disk → IsLive (D.view j.disk) j.live j.generation j.gate };
+    ghost invariant = { λ j. j.failed ≡ false → D.honest j.disk → IsLive (D.view j.disk) j.live j.format j.generation j.gate };
 }
 
 impl<D: Disk> Journal<D> {
@@ -40,15 +41,23 @@ impl<D: Disk> Journal<D> {
     ghost use Rattle.tks_journal.specs.Moments.{LeavesOnly, IsSettled};
     ghost use Rattle.tks_journal.specs.Resting.{AllHold, IsLive, OneOf, begun_as};
     ghost use Rattle.tks_journal.specs.Sides.{holds, live_of, other_of, with_frames};
+    ghost use Rattle.tks_spelling.specs.declared.format.Format.TheVariants.{Two};
 
     /// A journal over a disk at rest.
-    pub(crate) fn at(disk: D, live: Side, generation: u64, gate: usize) -> Journal<D>
-        requires { D.honest disk → IsLive (D.view disk) live generation gate }
-        ensures { result ≡ record { disk = disk; live = live; generation = generation; gate = gate; failed = false } }
+    pub(crate) fn at(
+        disk: D,
+        live: Side,
+        format: Format,
+        generation: u64,
+        gate: usize,
+    ) -> Journal<D>
+        requires { D.honest disk → IsLive (D.view disk) live format generation gate }
+        ensures { result ≡ record { disk = disk; live = live; format = format; generation = generation; gate = gate; failed = false } }
     {
         Journal {
             disk,
             live,
+            format,
             generation,
             gate,
             failed: false,
@@ -58,9 +67,16 @@ impl<D: Disk> Journal<D> {
     /// While no call has failed, a crash leaves just what is read, and this side is live in it.
     pub fn stands(&self)
         ensures { self.now.failed ≡ false → D.honest self.now.disk
-            → IsSettled (D.view self.now.disk) × (live_of (holds (D.view self.now.disk).reads) ≡ Some (self.now.live, self.now.generation)) }
+            → IsSettled (D.view self.now.disk) × (live_of (holds (D.view self.now.disk).reads) ≡ Some (self.now.live, self.now.format, self.now.generation)) }
     {
         let _ = &self.failed;
+    }
+
+    /// The format of the live side.
+    pub fn format(&self) -> Format
+        ensures { result ≡ self.now.format }
+    {
+        self.format
     }
 
     /// How many sides were begun by now, the live one counted.
@@ -84,32 +100,32 @@ impl<D: Disk> Journal<D> {
         count < 1 << 32 && self.gate <= SIDE_MAX && self.gate + 6 + count <= SIDE_MAX
     }
 
-    /// Puts a frame of these bytes behind the others. It takes no memory.
-    pub fn append(&mut self, body: &[u8]) -> Result<(), DeviceFault>
+    /// Puts a frame behind the others: a lead, and a body right behind it. It takes no memory.
+    pub fn append(&mut self, lead: &[u8], body: &[u8]) -> Result<(), DeviceFault>
         requires working { self.old.failed ≡ false }
-        requires room { room_for self.old (length body.now) ≡ true }
+        requires room { room_for self.old (length lead.now + length body.now) ≡ true }
 
         // At Ok, what is read, and all that a crash may leave, holds the frame too.
         ensures added { OnOk result (D.honest self.old.disk
-            → AllHold (D.view self.new.disk) (with_frames (body.now ∷ []) (holds (D.view self.old.disk).reads))) }
+            → AllHold (D.view self.new.disk) (with_frames ((lead.now ++ body.now) ∷ []) (holds (D.view self.old.disk).reads))) }
 
         // A crash at any moment of the call leaves what was held, with the frame or without.
         ensures any_moment { D.honest self.old.disk
-            → LeavesOnly (D.view self.old.disk) (D.view self.new.disk) (OneOf (holds (D.view self.old.disk).reads) (with_frames (body.now ∷ []) (holds (D.view self.old.disk).reads))) }
+            → LeavesOnly (D.view self.old.disk) (D.view self.new.disk) (OneOf (holds (D.view self.old.disk).reads) (with_frames ((lead.now ++ body.now) ∷ []) (holds (D.view self.old.disk).reads))) }
 
-        ensures ok { OnOk result (self.new ≡ record self.old { disk = self.new.disk; gate = self.old.gate + 5 + length body.now }) }
+        ensures ok { OnOk result (self.new ≡ record self.old { disk = self.new.disk; gate = self.old.gate + 5 + (length lead.now + length body.now) }) }
         ensures err { OnErr result (self.new ≡ record self.old { disk = self.new.disk; failed = true }) }
         ensures honesty { D.honest self.old.disk ↔ D.honest self.new.disk }
         ensures counts { Counts result (D.failures self.old.disk) (D.failures self.new.disk) }
     {
         self.failed = true;
-        append_frame(&mut self.disk, self.live, self.gate, body)?;
-        self.gate += 5 + body.len();
+        append_frame(&mut self.disk, self.live, self.gate, lead, body)?;
+        self.gate += 5 + (lead.len() + body.len());
         self.failed = false;
         Ok(())
     }
 
-    /// Begins the other side with this header, spelled as `head`, and this world. That side is live then, with no frames. It
+    /// Begins the other side, of the newest format, with this header, spelled as `head`, and this world. That side is live then, with no frames. It
     /// takes no memory.
     pub fn checkpoint(
         &mut self,
@@ -135,6 +151,7 @@ impl<D: Disk> Journal<D> {
         ensures ok { OnOk result (self.new ≡ record self.old {
           disk = self.new.disk;
           live = other_of self.old.live;
+          format = Two;
           generation = header.now.generation;
           gate = 2 + length head.now + length world.now;
         }) }
@@ -146,6 +163,7 @@ impl<D: Disk> Journal<D> {
         self.failed = true;
         start_side(&mut self.disk, side, header, head, world)?;
         self.live = side;
+        self.format = NEWEST;
         self.generation = header.generation;
         self.gate = 2 + head.len() + world.len();
         self.failed = false;
@@ -159,6 +177,7 @@ impl<D: Disk> Journal<D> {
         let Journal {
             disk,
             live: _,
+            format: _,
             generation: _,
             gate: _,
             failed: _,

@@ -25,11 +25,11 @@ fn settle<D: Disk>(disk: &mut D) -> Result<(), DeviceFault>
     Ok(())
 }
 
-/// Syncs both sides, and says which is live, if any, with its header.
+/// Syncs both sides, and says which is live, if any, with its format and its header.
 pub fn survey<D: Disk>(alloc: Global, disk: &mut D) -> Result<Option<(Side, Head)>, OpenError>
     ensures blank { result ≡ Ok None → D.honest disk.old → HoldsNothing (D.view disk.new) }
     ensures stored { IfOk result (λ o. IfSome o (λ found. D.honest disk.old
-        → StoredAt (D.view disk.new) found.0 found.1.header found.1.at found.1.len)) }
+        → StoredAt (D.view disk.new) found.0 found.1.format found.1.header found.1.at found.1.len)) }
     ensures fault { (f : SideFault) → result ≡ Err (OpenError.Sides f) → D.honest disk.old → holds (D.view disk.old).reads ≡ Err f }
     ensures unwritten { D.honest disk.old → Unwritten (D.view disk.old) (D.view disk.new) }
     ensures honesty { D.honest disk.old ↔ D.honest disk.new }

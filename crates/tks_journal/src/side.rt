@@ -13,10 +13,10 @@ use crate::gate::{close_gate, open_gate};
 use crate::pieces::write_pieces;
 use std::alloc::{AllocError, Global};
 use tks_disk::{DeviceFault, Disk, Side};
-use tks_spelling::{Header, write_header};
+use tks_spelling::{Format, Header, write_header};
 
-/// The format in which sides are written.
-pub const FORMAT: u8 = 1;
+/// The format in which sides are begun.
+pub const NEWEST: Format = Format::Two;
 
 /// The side beside this one.
 pub fn other(side: Side) -> Side
@@ -55,11 +55,11 @@ fn stage_side<D: Disk>(
     ensures any_moment { D.honest disk.old → LeavesOnly (D.view disk.old) (D.view disk.new)
         (Begins side (take 1 (on side (D.view disk.old).reads)) (beside side (D.view disk.old).reads)) }
     ensures staged { OnOk result (D.honest disk.old
-        → Staged side 1 (1 ∷ head.now ++ (world.now ++ 0 ∷ [])) (D.view disk.old) (D.view disk.new)) }
+        → Staged side 1 (2 ∷ head.now ++ (world.now ++ 0 ∷ [])) (D.view disk.old) (D.view disk.new)) }
     ensures honesty { D.honest disk.old ↔ D.honest disk.new }
     ensures counts { Counts result (D.failures disk.old) (D.failures disk.new) }
 {
-    write_pieces(disk, side, 1, &[FORMAT])?;
+    write_pieces(disk, side, 1, &[NEWEST.byte()])?;
     write_pieces(disk, side, 2, head)?;
     write_pieces(disk, side, 2 + head.len(), world)?;
     write_pieces(disk, side, 2 + head.len() + world.len(), &[0])?;

@@ -9,7 +9,7 @@ use crate::opening::survey;
 use std::alloc::Global;
 use std::marker::Model;
 use tks_disk::{Disk, Side};
-use tks_spelling::Header;
+use tks_spelling::{Format, Header};
 
 /// Why a disk wasn't opened, and the disk.
 #[derive(Drop)]
@@ -18,11 +18,12 @@ pub struct OpenFault<D> {
     pub error: OpenError,
 }
 
-/// A disk whose live side and header are known.
+/// A disk whose live side is known, with its format and header.
 #[derive(Drop)]
 pub struct Stored<D: Disk> {
     disk: D,
     live: Side,
+    format: Format,
     header: Header,
     at: usize,
     len: usize,
@@ -41,9 +42,9 @@ impl<D: Disk> Model for Stored<D> {
 
     ghost Value = { StoredState D };
 
-    ghost view = { λ s. record { disk = s.disk; live = s.live; header = s.header; at = s.at; len = s.len } };
+    ghost view = { λ s. record { disk = s.disk; live = s.live; format = s.format; header = s.header; at = s.at; len = s.len } };
 
-    ghost invariant = { λ s. D.honest s.disk → StoredAt (D.view s.disk) s.live s.header s.at s.len };
+    ghost invariant = { λ s. D.honest s.disk → StoredAt (D.view s.disk) s.live s.format s.header s.at s.len };
 }
 
 impl<D: Disk> Stored<D> {
@@ -51,6 +52,13 @@ impl<D: Disk> Stored<D> {
     ghost use Rattle.tks_journal.specs.Opening.{RaisedBy, Unwritten};
     ghost use Rattle.tks_journal.specs.Sides.{frames, holds, kept};
     ghost use Rattle.tks_journal.specs.declared.fault.SideFault.{SideFault};
+
+    /// The format of the live side.
+    pub fn format(&self) -> Format
+        ensures { result ≡ self.now.format }
+    {
+        self.format
+    }
 
     /// The header of the live side.
     pub fn header(&self) -> &Header
@@ -66,6 +74,7 @@ impl<D: Disk> Stored<D> {
         let Stored {
             disk,
             live: _,
+            format: _,
             header: _,
             at: _,
             len: _,
@@ -78,10 +87,11 @@ impl<D: Disk> Stored<D> {
     pub fn world(self, alloc: Global) -> Result<(Header, Vec<u8>, Frames<D>), OpenFault<D>>
         // The disk holds this header, this world, and the frames that are left.
         ensures read { IfOk result (λ x. D.honest self.disk → holds (D.view self.disk).reads
-            ≡ kept x.2.live x.0 x.1.items (frames (behind x.2.live x.2.at (D.view x.2.disk).reads))) }
+            ≡ kept x.2.live x.2.format x.0 x.1.items (frames (behind x.2.live x.2.at (D.view x.2.disk).reads))) }
         ensures frames { IfOk result (λ x. (x.0 ≡ self.header) × (x.2 ≡ record {
           disk = x.2.disk;
           live = self.live;
+          format = self.format;
           generation = self.header.generation;
           at = self.at + self.header.world_length;
           len = self.len;
@@ -95,13 +105,21 @@ impl<D: Disk> Stored<D> {
         let Stored {
             mut disk,
             live,
+            format,
             header,
             at,
             len,
         } = self;
         match world_from(alloc, &mut disk, live, at, header.world_length, len) {
             Ok(world) => {
-                let frames = Frames::from(disk, live, header.generation, at + world.len(), len);
+                let frames = Frames::from(
+                    disk,
+                    live,
+                    format,
+                    header.generation,
+                    at + world.len(),
+                    len,
+                );
                 Ok((header, world, frames))
             }
             Err(error) => Err(OpenFault { disk, error }),
@@ -129,6 +147,7 @@ pub fn open<D: Disk>(alloc: Global, disk: D) -> Result<Opened<D>, OpenFault<D>>
         Ok(Some((live, head))) => Ok(Opened::Something(Stored {
             disk,
             live,
+            format: head.format,
             header: head.header,
             at: head.at,
             len: head.len,

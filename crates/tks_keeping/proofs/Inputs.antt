@@ -29,7 +29,7 @@ use Rattle.tks_world.specs.Stepped.{Stepped, Accepts, Refuses, max_count, counte
 use Rattle.tks_world.specs.Gestures.{has_room, remembering, left_by, gesture_step}
 use Rattle.tks_world.specs.Keys.{key_gesture, key_step, key_press_step, key_release_step}
 use Rattle.tks_world.specs.Buttons.{is_button_number, on_grid, target_at, release_target, press_gesture, release_gesture, press_step, release_step}
-use Rattle.tks_world.specs.Step.{max_clock, clock_step}
+use Rattle.tks_world.specs.Step.{max_clock, clock_step, rules_step}
 use Rattle.tks_world.specs.Things.{Next, script_taken, idle_or_none, timer_or_idle, event_or_script, next_thing}
 use Rattle.tks_world.specs.declared.gestures.Gesture.{Gesture}
 use Rattle.tks_world.specs.declared.things.Thing.{Thing}
@@ -139,6 +139,9 @@ module _ (limits : Limits) (grid : Extent) (names : List (List ℕ)) where
   clock_keeps time w h =
       let later = whole (with_clock time w) h.world.on_grid h.world.windows h.world.events h.world.faults h.variables h.memories h.named in
       one_so StepFits (nat_lt max_clock time) _ _ tt (one_so StepFits (nat_lt time w.clock) _ _ tt (kept_keeps (with_clock time w) later))
+
+  pub rules_keeps : (number : ℕ) (w : World) → WholeFits limits grid names w → StepFits (rules_step number w)
+  rules_keeps number w h = one_so StepFits (number == 1) _ _ (kept_keeps w h) tt
 
 -- ---- what a turn does
 

@@ -13,7 +13,7 @@ use Rattle.tks_app.specs.Applications.{Application}
 use Rattle.tks_app.specs.Memories.{memory_of, remembering}
 use Rattle.tks_app.specs.declared.answer.AppAnswer.{AppAnswer}
 use Rattle.tks_input.specs.declared.input.Input.{Input}
-use Rattle.tks_input.specs.declared.input.Input.TheVariants.{Script, KeyPress, KeyRelease, Press, Release, Clock, Turn}
+use Rattle.tks_input.specs.declared.input.Input.TheVariants.{Script, KeyPress, KeyRelease, Press, Release, Clock, Turn, Rules}
 use Rattle.tks_input.specs.declared.reply.Reply.{Reply}
 use Rattle.tks_limits.specs.Within.{memories_fit, within}
 use Rattle.tks_state.specs.World.{World, with_fault}
@@ -39,7 +39,7 @@ use Rattle.tks_keeping.proofs.Tables.{insert_fits, keys_stay}
 use Rattle.tks_keeping.proofs.Scripts.{EndFits, given_fits, evaluate_fits, settled_fits, plan_fits}
 use Rattle.tks_keeping.proofs.Delivered.{begun_fits}
 use Rattle.tks_keeping.proofs.Commands.{does_fits}
-use Rattle.tks_keeping.proofs.Inputs.{WholeFits, StepFits, within_opened, within_closed, counted_keeps, key_press_keeps, key_release_keeps, press_keeps, release_keeps, clock_keeps, ThingFits, NextFits, next_fits}
+use Rattle.tks_keeping.proofs.Inputs.{WholeFits, StepFits, within_opened, within_closed, counted_keeps, key_press_keeps, key_release_keeps, press_keeps, release_keeps, clock_keeps, rules_keeps, ThingFits, NextFits, next_fits}
 
 -- ---- what the world is to its scripts
 
@@ -181,6 +181,7 @@ module _ (limits : Limits) (grid : Extent) (names : List (List ℕ)) where
   step_keeps app w (Release button x y) h = release_keeps limits grid names button x y w h
   step_keeps app w (Clock time) h = clock_keeps limits grid names time w h
   step_keeps app w Turn h = turn_keeps app w h
+  step_keeps app w (Rules number) h = rules_keeps limits grid names number w h
 
 -- a world within the limits stays within them, on its grid, and has memories of the names of which it had them
 pub steps_keep : (app : Application) (limits : Limits) (old : World) (input : Input) (new : World) (reply : Reply) → step app old input limits ≡ Accepts new reply → within limits old ≡ true

@@ -25,6 +25,7 @@ use Rattle.tks_codec_variables.specs.Globals.{content}
 use Rattle.tks_codec_variables.specs.Procedures.{procedure}
 use Rattle.tks_codec_variables.specs.Table as tables
 use Rattle.tks_codec_variables.specs.Variables.{variables}
+use Rattle.tks_spelling.specs.declared.format.Format.TheVariants.{Two}
 use Rattle.tks_codec.specs.Counts.{counts}
 use Rattle.tks_codec.specs.Ends.{ends, memories}
 use Rattle.tks_codec.specs.Happenings.{happenings}
@@ -129,7 +130,7 @@ module _ (grid : Extent) (names : List (List ℕ)) (are : AreNames names) where
   abbrev w : World
   w = first_world grid names
 
-  ends_length : length (ends.write (ends_of w)) ≤ 72 * length names + 100
+  ends_length : length ((ends Two).write (ends_of w)) ≤ 72 * length names + 100
   ends_length =
       let focus = to_be_bytes w64 0 in
       let front : length focus ≡ 8 = refl in
@@ -152,7 +153,7 @@ module _ (grid : Extent) (names : List (List ℕ)) (are : AreNames names) where
 
   -- what stands behind the windows, and behind each part that follows
   abbrev last_two : List ℕ
-  last_two = (waiting w.timers.next).write w.timers ++ ends.write (ends_of w)
+  last_two = (waiting w.timers.next).write w.timers ++ (ends Two).write (ends_of w)
 
   abbrev last_three : List ℕ
   last_three = queue.write w.queue ++ last_two
@@ -163,14 +164,14 @@ module _ (grid : Extent) (names : List (List ℕ)) (are : AreNames names) where
   abbrev last_five : List ℕ
   last_five = variables.write w.variables ++ last_four
 
-  pub first_length : length ((codec.world grid).write w) ≤ 10_000 + (10_000 + (10_000 + (10_000 + (10_000 + (10_000 + (72 * length names + 100))))))
+  pub first_length : length ((codec.world Two grid).write w) ≤ 10_000 + (10_000 + (10_000 + (10_000 + (10_000 + (10_000 + (72 * length names + 100))))))
   first_length =
       joined (counts.write (counts_of w)) ((windows w.tree.next).write (windows_of w) ++ last_five) 10_000 _ (at_most (counts.write (counts_of w)) refl)
       (joined ((windows w.tree.next).write (windows_of w)) last_five 10_000 _ (at_most ((windows w.tree.next).write (windows_of w)) refl)
       (joined (variables.write w.variables) last_four 10_000 _ variables_length
       (joined ((happenings w.bindings.next).write (happenings_of w)) last_three 10_000 _ happenings_length
       (joined (queue.write w.queue) last_two 10_000 _ (at_most (queue.write w.queue) refl)
-      (joined ((waiting w.timers.next).write w.timers) (ends.write (ends_of w)) 10_000 _ (at_most ((waiting w.timers.next).write w.timers) refl) ends_length)))))
+      (joined ((waiting w.timers.next).write w.timers) ((ends Two).write (ends_of w)) 10_000 _ (at_most ((waiting w.timers.next).write w.timers) refl) ends_length)))))
 
-pub first_short : (grid : Extent) (names : List (List ℕ)) → AreNames names → length names < 2 ^ 32 → length ((codec.world grid).write (first_world grid names)) < 2 ^ 40
+pub first_short : (grid : Extent) (names : List (List ℕ)) → AreNames names → length names < 2 ^ 32 → length ((codec.world Two grid).write (first_world grid names)) < 2 ^ 40
 first_short grid names are few = omega (arith, few, first_length grid names are)

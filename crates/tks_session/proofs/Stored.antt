@@ -11,6 +11,8 @@ use Rattle.tks_app.specs.Applications.{Application, AreNames}
 use Rattle.tks_app.specs.Memories.{first_memories}
 use Rattle.tks_app.proofs.Firsts.{first_names}
 use Rattle.tks_spelling.specs.Spelling.{Read}
+use Rattle.tks_spelling.specs.declared.format.Format.{Format}
+use Rattle.tks_spelling.specs.declared.format.Format.TheVariants.{Two}
 use Rattle.tks_spelling.specs.declared.header.Header.{Header}
 use Rattle.tks_codec.specs.World as codec
 use Rattle.tks_codec.proofs.OfWorlds.{world_lawful}
@@ -94,10 +96,10 @@ module _ (app : Application) (limits : Limits) (grid : Extent) where
       (ap (λ (ns : List (List ℕ)). same_names ns app.names) (names_same (names_of world.memories) h.names named) ∙ same) fits
 
   -- what was read and is all, if it is
-  pub some_own : (h : Header) (world : World) (rest : List ℕ) (whole : Bool) → (codec.world h.grid).Legal world → whole ≡ is_stored h.names world rest
+  pub some_own : (format : Format) (h : Header) (world : World) (rest : List ℕ) (whole : Bool) → (codec.world format h.grid).Legal world → whole ≡ is_stored h.names world rest
       → IfSome (then_some whole world) (λ w. same_grid h.grid grid ≡ true → same_names h.names app.names ≡ true → within limits w ≡ true → is_own app limits grid w ≡ true)
-  some_own h world rest false legal is = tt
-  some_own h world rest true legal is =
+  some_own format h world rest false legal is = tt
+  some_own format h world rest true legal is =
       stored_own h world (ap (λ (w : World). w.grid) legal.0.1.1.1.1.1.1.1) (and_parts (is_nothing rest) (same_names (names_of world.memories) h.names) (sym is)).1
 
   -- and what a step leaves of one
@@ -109,12 +111,12 @@ module _ (app : Application) (limits : Limits) (grid : Extent) where
       (ap (λ (ns : List (List ℕ)). same_names ns app.names) (kept.2 ∙ parts.1) ∙ each_named app.names) kept.0
 
   -- it is stored in its bytes
-  pub stored_back : (h : Header) (world : World) (bytes : List ℕ) → (codec.world world.grid).Legal world → bytes ≡ spelled world → is_own app limits grid world ≡ true → h.grid ≡ grid → h.names ≡ app.names
-      → stored h bytes ≡ Some world
+  pub stored_back : (h : Header) (world : World) (bytes : List ℕ) → (codec.world Two world.grid).Legal world → bytes ≡ spelled world → is_own app limits grid world ≡ true → h.grid ≡ grid → h.names ≡ app.names
+      → stored Two h bytes ≡ Some world
   unfolding spelled codec.world_at
   stored_back h world bytes legal is owned on_grid named =
       let parts = own_parts world owned in
-      let reads : codec.world_at h.grid bytes ≡ Ok (world, []) =
-      (λ i. (codec.world ((on_grid ∙ sym parts.0) i)).read ((is ∙ sym (append-nil ((codec.world world.grid).write world))) i)) ∙ (world_lawful world.grid).reads_back world [] legal in
-      stored_alone h.names world (codec.world_at h.grid bytes) reads
+      let reads : codec.world_at Two h.grid bytes ≡ Ok (world, []) =
+      (λ i. (codec.world Two ((on_grid ∙ sym parts.0) i)).read ((is ∙ sym (append-nil ((codec.world Two world.grid).write world))) i)) ∙ (world_lawful Two world.grid).reads_back world [] legal in
+      stored_alone h.names world (codec.world_at Two h.grid bytes) reads
       (ap (λ (ns : List (List ℕ)). same_names ns h.names) (parts.1 ∙ sym named) ∙ each_named h.names)

@@ -4,6 +4,7 @@ use Rattle.tks_text.specs.Limits.{Wider}
 use Rattle.tks_text.specs.Size.{Extent}
 use Rattle.tks_text.specs.declared.limits.Limits.{Limits}
 use Rattle.tks_disk.specs.DiskModel.{Images}
+use Rattle.tks_spelling.specs.declared.format.Format.{Format}
 use Rattle.tks_spelling.specs.declared.header.Header.{Header}
 use Rattle.tks_input.specs.declared.input.Input.{Input}
 use Rattle.tks_journal.specs.Sides.{Kept, holds}
@@ -56,9 +57,9 @@ module _ (app : Application) (limits wider : Limits) (grid : Extent) (wide : Wid
       by true true false is h = absurd (no_run SmallerLimits h)
       by true true true is h = rw (admits_too old is) (runs_too inputs old new h)
 
-  restored_too : (header : Header) (found : Option World) (bodies : List (List ℕ)) (new : World) → restored (terminal app limits grid) header found bodies ≡ Ok new → restored (terminal app wider grid) header found bodies ≡ Ok new
-  restored_too header None bodies new is = absurd cc
-  restored_too header (Some old) bodies new is = by (inputs_of bodies) is
+  restored_too : (format : Format) (header : Header) (found : Option World) (bodies : List (List ℕ)) (new : World) → restored (terminal app limits grid) format header found bodies ≡ Ok new → restored (terminal app wider grid) format header found bodies ≡ Ok new
+  restored_too format header None bodies new is = absurd cc
+  restored_too format header (Some old) bodies new is = by (inputs_of format bodies) is
     where
       by : (inputs : Option (List Input)) → with_inputs (terminal app limits grid) (admitted (terminal app limits grid) header old) inputs ≡ Ok new
           → with_inputs (terminal app wider grid) (admitted (terminal app wider grid) header old) inputs ≡ Ok new
@@ -76,7 +77,7 @@ module _ (app : Application) (limits wider : Limits) (grid : Extent) (wide : Wid
   opened_too (Err side.UnknownFormat) new is = absurd cc
   opened_too (Err side.Damaged) new is = absurd cc
   opened_too (Ok None) new is = begun_too new is
-  opened_too (Ok (Some kept)) new is = restored_too kept.header (stored kept.header kept.world) kept.bodies new is
+  opened_too (Ok (Some kept)) new is = restored_too kept.format kept.header (stored kept.format kept.header kept.world) kept.bodies new is
 
 pub opens_too : (app : Application) (limits wider : Limits) (grid : Extent) (images : Images) (world : World) → Wider limits wider → opens (terminal app limits grid) images ≡ Ok world → opens (terminal app wider grid) images ≡ Ok world
 opens_too app limits wider grid images world wide is = opened_too app limits wider grid wide (holds images) world is

@@ -4,6 +4,8 @@ use Rattle.std.specs.Bool.{then_some}
 use Rattle.tks_text.specs.Size.{Extent}
 use Rattle.tks_text.specs.declared.limits.Limits.{Limits}
 use Rattle.tks_spelling.specs.Spelling.{Read}
+use Rattle.tks_spelling.specs.declared.format.Format.{Format}
+use Rattle.tks_spelling.specs.declared.format.Format.TheVariants.{Two}
 use Rattle.tks_spelling.specs.declared.header.Header.{Header}
 use Rattle.tks_app.specs.Applications.{Application}
 use Rattle.std.specs.FinMap as map
@@ -40,13 +42,14 @@ abbrev pub stored_in : List (List ℕ) → Read World → Option World
 stored_in names (Err left) = None
 stored_in names (Ok found) = then_some (is_stored names found.0 found.1) found.0
 
--- The world that is stored in these bytes: they are its spelling on the header's grid, and it has memories of the header's names.
-abbrev pub stored : Header → List ℕ → Option World
-stored header bytes = stored_in header.names (codec.world_at header.grid bytes)
+-- The world that is stored in these bytes: they are its spelling in a side of this format, on the header's grid, and it has
+-- memories of the header's names.
+abbrev pub stored : Format → Header → List ℕ → Option World
+stored format header bytes = stored_in header.names (codec.world_at format header.grid bytes)
 
 -- the bytes of a world
 unfoldable pub spelled : World → List ℕ
-spelled world = (codec.world world.grid).write world
+spelled world = (codec.world Two world.grid).write world
 
 -- ---- the machine
 

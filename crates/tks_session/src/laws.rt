@@ -1,11 +1,16 @@
 //! Laws of terminals.
-ghost use Rattle.std.specs.Prelude.{◌≡◌, ℕ, List, [], ◌++◌, Ok};
+ghost use Rattle.std.specs.Prelude.{◌≡◌, ℕ, List, [], ◌++◌, Some, Ok};
 ghost use Rattle.tks_text.specs.Limits.{Wider};
 ghost use Rattle.tks_text.specs.Size.{Extent};
 ghost use Rattle.tks_text.specs.declared.limits.Limits.{Limits};
 ghost use Rattle.tks_app.specs.Applications.{Application};
 ghost use Rattle.tks_disk.specs.DiskModel.{Images};
+ghost use Rattle.tks_disk.specs.declared.disk.Side.{Side};
 ghost use Rattle.tks_input.specs.declared.input.Input.{Input};
+ghost use Rattle.tks_spelling.specs.declared.format.Format.TheVariants.{One, Two};
+ghost use Rattle.tks_spelling.specs.declared.header.Header.{Header};
+ghost use Rattle.tks_journal.specs.Sides.{AllShort, kept};
+ghost use Rattle.tks_durable.specs.Inputs.{counted};
 ghost use Rattle.tks_durable.specs.Crash as durable;
 ghost use Rattle.tks_durable.specs.Opening as opening;
 ghost use Rattle.tks_state.specs.World.{World};
@@ -27,6 +32,15 @@ pub fn a_crash_leaves_whole_inputs()
 pub fn wider_limits_open()
     ensures { (app : Application) (limits wider : Limits) (grid : Extent) (images : Images) (world : World)
         → Wider limits wider → opening.opens (terminal app limits grid) images ≡ Ok world → opening.opens (terminal app wider grid) images ≡ Ok world }
+{}
+
+/// What a store of format 1 opens to, it opens to in format 2 as well, where each of its frames stands behind the number of its
+/// inputs: a world of the one is a world of the other, and each input is stepped as it was accepted. (A checkpoint begins a side of
+/// format 2: `Session::checkpoint` says so.)
+pub fn formats_open_alike()
+    ensures { (app : Application) (limits : Limits) (grid : Extent) (live : Side) (header : Header) (bytes : List ℕ) (bodies : List (List ℕ)) (world : World) → AllShort bodies
+        → opening.opened (terminal app limits grid) (kept live One header bytes (Some bodies)) ≡ Ok world
+        → opening.opened (terminal app limits grid) (kept live Two header bytes (Some (counted bodies))) ≡ Ok world }
 {}
 
 /// After a crash at any moment of any calls, a moment inside a write too, opening gives the windows, options, contents, bindings,

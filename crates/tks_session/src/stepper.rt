@@ -3,6 +3,7 @@ ghost use Rattle.std.specs.Prelude.{◌≡◌, ◌≤◌, drop, length, map, IfO
 ghost use Rattle.tks_app.specs.Applications.{command_names};
 ghost use Rattle.tks_codec.specs.World as codec;
 ghost use Rattle.tks_durable.specs.Opening.{same_names};
+ghost use Rattle.tks_spelling.specs.declared.format.Format.TheVariants.{Two};
 ghost use Rattle.tks_state.specs.World.{first_world};
 ghost use Rattle.tks_session.specs.Terminals.{is_stored, names_of, spelled, terminal};
 
@@ -12,7 +13,7 @@ use tks_codec::{read_world, world_length, write_world};
 use tks_durable::Machine;
 use tks_input::{Input, Refused, Reply};
 use tks_limits::is_within;
-use tks_spelling::{CodecFault, Header, one_header};
+use tks_spelling::{CodecFault, Format, Header, one_header};
 use tks_state::World;
 use tks_text::{Limits, Seq, Size, Txt};
 use tks_vars::Iter;
@@ -83,7 +84,7 @@ fn is_stored(world: &World, read: usize, bytes: &[u8], names: &[Txt]) -> bool
 #[tactic(auto, unfolding(crate::specs::Terminals::spelled))]
 fn bytes_of(alloc: Global, world: &World) -> Result<Vec<u8>, AllocError>
     ensures value { IfOk result (λ bytes. bytes.items ≡ spelled world.now) }
-    ensures legal { IfOk result (λ bytes. (codec.world world.now.grid).Legal world.now) }
+    ensures legal { IfOk result (λ bytes. (codec.world Two world.now.grid).Legal world.now) }
 {
     let mut bytes = Vec::new(alloc);
     write_world(alloc, world, &mut bytes)?;
@@ -119,10 +120,11 @@ impl<T: AppMeaning, B: AppBody> Machine for Stepper<T, B> {
     fn stored(
         &self,
         alloc: Global,
+        format: Format,
         header: &Header,
         bytes: &[u8],
     ) -> Result<Option<World>, AllocError> {
-        match read_world(alloc, header.grid, bytes) {
+        match read_world(alloc, format, header.grid, bytes) {
             Ok((world, read)) => {
                 let is_whole = is_stored(&world, read, bytes, header.names.as_slice());
                 Ok(is_whole.then_some(world))

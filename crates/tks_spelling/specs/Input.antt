@@ -3,7 +3,7 @@ use Rattle.std.specs.Prelude.{ℕ, ◌<◌, ◌^◌, Bool, ◌&&◌, ◌==◌, L
 use Rattle.std.specs.Int.{w16, w64}
 use Rattle.tks_text.specs.Text.{IsText}
 use Rattle.tks_input.specs.declared.input.Input.{Input}
-use Rattle.tks_input.specs.declared.input.Input.TheVariants.{Script, KeyPress, KeyRelease, Press, Release, Clock, Turn}
+use Rattle.tks_input.specs.declared.input.Input.TheVariants.{Script, KeyPress, KeyRelease, Press, Release, Clock, Turn, Rules}
 use Rattle.tks_spelling.specs.Spelling.{Read, Spelling, byte, number, text, such_that, field, through, which, no_bytes, none}
 
 -- the text that an input holds; where it holds none, the empty one
@@ -36,6 +36,11 @@ abbrev pub time_of : Input → ℕ
 time_of (Clock time) = time
 time_of input = 0
 
+-- the number of the rules
+abbrev pub rules_of : Input → ℕ
+rules_of (Rules number) = number
+rules_of input = 0
+
 -- the tag
 abbrev pub tag_of : Input → ℕ
 tag_of (Script script) = 1
@@ -45,6 +50,7 @@ tag_of (Press button x y) = 4
 tag_of (Release button x y) = 5
 tag_of (Clock time) = 6
 tag_of Turn = 7
+tag_of (Rules number) = 8
 
 -- a text
 abbrev pub of_text : (List ℕ → Input) → Spelling Input
@@ -61,6 +67,10 @@ of_button make =
 abbrev pub of_time : (ℕ → Input) → Spelling Input
 of_time make = through time_of make (number w64)
 
+-- the number of rules
+abbrev pub of_rules : Spelling Input
+of_rules = through rules_of (λ number. Rules number) byte
+
 -- what stands behind this tag
 abbrev pub behind_tag : ℕ → Spelling Input
 behind_tag tag =
@@ -70,11 +80,12 @@ behind_tag tag =
     (which (tag == 4) (of_button (λ button x y. Press button x y))
     (which (tag == 5) (of_button (λ button x y. Release button x y))
     (which (tag == 6) (of_time (λ time. Clock time))
-    (which (tag == 7) (no_bytes Turn) none))))))
+    (which (tag == 7) (no_bytes Turn)
+    (which (tag == 8) of_rules none)))))))
 
 -- the tags that there are
 abbrev pub is_tag : ℕ → Bool
-is_tag tag = nat_le 1 tag && nat_le tag 7
+is_tag tag = nat_le 1 tag && nat_le tag 8
 
 -- a tag, and what stands behind it
 abbrev pub input : Spelling Input
@@ -93,3 +104,4 @@ IsInput (Press button x y) = (button < 2 ^ 8) × (x < 2 ^ 16) × (y < 2 ^ 16)
 IsInput (Release button x y) = (button < 2 ^ 8) × (x < 2 ^ 16) × (y < 2 ^ 16)
 IsInput (Clock time) = time < 2 ^ 64
 IsInput Turn = Unit {0}
+IsInput (Rules number) = number < 2 ^ 8

@@ -1,13 +1,13 @@
 //! Inputs as bytes.
 
-ghost use Rattle.std.specs.Prelude.{◌≡◌, ℕ, ◌<◌, ◌^◌, ◌++◌, ◌∷◌, List, take, true, Ok, Err, IfOk, OnOk, OnErr};
+ghost use Rattle.std.specs.Prelude.{◌≡◌, ℕ, ◌<◌, ◌^◌, ◌++◌, ◌∷◌, [], List, take, true, Ok, Err, IfOk, OnOk, OnErr};
 ghost use Rattle.std.specs.Int.{w16, w64, to_be_bytes};
 ghost use Rattle.tks_input.specs.declared.input.Input.{Input};
-ghost use Rattle.tks_input.specs.declared.input.Input.TheVariants.{Script, KeyPress, KeyRelease, Press, Release, Clock};
+ghost use Rattle.tks_input.specs.declared.input.Input.TheVariants.{Script, KeyPress, KeyRelease, Press, Release, Clock, Rules};
 ghost use Rattle.tks_spelling.specs.Spelling.{byte, such_that};
 ghost use Rattle.tks_spelling.specs.Spelling as spellings;
 ghost use Rattle.tks_spelling.specs.Input as inputs;
-ghost use Rattle.tks_spelling.specs.Input.{input_at, of_text, of_button, of_time};
+ghost use Rattle.tks_spelling.specs.Input.{input_at, of_text, of_button, of_time, of_rules};
 ghost use Rattle.tks_spelling.specs.Reading.{Gives, FindsSo, StopsAt};
 ghost use Rattle.tks_spelling.specs.Writing.{PutsSo};
 
@@ -71,6 +71,14 @@ fn clock_of(bytes: &[u8]) -> Result<(Input, &[u8]), Unread>
     Ok((Input::Clock(time), rest))
 }
 
+// The number of rules.
+fn rules_of(bytes: &[u8]) -> Result<(Input, &[u8]), Unread>
+    ensures { Gives (λ x. (x.0, x.1.now)) result (of_rules.read bytes.now) }
+{
+    let (number, rest) = u8_of(bytes)?;
+    Ok((Input::Rules(number), rest))
+}
+
 // What stands behind a tag.
 fn behind_tag(alloc: Global, tag: u8, bytes: &[u8]) -> Result<(Input, &[u8]), Unread>
     requires { inputs.is_tag tag ≡ true }
@@ -83,7 +91,8 @@ fn behind_tag(alloc: Global, tag: u8, bytes: &[u8]) -> Result<(Input, &[u8]), Un
         4 => press_of(bytes),
         5 => release_of(bytes),
         6 => clock_of(bytes),
-        _ => Ok((Input::Turn, bytes)),
+        7 => Ok((Input::Turn, bytes)),
+        _ => rules_of(bytes),
     }
 }
 
@@ -93,7 +102,7 @@ fn tag_of(bytes: &[u8]) -> Result<(u8, &[u8]), Unread>
     ensures tag { IfOk result (λ x. inputs.is_tag x.0 ≡ true) }
 {
     let (tag, rest) = u8_of(bytes)?;
-    if tag < 1 || 7 < tag {
+    if tag < 1 || 8 < tag {
         return Err(Unread::Left(rest.len() + 1));
     }
     Ok((tag, rest))
@@ -168,6 +177,16 @@ fn put_tagged_time(out: &mut Vec<u8>, tag: u8, time: u64) -> Result<(), AllocErr
     Ok(())
 }
 
+// Adds a tag and a byte.
+fn put_tagged_byte(out: &mut Vec<u8>, tag: u8, byte: u8) -> Result<(), AllocError>
+    ensures puts { PutsSo result out.old.items out.new.items (tag ∷ byte ∷ []) }
+    ensures range { byte < 2 ^ 8 }
+{
+    put_u8(out, tag)?;
+    put_u8(out, byte)?;
+    Ok(())
+}
+
 // Adds the spelling; where memory is refused, perhaps a front of it.
 fn put_input(input: &Input, out: &mut Vec<u8>) -> Result<(), AllocError>
     ensures puts { PutsSo result out.old.items out.new.items (inputs.input.write input.now) }
@@ -181,6 +200,7 @@ fn put_input(input: &Input, out: &mut Vec<u8>) -> Result<(), AllocError>
         Input::Release { button, x, y } => put_tagged_cell(out, 5, *button, *x, *y),
         Input::Clock(time) => put_tagged_time(out, 6, *time),
         Input::Turn => put_u8(out, 7),
+        Input::Rules(number) => put_tagged_byte(out, 8, *number),
     }
 }
 

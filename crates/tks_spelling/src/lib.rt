@@ -2,6 +2,7 @@
 #![tactic(auto)]
 
 mod fault;
+mod format;
 mod header;
 mod input;
 mod items;
@@ -15,6 +16,7 @@ mod unread;
 pub mod writing;
 
 pub use fault::CodecFault;
+pub use format::Format;
 pub use header::{Header, read_header, write_header};
 pub use input::{read_input, write_input};
 pub use items::{items_length, put_items};

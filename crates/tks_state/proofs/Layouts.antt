@@ -79,7 +79,7 @@ area_fits g (Some a) w h lies = (omega (arith, w, lies.0), omega (arith, h, lies
 
 -- ---- one after the other
 
-next_one : {X : Type 0} (xs : List X) (i : ℕ) (x : X) → i < length xs → x ≡ get_or xs i x → drop i xs ≡ x ∷ drop (i + 1) xs
+pub next_one : {X : Type 0} (xs : List X) (i : ℕ) (x : X) → i < length xs → x ≡ get_or xs i x → drop i xs ≡ x ∷ drop (i + 1) xs
 next_one xs i x h e = rw (add-one) (drop-cons xs i x h ∙ ap (λ y. y ∷ drop (suc i) xs) (sym e))
 
 pub placed_more : (known : ByWindow Extent) (old new : ByWindow Area) (all rest : List Kept) (k : Kept) (area : Option Area) → all ≡ k ∷ rest

@@ -3,6 +3,7 @@ mod Places
 mod Called
 pub mod Alone
 pub mod Layouts
+mod Unmoved
 mod Marks
 pub mod Children
 mod Linked

@@ -7,9 +7,11 @@ pub mod FirstTable
 pub mod EventLoop
 pub mod Windows
 pub mod Calling
+pub mod Rules
 pub mod World
 pub mod ByWindow
 pub mod Layout
+pub mod Laid
 pub mod WellFormed
 pub mod Laws
 pub mod Restoring

@@ -1,5 +1,5 @@
 -- Widgets and the globals that they show (label(n), entry(n), button(n), `-textvariable`; checkbutton(n), `-variable`).
-use Rattle.std.specs.Prelude.{ℕ, Bool, false, List, [], ◌∷◌, Option, Some, None, option_and_then, Result, Ok, Err}
+use Rattle.std.specs.Prelude.{◌≡◌, ℕ, Bool, false, List, [], ◌∷◌, Option, Some, None, option_and_then, Result, Ok, Err}
 use Rattle.tks_text.specs.declared.fault.ScriptFault.{ScriptFault}
 use Rattle.tks_opt.specs.Options.{Options, value_in, replaced}
 use Rattle.tks_opt.specs.declared.name.OptionName.TheVariants as name
@@ -87,6 +87,10 @@ first_assigned w = None
 -- how large the widget asks to be
 unfoldable pub requested : Variables → Widget → Extent
 requested variables w = widgets.requested (seen variables w)
+
+-- two widgets ask for the same room, whatever the variables are
+abbrev pub AsksAs : Widget → Widget → Type 0
+AsksAs v w = (variables : Variables) → requested variables v ≡ requested variables w
 
 -- the rows of characters that it shows
 unfoldable pub shown : Variables → Widget → ℕ → ℕ → List (List ℕ)

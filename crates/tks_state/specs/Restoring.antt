@@ -88,6 +88,7 @@ world_of p = record {
   pressed = p.pressed;
   memories = p.memories;
   faults = p.faults;
+  rules = p.rules;
   grid = p.grid;
 }
 

@@ -28,6 +28,8 @@ use Rattle.tks_state.specs.Windows as windows
 use Rattle.tks_state.specs.Windows.{Windows, first_windows}
 use Rattle.tks_state.specs.declared.widget.Widget.{Widget}
 use Rattle.tks_state.specs.declared.kept.Kept.{Kept}
+use Rattle.tks_state.specs.declared.rules.Rules.{Rules}
+use Rattle.tks_state.specs.declared.rules.Rules.TheVariants.{One}
 
 pub record World : Type 0 where
   -- how many inputs were accepted
@@ -54,11 +56,13 @@ pub record World : Type 0 where
   -- what the commands of an application keep
   pub memories : Map (List ℕ)
   pub faults : List (List ℕ)
+  -- by which scripts are run
+  pub rules : Rules
   pub grid : Extent
 
 -- the world of these parts
-abbrev pub world_with : ℕ → Windows → Variables → Events → EventLoop → Map (List ℕ) → Extent → World
-world_with accepted windows variables events loop memories grid = record {
+abbrev pub world_with : ℕ → Windows → Variables → Events → EventLoop → Map (List ℕ) → Rules → Extent → World
+world_with accepted windows variables events loop memories rules grid = record {
   accepted = accepted;
   clock = loop.clock;
   tree = windows.tree;
@@ -74,12 +78,13 @@ world_with accepted windows variables events loop memories grid = record {
   pressed = loop.pressed;
   memories = memories;
   faults = events.faults;
+  rules = rules;
   grid = grid;
 }
 
 -- the world before any input, for an application whose commands have these names
 abbrev pub first_world : Extent → List (List ℕ) → World
-first_world grid names = world_with 0 first_windows no_variables first_events first_loop (first_memories names) grid
+first_world grid names = world_with 0 first_windows no_variables first_events first_loop (first_memories names) One grid
 
 -- ---- the windows
 

@@ -1,11 +1,14 @@
 //! Where the windows lie on the grid.
-ghost use Rattle.std.specs.Prelude.{◌≡◌, ◌+◌, ◌≤◌, ◌<◌, ◌^◌, ◌++◌, [], IfOk, IfSome, OnOk};
+ghost use Rattle.std.specs.Prelude.{◌≡◌, ◌+◌, ◌≤◌, ◌<◌, ◌^◌, ◌++◌, [], ◌∷◌, true, Some, IfOk, IfSome, OnOk};
 ghost use Rattle.std.specs.List.{AllByRecursion};
 ghost use Rattle.tks_pack.specs.Laws.{LiesInside};
 ghost use Rattle.tks_state.specs.Layout.{size_of, sizes, on_grid, with_content, with_contents, with_contents_of, placed_in, with_area, extent_of, grid_area, shown_of, shown_windows, covers, last_over, topmost, LiesOn, IsShownOn, AllInside, AllShownOn};
+ghost use Rattle.tks_state.specs.Laid.{AllAsk, asked_by, asks_of};
 
 use crate::by_window::ByWindow;
 use crate::kept::Kept;
+use crate::laid::{Asked, Laid};
+use crate::links::are_same;
 use crate::world::World;
 use std::alloc::{AllocError, Global};
 use tks_pack::{Area, Content, Extent, Requests, windows_lie_inside};
@@ -234,14 +237,128 @@ fn last_over(shown: &[Placed], column: u32, row: u32) -> Option<Placed>
     None
 }
 
+// Adds what a window asks for, where it shows a global.
+fn add_asked(
+    asked: &mut Vec<Asked>,
+    alloc: Global,
+    variables: &Vars,
+    one: &Kept,
+) -> Result<(), AllocError>
+    ensures { OnOk result (asked.new.items ≡ asked.old.items ++ asked_by variables.now (one.now ∷ [])) }
+{
+    if one.widget.get().is_linked() {
+        let size = one.widget.get().requested_as_seen(alloc, variables)?;
+        asked.push(Asked {
+            window: one.window,
+            size,
+        })?;
+    }
+    Ok(())
+}
+
+// What the windows that show globals ask for.
+fn asked_by(
+    alloc: Global,
+    variables: &Vars,
+    kept: &SharedList<Kept>,
+) -> Result<Vec<Asked>, AllocError>
+    ensures { IfOk result (λ v. v.items ≡ asked_by variables.now kept.now) }
+{
+    let mut asked = Vec::new(alloc);
+    for one in kept.iter() {
+        add_asked(&mut asked, alloc, variables, one)?;
+    }
+    Ok(asked)
+}
+
+// Windows that are shown, once more.
+fn shown_again(alloc: Global, shown: &[Placed]) -> Result<Vec<Placed>, AllocError>
+    ensures { IfOk result (λ v. v.items ≡ shown.now) }
+{
+    let mut again = Vec::with_capacity(alloc, shown.len())?;
+    for placed in shown {
+        again.push(*placed)?;
+    }
+    Ok(again)
+}
+
 impl World {
+    // The windows that are shown, found anew.
+    fn found_windows(&self) -> Result<Vec<Placed>, AllocError>
+        ensures value { IfOk result (λ shown. shown.items ≡ shown_windows self.now) }
+        ensures inside { IfOk result (λ shown. AllShownOn self.now.grid shown.items) }
+    {
+        let placed = place_all(self.alloc(), self.variables(), self.all_kept(), self.grid())?;
+        let order = self.tree().preorder()?;
+        let shown = shown_among(self.alloc(), &order, &placed)?;
+        Ok(shown)
+    }
+
+    // Whether a window that shows a global asks for as much room as it did.
+    fn still_asks(&self, asked: &Asked) -> Result<bool, AllocError>
+        ensures { IfOk result (λ b. b ≡ true → asks_of self.now.variables self.now.kept asked.now.window ≡ Some asked.now.size) }
+    {
+        let Some(kept) = self.kept(asked.window) else {
+            return Ok(false);
+        };
+        let size = kept
+            .widget
+            .get()
+            .requested_as_seen(self.alloc(), self.variables())?;
+        Ok(are_same(size, asked.size))
+    }
+
+    // Whether all these do.
+    fn all_ask(&self, asked: &[Asked]) -> Result<bool, AllocError>
+        ensures { IfOk result (λ b. b ≡ true → AllAsk self.now.variables self.now.kept asked.now) }
+    {
+        for one in asked {
+            if !self.still_asks(one)? {
+                return Ok(false);
+            }
+        }
+        Ok(true)
+    }
+
+    // The windows that are shown, where it is known where they lie.
+    fn known_windows(&self) -> Result<Option<&[Placed]>, AllocError>
+        ensures value { IfOk result (λ known. IfSome known (λ shown. shown.now ≡ shown_windows self.now)) }
+        ensures inside { IfOk result (λ known. IfSome known (λ shown. AllShownOn self.now.grid shown.now)) }
+    {
+        let Some(laid) = self.places() else {
+            return Ok(None);
+        };
+        if self.all_ask(&laid.asked)? {
+            Ok(Some(laid.shown.as_slice()))
+        } else {
+            Ok(None)
+        }
+    }
+
+    /// Finds where the windows lie, where that isn't known, and keeps it for whoever asks next, until something changes that
+    /// may move one.
+    pub fn lay_out(&mut self) -> Result<(), AllocError>
+        ensures { self.new ≡ self.old }
+    {
+        if self.known_windows()?.is_some() {
+            return Ok(());
+        }
+        self.stands();
+        let shown = self.found_windows()?;
+        let asked = asked_by(self.alloc(), self.variables(), self.all_kept())?;
+        self.keep_places(Laid { shown, asked })
+    }
+
     /// The window that is seen in a cell of the grid: the last in drawing order that covers it.
     pub fn topmost(&self, column: u32, row: u32) -> Result<Option<Placed>, AllocError>
         ensures value { IfOk result (λ seen. seen ≡ topmost self.now column row) }
         ensures inside { IfOk result (λ seen. IfSome seen (IsShownOn self.now.grid)) }
     {
-        let shown = self.shown_windows()?;
-        Ok(last_over(&shown, column, row))
+        if let Some(shown) = self.known_windows()? {
+            return Ok(last_over(shown, column, row));
+        }
+        let found = self.found_windows()?;
+        Ok(last_over(&found, column, row))
     }
 
     /// The windows that are shown, with their cells on the grid, in the order in which they are drawn: `.`, and each
@@ -250,9 +367,9 @@ impl World {
         ensures value { IfOk result (λ shown. shown.items ≡ shown_windows self.now) }
         ensures inside { IfOk result (λ shown. AllShownOn self.now.grid shown.items) }
     {
-        let placed = place_all(self.alloc(), self.variables(), self.all_kept(), self.grid())?;
-        let order = self.tree().preorder()?;
-        let shown = shown_among(self.alloc(), &order, &placed)?;
-        Ok(shown)
+        match self.known_windows()? {
+            Some(shown) => shown_again(self.alloc(), shown),
+            None => self.found_windows(),
+        }
     }
 }

@@ -1,8 +1,8 @@
 //! Widgets and the globals that they show.
-ghost use Rattle.std.specs.Prelude.{◌≡◌, IfOk, option_map};
-ghost use Rattle.tks_opt.specs.Options.{Options};
-ghost use Rattle.tks_state.specs.Widget.{class_of};
-ghost use Rattle.tks_state.specs.Links.{assigned, first_assigned, global_if, is_on, link_of, linked, or_empty, requested, seen, shown, switch_value, text_of, with_text};
+ghost use Rattle.std.specs.Prelude.{◌≡◌, true, is_some, IfOk, option_map};
+ghost use Rattle.tks_opt.specs.Options.{Options, value_in};
+ghost use Rattle.tks_state.specs.Widget.{class_of, options_of};
+ghost use Rattle.tks_state.specs.Links.{AsksAs, assigned, first_assigned, global_if, is_on, link_of, linked, or_empty, requested, seen, shown, switch_value, text_of, with_text};
 
 use crate::widget::Widget;
 use std::alloc::{AllocError, Global};
@@ -31,6 +31,13 @@ fn switch_value<'a>(variables: &'a Vars, caption: &Caption) -> Option<&'a Txt>
         Some(name) => global_if(variables, name),
         None => None,
     }
+}
+
+// Whether two sizes are the same.
+pub(crate) fn are_same(first: Extent, second: Extent) -> bool
+    ensures { result ≡ true → first ≡ second }
+{
+    first.width == second.width && first.height == second.height
 }
 
 impl Widget {
@@ -118,6 +125,57 @@ impl Widget {
         Ok(self.seen(alloc, variables)?.requested())
     }
 
+    // Whether its text is linked to a global.
+    pub(crate) fn is_linked(&self) -> bool
+        ensures { result ≡ is_some (link_of self.now) }
+    {
+        self.link().is_some()
+    }
+
+    // Whether an option has one value for both.
+    fn has_same(&self, other: &Widget, name: OptionName) -> bool
+        ensures { result ≡ true → value_in (options_of self.now).values name ≡ value_in (options_of other.now).values name }
+    {
+        let Some(own) = self.options().value(name) else {
+            return other.options().value(name).is_none();
+        };
+        match other.options().value(name) {
+            Some(others) => own == others,
+            None => false,
+        }
+    }
+
+    // Whether both are entries that show one global, as wide as each other: with its value they ask for the same room.
+    fn is_entry_as(&self, other: &Widget) -> bool
+        requires { is_some (link_of self.now) ≡ true }
+        ensures { result ≡ true → AsksAs self.now other.now }
+    {
+        let Widget::Entry(_) = self else {
+            return false;
+        };
+        let Widget::Entry(_) = other else {
+            return false;
+        };
+        if !self.has_same(other, OptionName::TextVariable) {
+            return false;
+        }
+        self.has_same(other, OptionName::Width)
+    }
+
+    /// Whether it asks for as much room as another, whatever the variables are. Of one that is linked this is known where both
+    /// are entries.
+    pub fn asks_as(&self, other: &Widget) -> bool
+        ensures { result ≡ true → AsksAs self.now other.now }
+    {
+        if self.is_linked() {
+            return self.is_entry_as(other);
+        }
+        if other.is_linked() {
+            return false;
+        }
+        are_same(self.requested(), other.requested())
+    }
+
     /// Whether a checkbutton is on.
     #[tactic(auto, unfolding(crate::specs::Links::is_on))]
     pub fn is_on(&self, variables: &Vars) -> bool
@@ -156,7 +214,7 @@ impl Widget {
     }
 
     /// The characters that the widget shows in an area as it is seen, row by row.
-    #[tactic(auto, unfolding(crate::specs::Links::shown))]
+    #[tactic(auto, unfolding(crate::specs::Links::shown, crate::specs::Links::seen))]
     pub fn shown_as_seen(
         &self,
         alloc: Global,
@@ -167,6 +225,10 @@ impl Widget {
         ensures { IfOk result (λ cells. cells ≡ shown variables.now self.now width height) }
     {
         let on = self.is_on(variables);
+        if self.link().is_none() {
+            let cells = self.shown(on, width, height)?;
+            return Ok(cells);
+        }
         let cells = self.seen(alloc, variables)?.shown(on, width, height)?;
         Ok(cells)
     }

@@ -9,6 +9,7 @@ ghost use Rattle.tks_state.specs.Restoring.{kept_of_parts, is_kept_of, are_in_st
 use crate::event_loop::EventLoop;
 use crate::events::Events;
 use crate::kept::{Kept, held_tags};
+use crate::rules::Rules;
 use crate::widget::Widget;
 use std::alloc::{AllocError, Global};
 use tks_app::Memories;
@@ -53,6 +54,7 @@ pub struct WorldParts {
     pub pressed: Option<WindowId>,
     pub memories: Memories,
     pub faults: Seq<Txt>,
+    pub rules: Rules,
     pub grid: Size,
 }
 

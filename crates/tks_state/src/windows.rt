@@ -115,7 +115,7 @@ fn tell_at(
     one.widget.get().tell(words)
 }
 
-// Calls the widget of a window with the words of a whole command. One that only tells something is not copied.
+// Calls the widget of a window with the words of a whole command.
 fn call_at(
     alloc: Global,
     kept: &mut SharedList<Kept>,
@@ -127,9 +127,6 @@ fn call_at(
     ensures marks { map mark_of kept.new ≡ map mark_of kept.old }
     ensures err { OnErr result (kept.new ≡ kept.old) }
 {
-    if let Some(told) = tell_at(kept, window, words) {
-        return told;
-    }
     let Some(place) = kept.place_of(window.number()) else {
         return Ok(Said::Text(Txt::new(alloc)));
     };
@@ -330,6 +327,14 @@ impl Windows {
     {
         set_widget_at(self.alloc, &mut self.kept, window, widget)?;
         Ok(())
+    }
+
+    /// What the widget of a window answers to the words of a whole command, the window's path first, where they change nothing;
+    /// none where they may change something.
+    pub fn tell(&self, window: WindowId, words: &[Txt]) -> Option<Result<Said, Failure>>
+        ensures { IfSome result (λ r. Gives (λ said. (said, self.now)) r (called self.now window words.now)) }
+    {
+        tell_at(&self.kept, window, words)
     }
 
     /// What the widget of a window answers to the words of a whole command, the window's path first. Where no window has the

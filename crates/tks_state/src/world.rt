@@ -10,17 +10,20 @@ ghost use Rattle.tks_tree.specs.WellFormed.{is_widget_class};
 ghost use Rattle.tks_state.specs.Widget.{class_of};
 ghost use Rattle.tks_state.specs.Windows.{kept_of};
 ghost use Rattle.tks_state.specs.EventLoop.{all_in};
+ghost use Rattle.tks_state.specs.Laid.{StandSo};
 ghost use Rattle.tks_state.specs.WellFormed.{WellFormed};
 ghost use Rattle.tks_state.specs.Restoring.{counts_fit, restored};
 ghost use Rattle.tks_queue.specs.EventQueue.{first};
 ghost use Rattle.tks_timer.specs.After.{script_in, kept_under};
 ghost use Rattle.tks_state.specs.World.{with_virtual, without_virtual, without_virtual_sequence, with_clock, queued, without_event, with_timer, with_idle, without_id, without_script, focused, holding, pressed_in};
-ghost use Rattle.tks_state.specs.World.{world_with, first_world, with_window, with_widget, called, unpacked, destroyed, tagged, packed, with_propagation, bound_to, with_event, with_fault, scene};
+ghost use Rattle.tks_state.specs.World.{world_with, first_world, with_window, with_widget, called, unpacked, destroyed, tagged, packed, with_propagation, bound_to, with_event, with_fault, scene, windows_of};
 
 use crate::event_loop::{EventLoop, is_there, left_pressed};
 use crate::events::Events;
 use crate::kept::Kept;
+use crate::laid::{Laid, Places};
 use crate::restoring::{EventParts, LoopParts, WindowParts, WorldParts, kept_of_parts};
+use crate::rules::Rules;
 use crate::widget::Widget;
 use crate::windows::Windows;
 use std::alloc::{AllocError, AllocFailed, Global};
@@ -39,7 +42,7 @@ use tks_tree::{CreateFault, Tree, WindowId};
 use tks_vars::Vars;
 
 /// What is kept between inputs. Copies share what none of them has changed. Beside what contracts see, a world has what the scripts of
-/// its inputs parsed; no copy of it has that.
+/// its inputs parsed, of which no copy has anything, and where its windows lie, until something changes that may move one.
 pub struct World {
     alloc: Global,
     accepted: u64,
@@ -48,7 +51,9 @@ pub struct World {
     events: Events,
     event_loop: EventLoop,
     memories: Memories,
+    rules: Rules,
     grid: Size,
+    places: Places,
     parsed: ParseTable,
 }
 
@@ -63,7 +68,9 @@ impl Drop for World {
             events: _,
             event_loop: _,
             memories: _,
+            rules: _,
             grid: _,
+            places: _,
             parsed: _,
         } = self;
     }
@@ -80,12 +87,13 @@ impl Model for World {
 
     ghost coded = { Prim.hlevel (codes, variables_code, memories_code) };
 
-    ghost view = { λ w. record { accepted = w.accepted; clock = w.event_loop.clock; tree = w.windows.tree; kept = w.windows.kept; variables = w.variables; bindings = w.events.bindings; virtuals = w.events.virtuals; history = w.events.history; queue = w.event_loop.queue; timers = w.event_loop.timers; focus = w.event_loop.focus; held = w.event_loop.held; pressed = w.event_loop.pressed; memories = w.memories; faults = w.events.faults; grid = w.grid } };
+    ghost view = { λ w. record { accepted = w.accepted; clock = w.event_loop.clock; tree = w.windows.tree; kept = w.windows.kept; variables = w.variables; bindings = w.events.bindings; virtuals = w.events.virtuals; history = w.events.history; queue = w.event_loop.queue; timers = w.event_loop.timers; focus = w.event_loop.focus; held = w.event_loop.held; pressed = w.event_loop.pressed; memories = w.memories; faults = w.events.faults; rules = w.rules; grid = w.grid } };
 
     ghost use Rattle.std.specs.Prelude.{◌≡◌, true, []};
     ghost use Rattle.tks_state.specs.EventLoop.{all_in};
+    ghost use Rattle.tks_state.specs.Laid.{ArePlaces};
 
-    ghost invariant = { λ w. (w.accepted ≤ 2 ^ 62) × (all_in w.windows.tree.windows w.event_loop ≡ true) × (w.variables.locals ≡ []) };
+    ghost invariant = { λ w. (w.accepted ≤ 2 ^ 62) × (all_in w.windows.tree.windows w.event_loop ≡ true) × (w.variables.locals ≡ []) × ArePlaces w.windows w.grid w.places };
 }
 
 // Whether so many inputs may have been accepted, and the clock may stand so.
@@ -108,7 +116,9 @@ impl World {
             events: Events::first(alloc)?,
             event_loop: EventLoop::new(alloc),
             memories: Memories::first(alloc, names)?,
+            rules: Rules::One,
             grid,
+            places: Places::unknown(),
             parsed: ParseTable::new(alloc),
         })
     }
@@ -149,6 +159,7 @@ impl World {
             pressed,
             memories,
             faults,
+            rules,
             grid,
         } = parts;
         let events = EventParts {
@@ -166,7 +177,7 @@ impl World {
             pressed,
         };
         World::of_groups(
-            alloc, accepted, tree, windows, variables, events, event_loop, memories, grid,
+            alloc, accepted, tree, windows, variables, events, event_loop, memories, rules, grid,
         )
     }
 
@@ -181,11 +192,12 @@ impl World {
         events: EventParts,
         event_loop: LoopParts,
         memories: Memories,
+        rules: Rules,
         grid: Size,
     ) -> Result<Option<World>, AllocError>
         requires counted { accepted ≤ 2 ^ 62 }
         requires clock { event_loop.clock < 2 ^ 62 }
-        ensures { IfOk result (λ world. world ≡ restored (record { accepted = accepted; clock = event_loop.clock; tree = tree; windows = windows; variables = variables; bindings = events.bindings; virtuals = events.virtuals; history = events.history; queue = event_loop.queue; timers = event_loop.timers; focus = event_loop.focus; held = event_loop.held; pressed = event_loop.pressed; memories = memories; faults = events.faults; grid = grid })) }
+        ensures { IfOk result (λ world. world ≡ restored (record { accepted = accepted; clock = event_loop.clock; tree = tree; windows = windows; variables = variables; bindings = events.bindings; virtuals = events.virtuals; history = events.history; queue = event_loop.queue; timers = event_loop.timers; focus = event_loop.focus; held = event_loop.held; pressed = event_loop.pressed; memories = memories; faults = events.faults; rules = rules; grid = grid })) }
     {
         // What holds of all histories is asked for here.
         let _ = events.history.events();
@@ -201,7 +213,7 @@ impl World {
             return Ok(None);
         };
         Ok(Some(World::of(
-            alloc, accepted, windows, variables, events, event_loop, memories, grid,
+            alloc, accepted, windows, variables, events, event_loop, memories, rules, grid,
         )))
     }
 
@@ -214,12 +226,13 @@ impl World {
         events: Events,
         event_loop: EventLoop,
         memories: Memories,
+        rules: Rules,
         grid: Size,
     ) -> World
         requires counted { accepted ≤ 2 ^ 62 }
         requires there { all_in windows.tree.windows event_loop ≡ true }
         requires rests { variables.locals ≡ [] }
-        ensures { result ≡ world_with accepted windows variables events event_loop memories grid }
+        ensures { result ≡ world_with accepted windows variables events event_loop memories rules grid }
     {
         World {
             alloc,
@@ -229,7 +242,9 @@ impl World {
             events,
             event_loop,
             memories,
+            rules,
             grid,
+            places: Places::unknown(),
             parsed: ParseTable::new(alloc),
         }
     }
@@ -254,6 +269,13 @@ impl World {
         ensures bound { self.now.accepted ≤ 2 ^ 62 }
     {
         self.accepted
+    }
+
+    /// The rules by which scripts are run.
+    pub fn rules(&self) -> Rules
+        ensures { result ≡ self.now.rules }
+    {
+        self.rules
     }
 
     /// The grid's size.
@@ -283,6 +305,22 @@ impl World {
         ensures { option_map (λ k. k.now) result ≡ kept_of self.now.kept window }
     {
         self.windows.get(window)
+    }
+
+    // How the windows lie, where it is known.
+    pub(crate) fn places(&self) -> Option<&Laid>
+        ensures { IfSome result (λ laid. StandSo (windows_of self.now) self.now.grid laid.now) }
+    {
+        self.places.get()
+    }
+
+    // Keeps how the windows lie.
+    pub(crate) fn keep_places(&mut self, laid: Laid) -> Result<(), AllocError>
+        requires { StandSo (windows_of self.old) self.old.grid laid }
+        ensures { self.new ≡ self.old }
+    {
+        self.places = Places::known(self.alloc, laid)?;
+        Ok(())
     }
 
     /// The variables and procedures. No frame of variables stands.
@@ -323,6 +361,7 @@ impl World {
         ensures value { MakesSo (λ id. (id, self.new)) result (with_window self.old path.now widget) }
         ensures err { OnErr result (self.new ≡ self.old) }
     {
+        self.places = Places::unknown();
         let window = self.windows.add(path, widget)?;
         Ok(window)
     }
@@ -337,6 +376,7 @@ impl World {
         let tree = windows.tree();
         let events = self.events.left(tree)?;
         let event_loop = self.event_loop.left(tree)?;
+        self.places = Places::unknown();
         self.windows = windows;
         self.events = events;
         self.event_loop = event_loop;
@@ -349,7 +389,10 @@ impl World {
         ensures ok { OnOk result (self.new ≡ with_widget self.old window widget) }
         ensures err { OnErr result (self.new ≡ self.old) }
     {
-        self.windows.set_widget(window, widget)
+        let places = self.places.with_widget(self.kept(window), &widget)?;
+        self.windows.set_widget(window, widget)?;
+        self.places = places;
+        Ok(())
     }
 
     /// What the widget of a window answers to the words of a whole command, the window's path first. The widget stays where it
@@ -358,6 +401,10 @@ impl World {
         ensures value { Gives (λ said. (said, self.new)) result (called self.old window words.now) }
         ensures err { OnErr result (self.new ≡ self.old) }
     {
+        if let Some(told) = self.windows.tell(window, words) {
+            return told;
+        }
+        self.places = Places::unknown();
         let said = self.windows.call(window, words)?;
         Ok(said)
     }
@@ -367,7 +414,8 @@ impl World {
         ensures ok { OnOk result (self.new ≡ tagged self.old window tags) }
         ensures err { OnErr result (self.new ≡ self.old) }
     {
-        self.windows.set_tags(window, tags)
+        self.windows.set_tags(window, tags)?;
+        Ok(())
     }
 
     /// Packs a window in the one that it stands in, with options and values in turn. `.` is never packed.
@@ -375,6 +423,7 @@ impl World {
         ensures value { Gives (λ _. self.new) result (packed self.old window options.now) }
         ensures err { OnErr result (self.new ≡ self.old) }
     {
+        self.places = Places::unknown();
         self.windows.pack(window, options)?;
         Ok(())
     }
@@ -384,6 +433,7 @@ impl World {
         ensures ok { OnOk result (self.new ≡ unpacked self.old window) }
         ensures err { OnErr result (self.new ≡ self.old) }
     {
+        self.places = Places::unknown();
         self.windows.forget(window)
     }
 
@@ -392,6 +442,7 @@ impl World {
         ensures ok { OnOk result (self.new ≡ with_propagation self.old window propagates) }
         ensures err { OnErr result (self.new ≡ self.old) }
     {
+        self.places = Places::unknown();
         self.windows.set_propagates(window, propagates)
     }
 
@@ -682,7 +733,9 @@ impl Share for World {
             events: self.events.share()?,
             event_loop: self.event_loop.share()?,
             memories: self.memories.share()?,
+            rules: self.rules,
             grid: self.grid,
+            places: self.places.share()?,
             parsed: ParseTable::new(self.alloc),
         })
     }

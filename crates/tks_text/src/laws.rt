@@ -3,6 +3,7 @@ ghost use Rattle.std.specs.Prelude.{◌≡◌, ◌↔◌, List, ℕ, ℤ, Some, 
 ghost use Rattle.std.specs.Fmt.{signed_decimal};
 ghost use Rattle.tks_text.specs.Backslash.{Escapes, escaped};
 ghost use Rattle.tks_text.specs.Integer.{SpellsInteger, integer_value, fits_i64, integer_of};
+ghost use Rattle.tks_text.specs.Limits.{Wider, format1, format2};
 
 /// Each text spells one integer, the one that is read, or none.
 pub fn one_integer()
@@ -17,4 +18,9 @@ pub fn decimal_reads_back()
 /// Behind each backslash stands one escape: the character that is read, of so many bytes.
 pub fn one_escape()
     ensures { (t : List ℕ) (c n : ℕ) → Escapes t c n ↔ (escaped t ≡ (c, n)) }
+{}
+
+/// The limits that go with files of format 2 are wider than those of format 1.
+pub fn wider_with_format2()
+    ensures { Wider format1 format2 }
 {}

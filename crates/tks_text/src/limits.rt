@@ -27,7 +27,7 @@ pub struct Limits {
 }
 
 impl Limits {
-    ghost use Rattle.tks_text.specs.Limits.{format1};
+    ghost use Rattle.tks_text.specs.Limits.{format1, format2};
 
     /// The limits that go with files of format 1.
     pub fn format1() -> Limits
@@ -39,6 +39,19 @@ impl Limits {
             text: 65_536,
             items: 4_096,
             pending: 64,
+        }
+    }
+
+    /// The limits that go with files of format 2. None is smaller than that of format 1.
+    pub fn format2() -> Limits
+        ensures { result ≡ format2 }
+    {
+        Limits {
+            fuel: 100_000,
+            depth: 64,
+            text: 1_048_576,
+            items: 65_536,
+            pending: 256,
         }
     }
 }

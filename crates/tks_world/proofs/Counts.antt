@@ -31,7 +31,7 @@ use Rattle.tks_world.specs.Things.{Next, next_thing}
 use Rattle.tks_world.specs.Turns.{finished, thing_does, turned}
 use Rattle.tks_world.specs.declared.gestures.Gesture.{Gesture}
 use Rattle.tks_input.specs.declared.input.Input.{Input}
-use Rattle.tks_input.specs.declared.input.Input.TheVariants.{Script, KeyPress, KeyRelease, Press, Release, Clock, Turn}
+use Rattle.tks_input.specs.declared.input.Input.TheVariants.{Script, KeyPress, KeyRelease, Press, Release, Clock, Turn, Rules}
 
 -- a count below the greatest isn't it
 pub is_below : (n : ℕ) → n < max_count → (n == max_count) ≡ false
@@ -105,6 +105,7 @@ step_counts app w (Release button x y) limits =
 step_counts app w (Clock time) limits =
     either w.accepted (nat_lt max_clock time) _ _ tt (either w.accepted (nat_lt time w.clock) _ _ tt (kept_counts w.accepted (with_clock time w) refl))
 step_counts app w Turn limits = turned_counts app.meaning limits (next_thing (lent app.names limits w).world) (lent app.names limits w) w.variables
+step_counts app w (Rules number) limits = either w.accepted (number == 1) _ _ (kept_counts w.accepted w refl) tt
 
 pub steps_count : (app : Application) (limits : Limits) → StepsCount app limits
 steps_count app limits w input w' reply e = subst (CountsOne w.accepted) e (step_counts app w input limits)

@@ -49,7 +49,7 @@ use Rattle.tks_world.specs.declared.gestures.Gesture.{Gesture}
 use Rattle.tks_world.specs.declared.things.Thing.{Thing}
 use Rattle.tks_world.specs.declared.things.Thing.TheVariants as thing
 use Rattle.tks_input.specs.declared.input.Input.{Input}
-use Rattle.tks_input.specs.declared.input.Input.TheVariants.{Script, KeyPress, KeyRelease, Press, Release, Clock, Turn}
+use Rattle.tks_input.specs.declared.input.Input.TheVariants.{Script, KeyPress, KeyRelease, Press, Release, Clock, Turn, Rules}
 
 -- where none was begun none is left
 none_left : (v u : Variables) → FramesStay v u → v.locals ≡ [] → u.locals ≡ []
@@ -181,6 +181,7 @@ step_rests app w (Release button x y) limits rest =
 step_rests app w (Clock time) limits rest =
     one_of (nat_lt max_clock time) _ _ tt (one_of (nat_lt time w.clock) _ _ tt (kept_rests (with_clock time w) rest))
 step_rests app w Turn limits rest = turned_rests app.meaning limits (next_thing (lent app.names limits w).world) (lent app.names limits w) w.variables rest
+step_rests app w (Rules number) limits rest = one_of (number == 1) _ _ (kept_rests w rest) tt
 
 pub steps_rest : (app : Application) (limits : Limits) → StepsRest app limits
 steps_rest app limits w input w' reply rest e = subst RestsAfter e (step_rests app w input limits rest)

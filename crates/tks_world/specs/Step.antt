@@ -1,8 +1,10 @@
 -- One step: what an input does to the world (this project's own rule).
-use Rattle.std.specs.Prelude.{ℕ, ◌-◌, ◌^◌, nat_lt, if◌then◌else◌}
+use Rattle.std.specs.Prelude.{ℕ, ◌-◌, ◌^◌, ◌==◌, nat_lt, if◌then◌else◌}
 use Rattle.tks_text.specs.declared.limits.Limits.{Limits}
 use Rattle.tks_app.specs.Applications.{Application}
+use Rattle.tks_state.specs.Rules.{number_of}
 use Rattle.tks_state.specs.World.{World, with_clock}
+use Rattle.tks_state.specs.declared.rules.Rules.TheVariants.{One}
 pub use Rattle.tks_world.specs.Stepped.{Stepped, Accepts, Refuses}
 use Rattle.tks_world.specs.Stepped.{kept}
 use Rattle.tks_world.specs.Scripts.{script_step}
@@ -10,7 +12,7 @@ use Rattle.tks_world.specs.Keys.{key_press_step, key_release_step}
 use Rattle.tks_world.specs.Buttons.{press_step, release_step}
 use Rattle.tks_world.specs.Turns.{turn_step}
 use Rattle.tks_input.specs.declared.input.Input.{Input}
-use Rattle.tks_input.specs.declared.input.Input.TheVariants.{Script, KeyPress, KeyRelease, Press, Release, Clock, Turn}
+use Rattle.tks_input.specs.declared.input.Input.TheVariants.{Script, KeyPress, KeyRelease, Press, Release, Clock, Turn, Rules}
 use Rattle.tks_input.specs.declared.reply.Refused.TheVariants.{BadInput, ClockBack}
 
 -- the last time, in milliseconds
@@ -21,6 +23,10 @@ max_clock = 2 ^ 62 - 1
 abbrev pub clock_step : ℕ → World → Stepped
 clock_step time w = if nat_lt max_clock time then Refuses BadInput else (if nat_lt time w.clock then Refuses ClockBack else kept (with_clock time w))
 
+-- the rules of a number: scripts are run by the first anyway, and no others can be asked for
+abbrev pub rules_step : ℕ → World → Stepped
+rules_step number w = if number == number_of One then kept w else Refuses BadInput
+
 unfoldable pub step : Application → World → Input → Limits → Stepped
 step app w (Script text) limits = script_step app w text limits
 step app w (KeyPress key) limits = key_press_step limits key w
@@ -29,3 +35,4 @@ step app w (Press button x y) limits = press_step limits button x y w
 step app w (Release button x y) limits = release_step limits button x y w
 step app w (Clock time) limits = clock_step time w
 step app w Turn limits = turn_step app limits w
+step app w (Rules number) limits = rules_step number w

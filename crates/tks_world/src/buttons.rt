@@ -215,8 +215,8 @@ fn release_gesture(
     })
 }
 
-/// A button goes down over a cell. The window that is seen there takes the press.
-pub fn press_button(
+// The same, however the windows are found.
+fn press_over(
     alloc: Global,
     world: &mut World,
     button: u8,
@@ -236,8 +236,26 @@ pub fn press_button(
     Ok(reply)
 }
 
-/// A button goes up over a cell. The release goes to the window that took the last press, if it is there.
-pub fn release_button(
+/// A button goes down over a cell. The window that is seen there takes the press.
+pub fn press_button(
+    alloc: Global,
+    world: &mut World,
+    button: u8,
+    x: u16,
+    y: u16,
+    limits: &Limits,
+) -> Result<Reply, Refused>
+    ensures accepted { IfOk result (λ reply. press_step limits.now button x y world.old ≡ Accepts world.new reply) }
+    ensures refused { IfErr result (λ why. RefusedSo why (press_step limits.now button x y world.old)) }
+    ensures unchanged { OnErr result (world.new ≡ world.old) }
+{
+    // Where memory is refused, nothing is kept of where the windows lie.
+    let _ = world.lay_out();
+    press_over(alloc, world, button, x, y, limits)
+}
+
+// The same, however the windows are found.
+fn release_over(
     alloc: Global,
     world: &mut World,
     button: u8,
@@ -255,4 +273,22 @@ pub fn release_button(
     let gesture = release_gesture(alloc, world, button, x, y)?;
     let reply = accept_gesture(alloc, world, gesture, limits)?;
     Ok(reply)
+}
+
+/// A button goes up over a cell. The release goes to the window that took the last press, if it is there.
+pub fn release_button(
+    alloc: Global,
+    world: &mut World,
+    button: u8,
+    x: u16,
+    y: u16,
+    limits: &Limits,
+) -> Result<Reply, Refused>
+    ensures accepted { IfOk result (λ reply. release_step limits.now button x y world.old ≡ Accepts world.new reply) }
+    ensures refused { IfErr result (λ why. RefusedSo why (release_step limits.now button x y world.old)) }
+    ensures unchanged { OnErr result (world.new ≡ world.old) }
+{
+    // Where memory is refused, nothing is kept of where the windows lie.
+    let _ = world.lay_out();
+    release_over(alloc, world, button, x, y, limits)
 }

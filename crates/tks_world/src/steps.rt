@@ -1,6 +1,6 @@
 //! The step: what an input does to the world.
 ghost use Rattle.std.specs.Prelude.{◌≡◌, IfOk, IfErr, OnErr};
-ghost use Rattle.tks_world.specs.Step.{clock_step, step, Accepts};
+ghost use Rattle.tks_world.specs.Step.{clock_step, rules_step, step, Accepts};
 ghost use Rattle.tks_world.specs.Meets.{RefusedSo};
 
 use crate::buttons::{press_button, release_button};
@@ -11,7 +11,7 @@ use crate::turns::step_turn;
 use std::alloc::Global;
 use tks_app::{AppBody, AppMeaning, Apps};
 use tks_input::{Input, Refused, Reply};
-use tks_state::World;
+use tks_state::{Rules, World};
 use tks_text::{Limits, MAX_TIME};
 
 /// What an input does to the world: it is accepted as a whole, with a reply, or refused, and then the world is as it was.
@@ -38,6 +38,7 @@ pub fn step<T: AppMeaning, B: AppBody>(
         Input::Release { button, x, y } => release_button(alloc, world, *button, *x, *y, limits),
         Input::Clock(time) => set_clock(alloc, world, *time),
         Input::Turn => step_turn(alloc, world, apps, limits),
+        Input::Rules(number) => keep_rules(alloc, world, *number),
     }
 }
 
@@ -57,5 +58,20 @@ fn set_clock(alloc: Global, world: &mut World, time: u64) -> Result<Reply, Refus
         return Err(Refused::TooLarge);
     }
     world.set_clock(time);
+    Ok(keep(alloc, world))
+}
+
+// Scripts are run by the rules of a number: the first, which they are run by anyway.
+fn keep_rules(alloc: Global, world: &mut World, number: u8) -> Result<Reply, Refused>
+    ensures accepted { IfOk result (λ reply. rules_step number world.old ≡ Accepts world.new reply) }
+    ensures refused { IfErr result (λ why. RefusedSo why (rules_step number world.old)) }
+    ensures unchanged { OnErr result (world.new ≡ world.old) }
+{
+    if number != Rules::One.number() {
+        return Err(Refused::BadInput);
+    }
+    if is_full(world) {
+        return Err(Refused::TooLarge);
+    }
     Ok(keep(alloc, world))
 }

@@ -4,7 +4,7 @@ use Rattle.tks_codec.proofs.OfWorlds.{world_lawful}
 use Rattle.tks_codec.proofs.laws.one_world.Goals as goal
 
 pub returns-clause-one : goal.returns-clause-one
-returns-clause-one c = λ grid. one_front (world grid) (world_lawful grid)
+returns-clause-one c = λ format grid. one_front (world format grid) (world_lawful format grid)
 
 pub returns-clause-lawful : goal.returns-clause-lawful
 returns-clause-lawful c = world_lawful

@@ -6,12 +6,12 @@ use Rattle.tks_codec.proofs.world.read_world.Goals as goal
 
 pub returns-clause-found : goal.returns-clause-found
 unfolding world_at
-returns-clause-found c = found (world c.args.grid) (world_lawful c.args.grid) c.world_found.result c.args.bytes.now (λ i. omega (arith, c.type_inv.bytes i)) c.world_found.ensures
+returns-clause-found c = found (world c.args.format c.args.grid) (world_lawful c.args.format c.args.grid) c.world_found.result c.args.bytes.now (λ i. omega (arith, c.type_inv.bytes i)) c.world_found.ensures
 
 pub returns-clause-only : goal.returns-clause-only
 unfolding world_at
-returns-clause-only c = only (world c.args.grid) (world_lawful c.args.grid) c.world_found.result c.args.bytes.now c.world_found.ensures
+returns-clause-only c = only (world c.args.format c.args.grid) (world_lawful c.args.format c.args.grid) c.world_found.result c.args.bytes.now c.world_found.ensures
 
 pub returns-clause-bad : goal.returns-clause-bad
 unfolding world_at
-returns-clause-bad c = stops (world c.args.grid) (world_lawful c.args.grid) c.world_found.result c.args.bytes.now (λ i. omega (arith, c.type_inv.bytes i)) c.world_found.ensures
+returns-clause-bad c = stops (world c.args.format c.args.grid) (world_lawful c.args.format c.args.grid) c.world_found.result c.args.bytes.now (λ i. omega (arith, c.type_inv.bytes i)) c.world_found.ensures

@@ -13,10 +13,11 @@ invariant-loop-next g l =
     let view = g.D.Disk.view in
     let old = l.fn.left in
     record {
-      same : g.D.Disk.honest old.disk → with_bodies m l.so_far (frames (behind l.left.live l.left.at (view l.left.disk).reads)) ≡ with_bodies m l.fn.start (frames (behind old.live old.at (view old.disk).reads));
+      same : g.D.Disk.honest old.disk → with_bodies m old.format l.so_far (frames (behind l.left.live l.left.at (view l.left.disk).reads)) ≡ with_bodies m old.format l.fn.start (frames (behind old.live old.at (view old.disk).reads));
       own : IsOwn m l.fn.start → IsOwn m l.so_far;
       bytes : IfErr l.fn.start OfBytes → IfErr l.so_far OfBytes;
       live : l.left.live ≡ old.live;
+      format : l.left.format ≡ old.format;
       generation : l.left.generation ≡ old.generation;
       unwritten : g.D.Disk.honest old.disk → Unwritten (view old.disk) (view l.left.disk);
       honesty : g.D.Disk.honest old.disk ↔ g.D.Disk.honest l.left.disk;

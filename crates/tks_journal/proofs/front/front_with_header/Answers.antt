@@ -16,7 +16,7 @@ returns-in-Read-clause-front g c h =
     let bytes = c.deref.result.now in
     let is : bytes ≡ take c.loop-bytes.count (drop 2 x) = c.deref.ensures.value ∙ c.in_ok-bytes.ensures.bytes h1 ∙ ap (λ (i : Images). take c.loop-bytes.count (drop 2 (on side i))) same in
     let read : AttemptIs (Read c.in-Read.header c.in-Read.end) bytes = subst (λ (a : Attempt). AttemptIs a bytes) c.in-Read.is c.in_ok-header.ensures.read in
-    subst (λ (f : Front). FrontIs f x) (sym c.headed.ensures) (read_front c.args.len c.loop-bytes.count c.in-Read.end x bytes c.in-Read.header c.requires.some (c.requires.side h) is read)
+    subst (λ (f : Front). FrontIs f x) (sym c.headed.ensures) (read_front c.args.format c.args.len c.loop-bytes.count c.in-Read.end x bytes c.in-Read.header c.requires.some (c.requires.side h) is read)
 
 pub returns-in-Wrong-clause-front : goal.returns-in-Wrong-clause-front
 returns-in-Wrong-clause-front g c h =
@@ -27,7 +27,7 @@ returns-in-Wrong-clause-front g c h =
     let bytes = c.deref.result.now in
     let is : bytes ≡ take c.loop-bytes.count (drop 2 x) = c.deref.ensures.value ∙ c.in_ok-bytes.ensures.bytes h1 ∙ ap (λ (i : Images). take c.loop-bytes.count (drop 2 (on side i))) same in
     let wrong : AttemptIs Wrong bytes = subst (λ (a : Attempt). AttemptIs a bytes) c.in-Wrong.is c.in_ok-header.ensures.read in
-    wrong_front c.args.len c.loop-bytes.count x bytes (c.requires.side h) is wrong
+    wrong_front c.args.format c.args.len c.loop-bytes.count x bytes (c.requires.side h) is wrong
 
 pub returns-then-count-all-clause-front : goal.returns-then-count-all-clause-front
 returns-then-count-all-clause-front g c h =
@@ -38,4 +38,4 @@ returns-then-count-all-clause-front g c h =
     let bytes = c.deref.result.now in
     let is : bytes ≡ take c.loop-bytes.count (drop 2 x) = c.deref.ensures.value ∙ c.in_ok-bytes.ensures.bytes h1 ∙ ap (λ (i : Images). take c.loop-bytes.count (drop 2 (on side i))) same in
     let short : AttemptIs Short bytes = subst (λ (a : Attempt). AttemptIs a bytes) c.in-Short.is c.in_ok-header.ensures.read in
-    short_front c.args.len c.loop-bytes.count x bytes (c.requires.side h) is (omega arith) short
+    short_front c.args.format c.args.len c.loop-bytes.count x bytes (c.requires.side h) is (omega arith) short

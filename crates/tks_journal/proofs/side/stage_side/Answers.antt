@@ -1,4 +1,4 @@
-use Rattle.std.proofs.Common.{◌≡◌, ◌+◌, ◌++◌, ◌∷◌, [], length, take, ap, sym, ◌∙◌, arith}
+use Rattle.std.proofs.Common.{◌≡◌, ℕ, ◌+◌, ◌++◌, ◌∷◌, [], length, take, ap, sym, ◌∙◌, arith}
 use Rattle.std.proofs.lemmas.List.{length-append, append_assoc}
 use Rattle.tks_disk.specs.DiskModel.{on, beside}
 use Rattle.tks_journal.proofs.Stages.{front_long, all_begin, still_begin, and_then, sync_keeps, sync_settles, and_written, reaches, staged_so}
@@ -151,18 +151,18 @@ returns-clause-staged g c h =
     let world = c.args.world.now in
     let m = length head in
     let n = length world in
-    let w1 : take 2 (on side v1.reads) ≡ stem ++ 1 ∷ [] = c.in_ok-write_pieces.ensures.written h (omega (arith, c.requires.some h)) in
-    let r1 : length (take 2 (on side v1.reads)) ≡ 2 = ap length w1 ∙ length-append stem (1 ∷ []) ∙ omega (arith, long) in
-    let w2 : take (2 + m) (on side v2.reads) ≡ stem ++ (1 ∷ [] ++ head) =
-    and_written 2 m stem (on side v1.reads) (on side v2.reads) (1 ∷ []) head w1 (c.in_ok-write_pieces-2.ensures.written h1 (reaches 2 (on side v1.reads) r1)) in
-    let r2 : length (take (2 + m) (on side v2.reads)) ≡ 2 + m = ap length w2 ∙ length-append stem (1 ∷ [] ++ head) ∙ omega (arith, long) in
-    let w3 : take (2 + m + n) (on side v3.reads) ≡ stem ++ (1 ∷ [] ++ head ++ world) =
-    and_written (2 + m) n stem (on side v2.reads) (on side v3.reads) (1 ∷ [] ++ head) world w2 (c.in_ok-write_pieces-3.ensures.written h2 (reaches (2 + m) (on side v2.reads) r2)) in
-    let r3 : length (take (2 + m + n) (on side v3.reads)) ≡ 2 + m + n = ap length w3 ∙ length-append stem (1 ∷ [] ++ head ++ world) ∙ omega (arith, long, length-append (1 ∷ [] ++ head) world) in
-    let w4 : take (2 + m + n + 1) (on side v4.reads) ≡ stem ++ (1 ∷ [] ++ head ++ world ++ 0 ∷ []) =
-    and_written (2 + m + n) 1 stem (on side v3.reads) (on side v4.reads) (1 ∷ [] ++ head ++ world) (0 ∷ []) w3 (c.in_ok-write_pieces-4.ensures.written h3 (reaches (2 + m + n) (on side v3.reads) r3)) in
-    let bytes = 1 ∷ head ++ (world ++ 0 ∷ []) in
-    let same : bytes ≡ 1 ∷ [] ++ head ++ world ++ 0 ∷ [] = sym (append_assoc (1 ∷ head) world (0 ∷ [])) in
+    let w1 : take 2 (on side v1.reads) ≡ stem ++ 2 ∷ [] = c.in_ok-write_pieces.ensures.written h (omega (arith, c.requires.some h)) ∙ ap (λ (b : ℕ). stem ++ b ∷ []) c.byte.ensures in
+    let r1 : length (take 2 (on side v1.reads)) ≡ 2 = ap length w1 ∙ length-append stem (2 ∷ []) ∙ omega (arith, long) in
+    let w2 : take (2 + m) (on side v2.reads) ≡ stem ++ (2 ∷ [] ++ head) =
+    and_written 2 m stem (on side v1.reads) (on side v2.reads) (2 ∷ []) head w1 (c.in_ok-write_pieces-2.ensures.written h1 (reaches 2 (on side v1.reads) r1)) in
+    let r2 : length (take (2 + m) (on side v2.reads)) ≡ 2 + m = ap length w2 ∙ length-append stem (2 ∷ [] ++ head) ∙ omega (arith, long) in
+    let w3 : take (2 + m + n) (on side v3.reads) ≡ stem ++ (2 ∷ [] ++ head ++ world) =
+    and_written (2 + m) n stem (on side v2.reads) (on side v3.reads) (2 ∷ [] ++ head) world w2 (c.in_ok-write_pieces-3.ensures.written h2 (reaches (2 + m) (on side v2.reads) r2)) in
+    let r3 : length (take (2 + m + n) (on side v3.reads)) ≡ 2 + m + n = ap length w3 ∙ length-append stem (2 ∷ [] ++ head ++ world) ∙ omega (arith, long, length-append (2 ∷ [] ++ head) world) in
+    let w4 : take (2 + m + n + 1) (on side v4.reads) ≡ stem ++ (2 ∷ [] ++ head ++ world ++ 0 ∷ []) =
+    and_written (2 + m + n) 1 stem (on side v3.reads) (on side v4.reads) (2 ∷ [] ++ head ++ world) (0 ∷ []) w3 (c.in_ok-write_pieces-4.ensures.written h3 (reaches (2 + m + n) (on side v3.reads) r3)) in
+    let bytes = 2 ∷ head ++ (world ++ 0 ∷ []) in
+    let same : bytes ≡ 2 ∷ [] ++ head ++ world ++ 0 ∷ [] = sym (append_assoc (2 ∷ head) world (0 ∷ [])) in
     let s = c.in_ok-sync.ensures.syncs h4 in
-    staged_so side 1 (2 + m + n + 1) bytes (1 ∷ [] ++ head ++ world ++ 0 ∷ []) v0 v4 v5 (sync_settles side stem other v0 v4 v5 c.in_ok-sync.field-0 k5 s) k5.reads.other_side s.same same
-    (omega (arith, length-append world (0 ∷ []), length-append (1 ∷ head) (world ++ 0 ∷ []))) w4
+    staged_so side 1 (2 + m + n + 1) bytes (2 ∷ [] ++ head ++ world ++ 0 ∷ []) v0 v4 v5 (sync_settles side stem other v0 v4 v5 c.in_ok-sync.field-0 k5 s) k5.reads.other_side s.same same
+    (omega (arith, length-append world (0 ∷ []), length-append (2 ∷ head) (world ++ 0 ∷ []))) w4

@@ -8,30 +8,30 @@ use Rattle.tks_state.proofs.Places.{nowhere, stands_there}
 use Rattle.tks_state.proofs.Called.{called_nowhere, called_there, marks_stay, uncalled}
 use Rattle.tks_state.proofs.windows.call_at.Goals as goal
 
-there : (c : goal.In-Some-2) → Some c.in-Some-place_of.place ≡ position (λ (k : Kept). k.window == c.args.window) c.args.kept.now
-there c = c.in-Some-place_of.ensures ∙ ap (λ n. position (λ (k : Kept). k.window == n) c.args.kept.now) c.number.ensures
+there : (c : goal.In-Some-2) → Some c.in-Some.place ≡ position (λ (k : Kept). k.window == c.args.window) c.args.kept.now
+there c = c.in-Some.ensures ∙ ap (λ n. position (λ (k : Kept). k.window == n) c.args.kept.now) c.number.ensures
 
-changed : (c : goal.In-Some-2) → IsChangedAt (IsCalled c.args.words.now) c.in-Some-place_of.place c.args.kept.now c.change.new.self c.in-Some-2.answer
+changed : (c : goal.In-Some-2) → IsChangedAt (IsCalled c.args.words.now) c.in-Some.place c.args.kept.now c.change.new.self c.in-Some-2.answer
 changed c =
-    subst (λ o. IfSome o (λ a. IsChangedAt (IsCalled c.args.words.now) c.in-Some-place_of.place c.args.kept.now c.change.new.self a)) c.in-Some-2.is c.in_ok-answer.ensures.some
+    subst (λ o. IfSome o (λ a. IsChangedAt (IsCalled c.args.words.now) c.in-Some.place c.args.kept.now c.change.new.self a)) c.in-Some-2.is c.in_ok-answer.ensures.some
 
-pub returns-in_default-place_of-clause-value : goal.returns-in_default-place_of-clause-value
-returns-in_default-place_of-clause-value c =
-    let place = c.in_default-place_of.ensures ∙ ap (λ n. position (λ (k : Kept). k.window == n) c.args.kept.now) c.number.ensures in
+pub returns-in_default-clause-value : goal.returns-in_default-clause-value
+returns-in_default-clause-value c =
+    let place = c.in_default.ensures ∙ ap (λ n. position (λ (k : Kept). k.window == n) c.args.kept.now) c.number.ensures in
     called_nowhere c.args.window c.args.words.now c.args.kept.now (nowhere c.args.window c.args.kept.now place)
     ∙ ap (λ text. Ok (Text text, c.args.kept.now)) (sym c.new.ensures)
 
 pub unreachable-requires : goal.unreachable-requires
 unreachable-requires c =
-    let place = c.in-Some-place_of.ensures ∙ ap (λ n. position (λ (k : Kept). k.window == n) c.args.kept.now) c.number.ensures in
-    let none = subst (λ o. IfNone o ((c.change.new.self ≡ c.args.kept.now) × (slice_get c.args.kept.now c.in-Some-place_of.place ≡ None))) c.in-None.is c.in_ok-answer.ensures.none in
-    stands_there c.args.window c.args.kept.now c.in-Some-place_of.place place none.1
+    let place = c.in-Some.ensures ∙ ap (λ n. position (λ (k : Kept). k.window == n) c.args.kept.now) c.number.ensures in
+    let none = subst (λ o. IfNone o ((c.change.new.self ≡ c.args.kept.now) × (slice_get c.args.kept.now c.in-Some.place ≡ None))) c.in-None.is c.in_ok-answer.ensures.none in
+    stands_there c.args.window c.args.kept.now c.in-Some.place place none.1
 
 pub returns-clause-value : goal.returns-clause-value
-returns-clause-value c = called_there c.args.window c.args.words.now c.args.kept.now c.change.new.self c.in-Some-place_of.place c.in-Some-2.answer (there c) (changed c)
+returns-clause-value c = called_there c.args.window c.args.words.now c.args.kept.now c.change.new.self c.in-Some.place c.in-Some-2.answer (there c) (changed c)
 
 pub returns-clause-marks : goal.returns-clause-marks
-returns-clause-marks c = marks_stay c.args.window c.args.words.now c.args.kept.now c.change.new.self c.in-Some-place_of.place c.in-Some-2.answer (there c) (changed c)
+returns-clause-marks c = marks_stay c.args.window c.args.words.now c.args.kept.now c.change.new.self c.in-Some.place c.in-Some-2.answer (there c) (changed c)
 
 pub returns-clause-err : goal.returns-clause-err
-returns-clause-err c = uncalled c.args.window c.args.words.now c.args.kept.now c.change.new.self c.in-Some-place_of.place c.in-Some-2.answer (there c) (changed c)
+returns-clause-err c = uncalled c.args.window c.args.words.now c.args.kept.now c.change.new.self c.in-Some.place c.in-Some-2.answer (there c) (changed c)

@@ -19,9 +19,9 @@ invariant_of-self g c h =
     let rests = c.frame_from.ensures.rests h0 in
     let is : FrameIs (on live v.reads) at body = (rw c.in-Ok-Some.field-0-is at c.in-Ok-Some.ensures.frame) h0 in
     let fits : at + 5 + length body ≤ len = rw c.in-Ok-Some.field-0-is at c.in-Ok-Some.ensures.size in
-    let next = frames_on v live c.self.inside.generation at len f body fits is in
-    let here = subst (λ (k : ℕ). FramesAt v live c.self.inside.generation k len) (omega (arith, c.len.ensures)) next in
-    (frames_still v m live c.self.inside.generation (at + (5 + c.len.result)) len here (still_settled v m f.settled rests) rests.same, λ (e : false ≡ true). absurd (cc e))
+    let next = frames_on v live c.self.inside.format c.self.inside.generation at len f body fits is in
+    let here = subst (λ (k : ℕ). FramesAt v live c.self.inside.format c.self.inside.generation k len) (omega (arith, c.len.ensures)) next in
+    (frames_still v m live c.self.inside.format c.self.inside.generation (at + (5 + c.len.result)) len here (still_settled v m f.settled rests) rests.same, λ (e : false ≡ true). absurd (cc e))
 
 pub returns-in-Ok-Some-clause-frame : goal.returns-in-Ok-Some-clause-frame
 returns-in-Ok-Some-clause-frame g c =
@@ -38,6 +38,6 @@ returns-in-Ok-Some-clause-frame g c =
     let is : FrameIs (on live v.reads) at body = (rw c.in-Ok-Some.field-0-is at c.in-Ok-Some.ensures.frame) h0 in
     let fits : at + 5 + length body ≤ len = rw c.in-Ok-Some.field-0-is at c.in-Ok-Some.ensures.size in
     let there : at + 5 + length body ≡ at + (5 + c.len.result) = omega (arith, c.len.ensures) in
-    frame_met v live c.self.inside.generation at len f body fits is
+    frame_met v live c.self.inside.format c.self.inside.generation at len f body fits is
     ∙ ap (λ (k : ℕ). with_front body (frames (behind live k v.reads))) there
     ∙ ap (λ (i : Images). with_front body (frames (behind live (at + (5 + c.len.result)) i))) (sym rests.same))

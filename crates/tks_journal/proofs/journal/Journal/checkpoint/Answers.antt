@@ -11,7 +11,7 @@ start_side-requires-clause-vacant g c h =
     let same : c.self.inside.generation ≡ c.args.self.now.generation = ap (λ j. j.generation) c.self.view_is in
     let next = c.args.header.now.generation in
     subst (λ (s : Side). Vacant s next reads) (sym c.other-side.ensures)
-    (other_vacant c.self.inside.live reads c.self.inside.generation next (c.self.invariant works h).is_live (omega (arith, same, c.requires.next)))
+    (other_vacant c.self.inside.live reads c.self.inside.format c.self.inside.generation next (c.self.invariant works h).is_live (omega (arith, same, c.requires.next)))
 
 pub invariant_of-self-2 : goal.invariant_of-self-2
 invariant_of-self-2 = search rules

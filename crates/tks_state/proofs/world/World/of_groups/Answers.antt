@@ -14,7 +14,7 @@ use Rattle.tks_state.proofs.world.World.of_groups.Goals.{then-depth-gt0-via-then
 
 pub of-requires-clause-there : goal.of-requires-clause-there
 of-requires-clause-there c =
-    let p : WorldParts = record { accepted = c.args.accepted; clock = c.args.event_loop.clock; tree = c.args.tree; windows = c.args.windows; variables = c.args.variables; bindings = c.args.events.bindings; virtuals = c.args.events.virtuals; history = c.args.events.history; queue = c.args.event_loop.queue; timers = c.args.event_loop.timers; focus = c.args.event_loop.focus; held = c.args.event_loop.held; pressed = c.args.event_loop.pressed; memories = c.args.memories; faults = c.args.events.faults; grid = c.args.grid } in
+    let p : WorldParts = record { accepted = c.args.accepted; clock = c.args.event_loop.clock; tree = c.args.tree; windows = c.args.windows; variables = c.args.variables; bindings = c.args.events.bindings; virtuals = c.args.events.virtuals; history = c.args.events.history; queue = c.args.event_loop.queue; timers = c.args.event_loop.timers; focus = c.args.event_loop.focus; held = c.args.event_loop.held; pressed = c.args.event_loop.pressed; memories = c.args.memories; faults = c.args.events.faults; rules = c.args.rules; grid = c.args.grid } in
     let loop = c.made-event_loop.result in
     let there : all_in p.tree.windows loop ≡ true = search rules in
     let windows : (if are_windows (windows_of (world_of p)) then Some (windows_of (world_of p)) else None) ≡ Some c.in-Some.windows = search rules in
@@ -26,19 +26,19 @@ of-requires-clause-rests c =
 
 pub returns : goal.returns
 returns c =
-    let p : WorldParts = record { accepted = c.args.accepted; clock = c.args.event_loop.clock; tree = c.args.tree; windows = c.args.windows; variables = c.args.variables; bindings = c.args.events.bindings; virtuals = c.args.events.virtuals; history = c.args.events.history; queue = c.args.event_loop.queue; timers = c.args.event_loop.timers; focus = c.args.event_loop.focus; held = c.args.event_loop.held; pressed = c.args.event_loop.pressed; memories = c.args.memories; faults = c.args.events.faults; grid = c.args.grid } in
+    let p : WorldParts = record { accepted = c.args.accepted; clock = c.args.event_loop.clock; tree = c.args.tree; windows = c.args.windows; variables = c.args.variables; bindings = c.args.events.bindings; virtuals = c.args.events.virtuals; history = c.args.events.history; queue = c.args.event_loop.queue; timers = c.args.event_loop.timers; focus = c.args.event_loop.focus; held = c.args.event_loop.held; pressed = c.args.event_loop.pressed; memories = c.args.memories; faults = c.args.events.faults; rules = c.args.rules; grid = c.args.grid } in
     let counts = and_from (nat_le p.accepted (2 ^ 62)) (nat_lt p.clock (2 ^ 62)) (le-leb p.accepted (2 ^ 62) c.requires.counted) (lt-ltb p.clock (2 ^ 62) c.requires.clock) in
     let none : length p.variables.locals ≡ 0 = omega (arith, c.if-depth-gt0.false, c.depth.ensures) in
     let there : all_in p.tree.windows c.made-event_loop.result ≡ true = search rules in
     let short : length p.history ≤ max_history = search rules in
     let windows : (if are_windows (windows_of (world_of p)) then Some (windows_of (world_of p)) else None) ≡ Some c.in-Some.windows = search rules in
     let events : (if nat_le (length p.faults) max_faults then Some (events_of (world_of p)) else None) ≡ Some c.in-Some-2.events = search rules in
-    ap Some (c.of.ensures ∙ (λ i. world_with p.accepted c.in-Some.windows p.variables c.in-Some-2.events (c.made-event_loop.ensures i) p.memories p.grid))
+    ap Some (c.of.ensures ∙ (λ i. world_with p.accepted c.in-Some.windows p.variables c.in-Some-2.events (c.made-event_loop.ensures i) p.memories p.rules p.grid))
     ∙ possible p c.in-Some.windows c.in-Some-2.events counts none (ap (all_in p.tree.windows) (sym c.made-event_loop.ensures) ∙ there) short windows events
 
 pub returns-then-depth-gt0 : goal.returns-then-depth-gt0
 returns-then-depth-gt0 c =
-    let p : WorldParts = record { accepted = c.args.accepted; clock = c.args.event_loop.clock; tree = c.args.tree; windows = c.args.windows; variables = c.args.variables; bindings = c.args.events.bindings; virtuals = c.args.events.virtuals; history = c.args.events.history; queue = c.args.event_loop.queue; timers = c.args.event_loop.timers; focus = c.args.event_loop.focus; held = c.args.event_loop.held; pressed = c.args.event_loop.pressed; memories = c.args.memories; faults = c.args.events.faults; grid = c.args.grid } in
+    let p : WorldParts = record { accepted = c.args.accepted; clock = c.args.event_loop.clock; tree = c.args.tree; windows = c.args.windows; variables = c.args.variables; bindings = c.args.events.bindings; virtuals = c.args.events.virtuals; history = c.args.events.history; queue = c.args.event_loop.queue; timers = c.args.event_loop.timers; focus = c.args.event_loop.focus; held = c.args.event_loop.held; pressed = c.args.event_loop.pressed; memories = c.args.memories; faults = c.args.events.faults; rules = c.args.rules; grid = c.args.grid } in
     let all_there = ap (all_in p.tree.windows) (sym c.made-event_loop.ensures) in
     elim c.then-depth-gt0.branch [
       | then-depth-gt0-via-then-depth-gt0 w ↦ frames_stand p (omega (arith, w.if-depth-gt0.true, c.depth.ensures))
@@ -49,12 +49,12 @@ returns-then-depth-gt0 c =
 
 pub returns-in_default : goal.returns-in_default
 returns-in_default c =
-    let p : WorldParts = record { accepted = c.args.accepted; clock = c.args.event_loop.clock; tree = c.args.tree; windows = c.args.windows; variables = c.args.variables; bindings = c.args.events.bindings; virtuals = c.args.events.virtuals; history = c.args.events.history; queue = c.args.event_loop.queue; timers = c.args.event_loop.timers; focus = c.args.event_loop.focus; held = c.args.event_loop.held; pressed = c.args.event_loop.pressed; memories = c.args.memories; faults = c.args.events.faults; grid = c.args.grid } in
+    let p : WorldParts = record { accepted = c.args.accepted; clock = c.args.event_loop.clock; tree = c.args.tree; windows = c.args.windows; variables = c.args.variables; bindings = c.args.events.bindings; virtuals = c.args.events.virtuals; history = c.args.events.history; queue = c.args.event_loop.queue; timers = c.args.event_loop.timers; focus = c.args.event_loop.focus; held = c.args.event_loop.held; pressed = c.args.event_loop.pressed; memories = c.args.memories; faults = c.args.events.faults; rules = c.args.rules; grid = c.args.grid } in
     let windows : (if are_windows (windows_of (world_of p)) then Some (windows_of (world_of p)) else None) ≡ None = search rules in
     no_windows p windows
 
 pub returns-in_default-2 : goal.returns-in_default-2
 returns-in_default-2 c =
-    let p : WorldParts = record { accepted = c.args.accepted; clock = c.args.event_loop.clock; tree = c.args.tree; windows = c.args.windows; variables = c.args.variables; bindings = c.args.events.bindings; virtuals = c.args.events.virtuals; history = c.args.events.history; queue = c.args.event_loop.queue; timers = c.args.event_loop.timers; focus = c.args.event_loop.focus; held = c.args.event_loop.held; pressed = c.args.event_loop.pressed; memories = c.args.memories; faults = c.args.events.faults; grid = c.args.grid } in
+    let p : WorldParts = record { accepted = c.args.accepted; clock = c.args.event_loop.clock; tree = c.args.tree; windows = c.args.windows; variables = c.args.variables; bindings = c.args.events.bindings; virtuals = c.args.events.virtuals; history = c.args.events.history; queue = c.args.event_loop.queue; timers = c.args.event_loop.timers; focus = c.args.event_loop.focus; held = c.args.event_loop.held; pressed = c.args.event_loop.pressed; memories = c.args.memories; faults = c.args.events.faults; rules = c.args.rules; grid = c.args.grid } in
     let events : (if nat_le (length p.faults) max_faults then Some (events_of (world_of p)) else None) ≡ None = search rules in
     no_events p events

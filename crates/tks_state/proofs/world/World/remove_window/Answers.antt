@@ -1,6 +1,7 @@
-use Rattle.std.proofs.Common.{ap, ◌∙◌}
+use Rattle.std.proofs.Common.{ap, sym, subst, ◌∙◌}
 use Rattle.tks_tree.specs.Windows as tree
 use Rattle.tks_state.specs.EventLoop.{all_in, left}
+use Rattle.tks_state.specs.Laid.{ArePlaces}
 use Rattle.tks_state.proofs.Looping.{left_there}
 use Rattle.tks_state.proofs.world.World.remove_window.Goals as goal
 
@@ -10,4 +11,4 @@ invariant_of-self c =
     let loop = c.self.inside.event_loop in
     let first = c.tree-tree.ensures.formed.windows.first in
     let there = ap (all_in ws) (c.in_ok-event_loop.ensures ∙ ap (λ (t : tree.Windows). left t.windows loop) c.tree-tree.ensures.value) ∙ left_there ws first.0 loop first.1 in
-    (c.self.invariant.0, there, c.self.invariant.2)
+    (c.self.invariant.0, there, c.self.invariant.2, subst (ArePlaces c.in_ok-windows.windows c.self.inside.grid) (sym c.unknown.ensures) tt)

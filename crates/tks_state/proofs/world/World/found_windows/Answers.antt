@@ -3,7 +3,7 @@ use Rattle.std.specs.List.{AllByRecursion}
 use Rattle.tks_tree.specs.Windows.{max_number, preorder}
 use Rattle.tks_state.specs.Layout.{placed_in, shown_of, AllInside, AllShownOn}
 use Rattle.tks_state.proofs.Layouts.{preorder_low, shown_lie}
-use Rattle.tks_state.proofs.world.World.shown_windows.Goals as goal
+use Rattle.tks_state.proofs.world.World.found_windows.Goals as goal
 
 pub returns-clause-value : goal.returns-clause-value
 returns-clause-value c =
