@@ -1,7 +1,7 @@
 -- Marks are inside the text.
-use Rattle.std.proofs.Common.{◌≡◌, ℕ, ◌+◌, ◌-◌, ◌≤◌, nat_le, min, max, Bool, true, false, if◌then◌else◌, List, [], ◌∷◌, ◌++◌, length, take, drop, map, Some, refl, sym, subst, arith}
+use Rattle.std.proofs.Common.{◌≡◌, ℕ, ◌+◌, ◌-◌, ◌<◌, ◌≤◌, nat_le, min, max, Bool, true, false, if◌then◌else◌, List, [], ◌∷◌, ◌++◌, length, take, drop, map, Some, refl, sym, subst, arith}
 use Rattle.std.specs.Prelude.{IfSome, ◌||◌, not}
-use Rattle.std.specs.List.{list_any}
+use Rattle.std.specs.List.{AllByRecursion, list_any}
 use Rattle.std.proofs.lemmas.Bool.Decides.{nat_tests}
 use Rattle.std.proofs.lemmas.List.{length-append, length-take-le, length-take, length-drop}
 use Rattle.tks_lines.specs.declared.parts.Mark.{Mark}
@@ -99,3 +99,8 @@ one_turned len name left m h = by (is_mark name m)
 pub turned_inside : (len : ℕ) (name : List ℕ) (left : Bool) (marks : List Mark) → AreInside len marks → AreInside len (turned_marks name left marks)
 turned_inside len name left [] h = h
 turned_inside len name left (m ∷ marks) h = (one_turned len name left m h.0, turned_inside len name left marks h.1)
+
+-- they stay small where they move on
+pub small_on : (len count : ℕ) (limit : ℕ) (marks : List Mark) → len + count < limit → AreInside len marks → AllByRecursion (λ m. m.place + count < limit) marks
+small_on len count limit [] h a = tt
+small_on len count limit (m ∷ marks) h a = (omega (arith, a.0), small_on len count limit marks h a.1)

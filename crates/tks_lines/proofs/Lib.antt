@@ -14,8 +14,10 @@ pub mod Returning
 pub mod Spelling
 pub mod Characters
 pub mod Ends
-pub mod Building
-pub mod Clipped
+pub mod Apart
+pub mod Tagged
+pub mod Replaced
+pub mod Edges
 pub mod Restored
 pub mod Kept
 pub mod IndexRead

@@ -1,12 +1,13 @@
 -- What comes in and goes out again.
-use Rattle.std.proofs.Common.{◌≡◌, ℕ, ◌+◌, ◌-◌, ◌≤◌, nat_le, min, max, Bool, true, false, if◌then◌else◌, List, [], ◌∷◌, ◌++◌, length, take, drop, map, refl, sym, ap, ◌∙◌, arith}
+use Rattle.std.proofs.Common.{◌≡◌, ℕ, zero, suc, ◌+◌, ◌-◌, ◌≤◌, nat_le, min, max, Bool, true, false, if◌then◌else◌, List, [], ◌∷◌, ◌++◌, length, take, drop, map, refl, sym, ap, ◌∙◌, arith}
 use Rattle.std.specs.Prelude.{replicate}
+use Rattle.std.specs.List.{AllByRecursion}
 use Rattle.std.proofs.lemmas.Bool.Decides.{nat_tests}
 use Rattle.std.proofs.lemmas.List.{length-take-le, length-replicate, drop-drop, drop_at, take-append-drop}
 use Rattle.std.proofs.Math.Seq.{take-append_seam}
 use Rattle.tks_lines.specs.declared.parts.Tag.{Tag}
 use Rattle.tks_lines.specs.declared.parts.Mark.{Mark}
-use Rattle.tks_lines.specs.Lines.{Lines, Formed, AreLong, is_editable, at_most_last, spliced, cut, put_in, inserted, deleted, grown, shrunk, is_around, goes_on, moved_on, moved_back}
+use Rattle.tks_lines.specs.Lines.{Lines, Formed, AreLong, is_editable, at_most_last, spliced, cut, put_in, inserted, deleted, grown, shrunk, is_around, is_among, goes_on, moved_on, moved_back}
 use Rattle.tks_lines.specs.Laws.{in_and_out}
 
 -- a list with more in it, and without it again
@@ -23,12 +24,34 @@ same_flags : (place count : ℕ) (value : Bool) (on : List Bool) → place ≤ l
 same_flags place count value on here =
     ap (λ n. cut place (place + n) (spliced place (replicate count value) on)) (sym (length-replicate count value)) ∙ same_list place (replicate count value) on here
 
-same_tags : (place count len : ℕ) (test : Tag → Bool) (tags : List Tag) → place ≤ len → AreLong len tags → map (shrunk place (place + count)) (map (λ g. grown place count (test g) g) tags) ≡ tags
+pub same_tags : (place count len : ℕ) (test : Tag → Bool) (tags : List Tag) → place ≤ len → AreLong len tags → map (shrunk place (place + count)) (map (λ g. grown place count (test g) g) tags) ≡ tags
 same_tags place count len test [] here a = refl
 same_tags place count len test (g ∷ tags) here a =
     let on = same_flags place count (test g) g.on (omega arith) in
     ap (λ o. (record g { on = o }) ∷ map (shrunk place (place + count)) (map (λ g. grown place count (test g) g) tags)) on
     ∙ ap (λ r. g ∷ r) (same_tags place count len test tags here a.1)
+
+-- a tag that grows by what both sides have, and one that does where it has one of some names
+abbrev pub around_grown : ℕ → ℕ → Tag → Tag
+around_grown place count g = grown place count (is_around place g) g
+
+abbrev pub among_grown : ℕ → ℕ → List (List ℕ) → Tag → Tag
+among_grown place count names g = grown place count (is_among names g) g
+
+-- of tags of which the first so many have grown
+pub same_first : (place count n : ℕ) (test : Tag → Bool) (so_far tags : List Tag) → AllByRecursion (λ g. place ≤ length g.on) tags → n ≤ length tags → so_far ≡ map (λ g. grown place count (test g) g) (take n tags) ++ drop n tags
+    → map (shrunk place (place + count)) (take n so_far) ++ drop n so_far ≡ tags
+same_first place count n test so_far tags a h e = ap (λ gs. map (shrunk place (place + count)) (take n gs) ++ drop n gs) e ∙ of n tags a h
+  where
+    of : (n : ℕ) (tags : List Tag) → AllByRecursion (λ g. place ≤ length g.on) tags → n ≤ length tags
+        → map (shrunk place (place + count)) (take n (map (λ g. grown place count (test g) g) (take n tags) ++ drop n tags)) ++ drop n (map (λ g. grown place count (test g) g) (take n tags) ++ drop n tags) ≡ tags
+    of zero tags a h = refl
+    of (suc n) [] a h = absurd (omega arith)
+    of (suc n) (g ∷ tags) a h =
+        let on = same_flags place count (test g) g.on a.0 in
+        let rest = of n tags a.1 (omega arith) in
+        ap (λ o. (record g { on = o }) ∷ (map (shrunk place (place + count)) (take n (map (λ g. grown place count (test g) g) (take n tags) ++ drop n tags)) ++ drop n (map (λ g. grown place count (test g) g) (take n tags) ++ drop n tags))) on
+        ∙ ap (λ r. g ∷ r) rest
 
 behind_place : (place : ℕ) (m : Mark) → goes_on place m ≡ true → place ≤ m.place
 behind_place place m e = grind (arith, nat_tests)

@@ -1,5 +1,6 @@
 -- The ranges of a tag, as data (text(n), "TAGS"): another way to say which characters have it.
-use Rattle.std.specs.Prelude.{◌≡◌, ℕ, ◌+◌, ◌-◌, ◌<◌, ◌≤◌, ◌&&◌, ◌||◌, nat_le, nat_lt, Bool, true, false, List, [], ◌∷◌, ◌++◌, replicate, Option, Some, None}
+use Rattle.std.specs.Prelude.{◌≡◌, ℕ, ◌+◌, ◌-◌, ◌<◌, ◌≤◌, ◌^◌, ◌||◌, ◌==◌, if◌then◌else◌, nat_le, nat_lt, min, max, Bool, true, false, List, [], ◌∷◌, ◌++◌, length, replicate, Option, Some, None, slice_get}
+use Rattle.std.specs.List.{prefix_len, filter}
 use Rattle.tks_lines.specs.declared.range.Range.{Range}
 
 -- the ranges of flags that begin at a place; some are of a range that began before
@@ -34,33 +35,48 @@ abbrev pub AreRanges : ℕ → Option Range → List Range → Type 0
 AreRanges len before [] = Unit {0}
 AreRanges len before (r ∷ ranges) = (is_behind before r.first ≡ true) × (r.first < r.last) × (r.last ≤ len) × AreRanges len (Some r) ranges
 
--- whether the character behind a place is in one of them
-abbrev pub are_around : List Range → ℕ → Bool
-are_around [] place = false
-are_around (r ∷ ranges) place = (nat_le r.first place && nat_lt place r.last) || are_around ranges place
-
 -- the places at which ranges begin and end, in turn
 abbrev pub ends_of : List Range → List ℕ
 ends_of [] = []
 ends_of (r ∷ ranges) = r.first ∷ (r.last ∷ ends_of ranges)
 
--- ---- flags that are made run by run
+-- ---- ranges that are changed where they stand
 
--- the place at which the last range began, or at which one may begin
-abbrev pub begun_or : ℕ → Option ℕ → ℕ
-begun_or len None = len
-begun_or len (Some first) = first
+-- how many ranges end before a place
+abbrev pub ending_before : ℕ → List Range → ℕ
+ending_before place ranges = prefix_len (λ r. nat_lt r.last place) ranges
 
--- the last range, where one has begun, up to the last of so many characters
-abbrev pub last_run : ℕ → Option ℕ → List Range
-last_run len None = []
-last_run len (Some first) = record { first = first; last = len } ∷ []
+-- how many begin up to a place
+abbrev pub beginning_up_to : ℕ → List Range → ℕ
+beginning_up_to place ranges = prefix_len (λ r. nat_le r.first place) ranges
 
--- one character more could join: in the last range, or in a further one, which touches none
-abbrev pub CanGoOn : ℕ → List Range → Option ℕ → Type 0
-CanGoOn len ranges begun = AreRanges (len + 1) None (ranges ++ record { first = begun_or len begun; last = len + 1 } ∷ [])
+-- where the first of ranges begins, or a place before it
+abbrev pub begin_of : List Range → ℕ → ℕ
+begin_of [] place = place
+begin_of (r ∷ ranges) place = min r.first place
 
--- the last range isn't empty
-abbrev pub HasBegun : ℕ → Option ℕ → Type 0
-HasBegun len None = Unit {0}
-HasBegun len (Some first) = first < len
+-- where one ends, or a place behind it
+abbrev pub end_or : Option Range → ℕ → ℕ
+end_or None place = place
+end_or (Some r) place = max r.last place
+
+-- where the last of ranges ends, or a place behind it
+abbrev pub end_of : List Range → ℕ → ℕ
+end_of ranges place = end_or (slice_get ranges (length ranges - 1)) place
+
+-- those that aren't empty
+abbrev pub unless_empty : List Range → List Range
+unless_empty ranges = filter (λ r. nat_lt r.first r.last) ranges
+
+-- which of the characters that come in between two places lack the tag: those from one place up to another, or none, told at
+-- the end of the range that they come into
+abbrev pub untagged : ℕ → ℕ → ℕ → Bool → ℕ × ℕ
+untagged first behind end value = if value || (first == behind) then (end, end) else (first, behind)
+
+-- a range, as one place goes to another
+abbrev pub moved : ℕ → ℕ → Range → Range
+moved from to r = record { first = r.first - from + to; last = r.last - from + to }
+
+-- it is behind that place, and its own stay small
+abbrev pub MayMove : ℕ → ℕ → Range → Type 0
+MayMove from to r = (from ≤ r.first) × (from ≤ r.last) × (r.first + to < 2 ^ 64) × (r.last + to < 2 ^ 64)

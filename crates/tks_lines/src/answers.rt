@@ -111,7 +111,7 @@ fn ends_of(alloc: Global, ranges: &[Range]) -> Result<Seq<usize>, AllocError>
 }
 
 /// The places at which the tag of a name begins and ends, in turn.
-#[tactic(auto, using(crate::proofs::Clipped::ends_are_edges))]
+#[tactic(auto, using(crate::proofs::Edges::ends_are_edges))]
 pub(crate) fn edges(alloc: Global, name: &Txt, tags: &[Tag]) -> Result<Seq<usize>, AllocError>
     ensures { IfOk result (λ places. places ≡ edges false 0 (flags_of name.now tags.now)) }
 {

@@ -1,11 +1,8 @@
 //! Changes of a text widget's text, marks and tags.
 ghost use Rattle.std.specs.Prelude.{◌≡◌, ◌≤◌, ◌<◌, ◌^◌, true, false, length, map, OnOk, OnErr};
-ghost use Rattle.tks_lines.specs.Lines.{at_most_last, inserted, inserted_with, deleted, with_mark, without_marks, turned_marks, with_tag, without_tags, tagged};
+ghost use Rattle.tks_lines.specs.Lines.{at_most_last, put_in, is_around, is_among, with_tags, inserted, inserted_with, deleted, with_mark, without_marks, turned_marks, with_tag, without_tags, tagged};
 
 use crate::lines::TextWidget;
-use crate::tags::{
-    all_grown_among, all_grown_around, all_shrunk, all_tagged, with_tag, with_tags, without_tags,
-};
 use std::alloc::AllocError;
 use tks_text::Txt;
 
@@ -18,6 +15,42 @@ impl TextWidget {
         place.min(self.len())
     }
 
+    // Puts characters in at a place that isn't behind the last newline, with the tags on both sides.
+    fn put_around(&mut self, place: usize, more: &Txt) -> Result<(), AllocError>
+        requires { place ≤ length self.old.text }
+        ensures ok { OnOk result (self.new ≡ put_in place more.now (is_around place) self.old) }
+        ensures err { OnErr result (self.new ≡ self.old) }
+        ensures class { self.new.options.class ≡ self.old.options.class }
+    {
+        let _len = self.len();
+        let count = more.as_bytes().len();
+        self.tags.grow_around(place, count)?;
+        if let Err(error) = self.text.insert(self.alloc, place, more) {
+            self.tags.shrink(place, place + count);
+            return Err(error);
+        }
+        self.marks.move_on(place, count);
+        Ok(())
+    }
+
+    // The same, with the tags of some names.
+    fn put_among(&mut self, place: usize, more: &Txt, names: &[Txt]) -> Result<(), AllocError>
+        requires { place ≤ length self.old.text }
+        ensures ok { OnOk result (self.new ≡ put_in place more.now (is_among names.now) self.old) }
+        ensures err { OnErr result (self.new ≡ self.old) }
+        ensures class { self.new.options.class ≡ self.old.options.class }
+    {
+        let _len = self.len();
+        let count = more.as_bytes().len();
+        self.tags.grow_among(place, count, names)?;
+        if let Err(error) = self.text.insert(self.alloc, place, more) {
+            self.tags.shrink(place, place + count);
+            return Err(error);
+        }
+        self.marks.move_on(place, count);
+        Ok(())
+    }
+
     // Puts characters in at a place, with the tags on both sides.
     pub(crate) fn insert(&mut self, place: usize, more: &Txt) -> Result<(), AllocError>
         ensures ok { OnOk result (self.new ≡ inserted place more.now self.old) }
@@ -27,13 +60,20 @@ impl TextWidget {
         if !self.options.is_editable() {
             return Ok(());
         }
-        let _len = self.len();
         let place = self.at_most_last(place);
-        let count = more.as_bytes().len();
-        let tags = all_grown_around(self.alloc, self.tags.as_slice(), place, count)?;
-        self.text.insert(self.alloc, place, more)?;
-        self.tags = tags;
-        self.marks.move_on(place, count);
+        self.put_around(place, more)?;
+        Ok(())
+    }
+
+    // Adds a tag of each of some names where there is none.
+    #[tactic(auto, using(crate::proofs::Lengths::with_tags_long, crate::proofs::Names::with_tags_differ))]
+    fn add_tags(&mut self, names: &[Txt]) -> Result<(), AllocError>
+        ensures ok { OnOk result (self.new ≡ record self.old { tags = with_tags names.now (length self.old.text) self.old.tags }) }
+        ensures err { OnErr result (self.new ≡ self.old) }
+        ensures class { self.new.options.class ≡ self.old.options.class }
+    {
+        let len = self.len();
+        self.tags.add(self.alloc, names, len)?;
         Ok(())
     }
 
@@ -51,14 +91,13 @@ impl TextWidget {
         if !self.options.is_editable() {
             return Ok(());
         }
-        let len = self.len();
         let place = self.at_most_last(place);
-        let count = more.as_bytes().len();
-        let tags = with_tags(self.alloc, self.tags.as_slice(), names, len)?;
-        let tags = all_grown_among(self.alloc, tags.as_slice(), place, count, names)?;
-        self.text.insert(self.alloc, place, more)?;
-        self.tags = tags;
-        self.marks.move_on(place, count);
+        let before = self.tags.len();
+        self.add_tags(names)?;
+        if let Err(error) = self.put_among(place, more, names) {
+            self.tags.truncate(before);
+            return Err(error);
+        }
         Ok(())
     }
 
@@ -72,9 +111,8 @@ impl TextWidget {
         if !self.options.is_editable() {
             return Ok(());
         }
-        let tags = all_shrunk(self.alloc, self.tags.as_slice(), first, last)?;
         self.text.delete(self.alloc, first, last)?;
-        self.tags = tags;
+        self.tags.shrink(first, last);
         self.marks.move_back(first, last);
         Ok(())
     }
@@ -123,8 +161,8 @@ impl TextWidget {
         ensures err { OnErr result (self.new ≡ self.old) }
         ensures class { self.new.options.class ≡ self.old.options.class }
     {
-        let tags = with_tag(self.alloc, self.tags.as_slice(), name, self.len())?;
-        self.tags = all_tagged(self.alloc, tags.as_slice(), true, name, first, last)?;
+        let len = self.len();
+        self.tags.put_on(self.alloc, name, first, last, len)?;
         Ok(())
     }
 
@@ -140,7 +178,7 @@ impl TextWidget {
         ensures err { OnErr result (self.new ≡ self.old) }
         ensures class { self.new.options.class ≡ self.old.options.class }
     {
-        self.tags = all_tagged(self.alloc, self.tags.as_slice(), false, name, first, last)?;
+        self.tags.take_off(name, first, last)?;
         Ok(())
     }
 
@@ -151,7 +189,7 @@ impl TextWidget {
         ensures err { OnErr result (self.new ≡ self.old) }
         ensures class { self.new.options.class ≡ self.old.options.class }
     {
-        self.tags = without_tags(self.alloc, self.tags.as_slice(), names)?;
+        self.tags = self.tags.without(self.alloc, names)?;
         Ok(())
     }
 }

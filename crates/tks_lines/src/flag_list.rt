@@ -1,22 +1,22 @@
 //! Which characters of a text have a tag.
-ghost use Rattle.std.specs.Prelude.{◌≡◌, ◌++◌, ◌<◌, ◌≤◌, ◌^◌, length, take, drop, replicate, false, None, IfOk, slice_get};
+ghost use Rattle.std.specs.Prelude.{◌≡◌, ◌+◌, ◌-◌, ◌++◌, ◌<◌, ◌≤◌, ◌^◌, length, take, drop, replicate, false, None, IfOk, OnOk, OnErr, IsOk, slice_get};
 ghost use Rattle.tks_text.specs.Short.{IsShort};
 ghost use Rattle.tks_lines.specs.Lines.{spliced, cut, painted, is_true};
-ghost use Rattle.tks_lines.specs.Ranges.{ranges_of, flags_of, are_around, AreRanges};
+ghost use Rattle.tks_lines.specs.Ranges.{ranges_of, flags_of, untagged, AreRanges};
 
 use crate::gap::MAX_LEN;
 use crate::range::Range;
-use crate::runs::Runs;
+use crate::range_list::{begin_between, beginning_up_to, end_between, ending_before, put_and_move};
 use std::alloc::{AllocError, Global};
 use std::marker::Model;
 use tks_text::Seq;
 
 /// Which of the characters of a text have a tag, in order: contracts see a flag for each character, and what is kept is the
-/// ranges of those that have it.
+/// ranges of those that have it. They are changed where they stand.
 #[derive(Drop)]
 pub struct Flags {
     len: usize,
-    ranges: Seq<Range>,
+    ranges: Vec<Range>,
 }
 
 impl Model for Flags {
@@ -25,21 +25,20 @@ impl Model for Flags {
 
     ghost Value = { List Bool };
 
-    ghost view = { λ f. flags_of f.len f.ranges };
+    ghost view = { λ f. flags_of f.len f.ranges.items };
 
-    ghost invariant = { λ f. AreRanges f.len None f.ranges × (f.len ≤ 4294967295) };
+    ghost invariant = { λ f. AreRanges f.len None f.ranges.items × (f.len ≤ 4294967295) };
 }
 
-// Whether the character behind a place is in one of these ranges.
-fn are_around(ranges: &[Range], place: usize) -> bool
-    ensures { result ≡ are_around ranges.now place }
+// Which of the characters that come in between two places lack the tag: those from one place up to another, or none, told at
+// the end of the range that they come into.
+fn untagged(first: usize, behind: usize, end: usize, value: bool) -> (usize, usize)
+    ensures { result ≡ untagged first behind end value }
 {
-    for range in ranges {
-        if range.first <= place && place < range.last {
-            return true;
-        }
+    if value || first == behind {
+        return (end, end);
     }
-    false
+    (first, behind)
 }
 
 impl Flags {
@@ -52,16 +51,8 @@ impl Flags {
         }
         Ok(Flags {
             len,
-            ranges: Seq::new(alloc),
+            ranges: Vec::new(alloc),
         })
-    }
-
-    /// Those of so many characters, where these ranges have the tag.
-    pub(crate) fn of_parts(len: usize, ranges: Seq<Range>) -> Flags
-        requires { (len ≤ 4294967295) × AreRanges len None ranges }
-        ensures { result ≡ flags_of len ranges }
-    {
-        Flags { len, ranges }
     }
 
     /// Those of so many characters, where these ranges have the tag. Too many are refused as memory is.
@@ -72,11 +63,10 @@ impl Flags {
         if len > MAX_LEN {
             return Err(AllocError);
         }
-        let mut all = Seq::new(alloc);
-        for range in ranges {
-            all.push(*range)?;
-        }
-        Ok(Flags::of_parts(len, all))
+        Ok(Flags {
+            len,
+            ranges: Vec::from_slice(alloc, ranges)?,
+        })
     }
 
     /// The ranges of the characters that have the tag: they rise, none is empty, and none touches another.
@@ -99,80 +89,97 @@ impl Flags {
     pub fn is_on(&self, place: usize) -> bool
         ensures { result ≡ is_true (slice_get self.now place) }
     {
-        are_around(self.ranges.as_slice(), place)
+        let ranges = self.ranges.as_slice();
+        let begun = beginning_up_to(ranges, place);
+        begun != 0 && place < ranges[begun - 1].last
     }
 
-    // The first so many flags, then some that are all the same, then those behind another place.
-    fn replaced(
-        &self,
-        alloc: Global,
-        front: usize,
+    // Puts so many characters, which have the tag or don't, in the place of those between two places: the ranges that these
+    // touch become one or two, and those behind them move. It takes memory where there is one range more.
+    fn replace(
+        &mut self,
+        first: usize,
+        last: usize,
         count: usize,
         value: bool,
-        back: usize,
-    ) -> Result<Flags, AllocError>
-        ensures { IfOk result (λ f. f ≡ take front self.now ++ (replicate count value ++ drop back self.now)) }
+    ) -> Result<(), AllocError>
+        requires inside { (first ≤ last) × (last ≤ length self.old) }
+        requires short { count ≤ last - first + (4294967295 - length self.old) }
+        ensures ok { OnOk result (self.new ≡ take first self.old ++ (replicate count value ++ drop last self.old)) }
+        ensures err { OnErr result (self.new ≡ self.old) }
+        ensures fits { count ≡ 0 → IsOk result }
     {
-        let len = self.len();
-        let mut runs = Runs::new(alloc);
-        runs.push_part(self, 0, front.min(len))?;
-        if value {
-            runs.push_on(count)?;
-        } else {
-            runs.push_off(count)?;
-        }
-        runs.push_part(self, back.min(len), len)?;
-        runs.finish()
+        let ranges = self.ranges.as_slice();
+        let from = ending_before(ranges, first);
+        let to = beginning_up_to(ranges, last);
+        let behind = first + count;
+        let begin = begin_between(ranges, from, to, first);
+        let end = end_between(ranges, from, to, last) - last + behind;
+        let (head, tail) = untagged(first, behind, end, value);
+        let two = [
+            Range {
+                first: begin,
+                last: head,
+            },
+            Range {
+                first: tail,
+                last: end,
+            },
+        ];
+        put_and_move(&mut self.ranges, from, to, &two, last, behind)?;
+        self.len = self.len - last + behind;
+        Ok(())
     }
 
-    /// Where so many characters come in at a place, which have the tag or don't.
-    pub(crate) fn spliced(
-        &self,
-        alloc: Global,
+    /// Puts so many characters in at a place, which have the tag or don't. Too many are refused as memory is.
+    pub(crate) fn splice(
+        &mut self,
         place: usize,
         count: usize,
         value: bool,
-    ) -> Result<Flags, AllocError>
-        ensures { IfOk result (λ f. f ≡ spliced place (replicate count value) self.now) }
+    ) -> Result<(), AllocError>
+        ensures ok { OnOk result (self.new ≡ spliced place (replicate count value) self.old) }
+        ensures err { OnErr result (self.new ≡ self.old) }
     {
-        let flags = self.replaced(alloc, place, count, value, place)?;
-        Ok(flags)
+        let len = self.len();
+        if count > MAX_LEN.saturating_sub(len) {
+            return Err(AllocError);
+        }
+        let place = place.min(len);
+        self.replace(place, place, count, value)
     }
 
-    /// Where the characters between two places go out.
-    pub(crate) fn cut(&self, alloc: Global, first: usize, last: usize) -> Result<Flags, AllocError>
-        ensures { IfOk result (λ f. f ≡ cut first last self.now) }
+    /// Takes the characters between two places out.
+    pub(crate) fn cut(&mut self, first: usize, last: usize)
+        ensures { self.new ≡ cut first last self.old }
     {
-        let flags = self.replaced(alloc, first, 0, false, last.max(first))?;
-        Ok(flags)
+        let len = self.len();
+        let last = last.max(first).min(len);
+        let first = first.min(len);
+        match self.replace(first, last, 0, false) {
+            Ok(()) => (),
+            Err(_) => unreachable!(),
+        }
     }
 
-    /// Where the characters between two places get the tag or lose it.
-    pub(crate) fn painted(
-        &self,
-        alloc: Global,
-        first: usize,
-        last: usize,
-        value: bool,
-    ) -> Result<Flags, AllocError>
-        ensures { IfOk result (λ f. f ≡ painted value first last self.now) }
+    /// Gives the tag to the characters between two places, or takes it from them.
+    pub(crate) fn paint(&mut self, first: usize, last: usize, value: bool) -> Result<(), AllocError>
+        ensures ok { OnOk result (self.new ≡ painted value first last self.old) }
+        ensures err { OnErr result (self.new ≡ self.old) }
     {
-        let count = last.min(self.len()).saturating_sub(first);
-        let flags = self.replaced(alloc, first, count, value, last.max(first))?;
-        Ok(flags)
+        let len = self.len();
+        let last = last.max(first).min(len);
+        let first = first.min(len);
+        self.replace(first, last, last - first, value)
     }
 
     /// Equal flags.
-    pub(crate) fn try_clone(&self, alloc: Global) -> Result<Flags, AllocError>
+    pub(crate) fn try_clone(&self) -> Result<Flags, AllocError>
         ensures { IfOk result (λ f. f ≡ self.now) }
     {
-        let mut ranges = Seq::new(alloc);
-        for range in self.ranges.as_slice() {
-            ranges.push(*range)?;
-        }
         Ok(Flags {
             len: self.len,
-            ranges,
+            ranges: self.ranges.clone()?,
         })
     }
 }

@@ -10,7 +10,7 @@ ghost use Rattle.tks_lines.specs.Lines.{Formed, first_mark, first_lines};
 use crate::lined_text::LinedText;
 use crate::marks::Marks;
 use crate::parts::{Mark, Tag};
-use crate::tags;
+use crate::tags::Tags;
 use std::alloc::{AllocError, Global};
 use std::marker::Model;
 use tks_opt::Options;
@@ -21,7 +21,7 @@ pub struct TextWidget {
     pub(crate) alloc: Global,
     pub(crate) options: Options,
     pub(crate) text: LinedText,
-    pub(crate) tags: Seq<Tag>,
+    pub(crate) tags: Tags,
     pub(crate) marks: Marks,
 }
 
@@ -72,7 +72,7 @@ impl TextWidget {
             alloc,
             options,
             text: LinedText::new(alloc),
-            tags: Seq::new(alloc),
+            tags: Tags::new(alloc),
             marks,
         })
     }
@@ -139,7 +139,7 @@ impl TextWidget {
             alloc: self.alloc,
             options: self.options.try_clone()?,
             text: self.text.try_clone()?,
-            tags: tags::copied(self.alloc, self.tags.as_slice())?,
+            tags: self.tags.try_clone(self.alloc)?,
             marks: self.marks.try_clone(self.alloc)?,
         })
     }

@@ -8,6 +8,7 @@ use crate::lined_text::LinedText;
 use crate::lines::TextWidget;
 use crate::marks::Marks;
 use crate::parts::{Mark, Tag};
+use crate::tags::Tags;
 use std::alloc::{AllocError, Global};
 use tks_opt::Options;
 use tks_text::{Class, Seq, Txt};
@@ -128,7 +129,7 @@ impl TextWidget {
                 alloc,
                 options,
                 text,
-                tags,
+                tags: Tags::of(tags),
                 marks: Marks::of(marks),
             })),
             _ => Ok(None),

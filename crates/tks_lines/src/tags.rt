@@ -1,25 +1,46 @@
 //! Tags, and what becomes of them.
-ghost use Rattle.std.specs.Prelude.{◌≡◌, ◌<◌, ◌^◌, ◌∷◌, [], ◌++◌, map, IfOk, OnOk, OnErr, length};
-ghost use Rattle.std.specs.List.{list_any, filter};
-ghost use Rattle.tks_lines.specs.Lines.{is_tag, is_on, is_around, is_among, new_tag, with_tag, with_tags, without_tags, tagged, grown, shrunk};
-ghost use Rattle.tks_lines.specs.Commands.{flags_of};
+ghost use Rattle.std.specs.Prelude.{◌≡◌, ◌<◌, ◌≤◌, ◌^◌, ◌∷◌, ◌+◌, ◌++◌, [], map, take, drop, not, true, false, IfOk, OnOk, OnErr, length};
+ghost use Rattle.std.specs.List.{AllByRecursion, prefix_len};
+ghost use Rattle.tks_text.specs.Short.{IsShort};
+ghost use Rattle.tks_lines.specs.Lines.{Differ, is_tag, is_around, is_among, with_tag, with_tags, without_tags, tagged, grown, shrunk, painted, new_tag};
 
 use crate::flag_list::Flags;
+use crate::gap::MAX_LEN;
 use crate::marks::is_listed;
 use crate::parts::Tag;
 use std::alloc::{AllocError, Global};
+use std::marker::Model;
 use tks_text::{Seq, Txt};
 
-// Whether there is a tag of a name.
-fn has_tag(name: &Txt, tags: &[Tag]) -> bool
-    ensures { result ≡ list_any (is_tag name.now) tags.now }
+/// The tags of a text, fewer than 2^32, in the order in which they were made. They are changed where they stand.
+#[derive(Drop)]
+pub(crate) struct Tags {
+    tags: Vec<Tag>,
+}
+
+impl Model for Tags {
+    ghost use Rattle.std.specs.Prelude.{List};
+    ghost use Rattle.tks_text.specs.Short.{IsShort};
+    ghost use Rattle.tks_lines.specs.declared.parts.Tag.{Tag};
+
+    ghost Value = { List Tag };
+
+    ghost view = { λ t. t.tags.items };
+
+    ghost invariant = { λ t. IsShort t.tags.items };
+}
+
+// How many tags stand before the one of a name; all, where there is none.
+fn before_tag(name: &Txt, tags: &[Tag]) -> usize
+    ensures value { result ≡ prefix_len (λ g. not (is_tag name.now g)) tags.now }
+    ensures bound { result ≤ length tags.now }
 {
-    for tag in tags {
+    for (index, tag) in tags.iter().enumerate() {
         if tag.name.as_bytes() == name.as_bytes() {
-            return true;
+            return index;
         }
     }
-    false
+    tags.len()
 }
 
 /// Whether the characters on both sides of a place have a tag.
@@ -29,198 +50,350 @@ fn is_around(place: usize, tag: &Tag) -> bool
     place != 0 && tag.on.is_on(place - 1) && tag.on.is_on(place)
 }
 
-// A tag where so many characters come in at a place, which have it or don't.
-fn grown(
-    alloc: Global,
-    place: usize,
-    count: usize,
-    value: bool,
-    tag: &Tag,
-) -> Result<Tag, AllocError>
-    ensures { IfOk result (λ g. g ≡ grown place count value tag.now) }
+// Changes a tag where so many characters come in at a place, which have it or don't.
+fn grow(tag: &mut Tag, place: usize, count: usize, value: bool) -> Result<(), AllocError>
+    ensures ok { OnOk result (tag.new ≡ grown place count value tag.old) }
+    ensures err { OnErr result (tag.new ≡ tag.old) }
 {
-    Ok(Tag {
-        name: tag.name.try_clone()?,
-        on: tag.on.spliced(alloc, place, count, value)?,
-    })
+    tag.on.splice(place, count, value)?;
+    Ok(())
 }
 
-// A tag where the characters between two places go out.
-fn shrunk(alloc: Global, first: usize, last: usize, tag: &Tag) -> Result<Tag, AllocError>
-    ensures { IfOk result (λ g. g ≡ shrunk first last tag.now) }
+// Changes a tag where the characters between two places go out.
+fn shrink(tag: &mut Tag, first: usize, last: usize)
+    ensures { tag.new ≡ shrunk first last tag.old }
 {
-    Ok(Tag {
-        name: tag.name.try_clone()?,
-        on: tag.on.cut(alloc, first, last)?,
-    })
+    tag.on.cut(first, last);
+}
+
+// Puts a tag on the characters between two places, or takes it from them.
+fn paint(tag: &mut Tag, value: bool, first: usize, last: usize) -> Result<(), AllocError>
+    ensures ok { OnOk result (tag.new ≡ record tag.old { on = painted value first last tag.old.on }) }
+    ensures err { OnErr result (tag.new ≡ tag.old) }
+{
+    tag.on.paint(first, last, value)?;
+    Ok(())
 }
 
 // An equal tag.
-fn copy(alloc: Global, tag: &Tag) -> Result<Tag, AllocError>
+fn copy(tag: &Tag) -> Result<Tag, AllocError>
     ensures { IfOk result (λ g. g ≡ tag.now) }
 {
     Ok(Tag {
         name: tag.name.try_clone()?,
-        on: tag.on.try_clone(alloc)?,
+        on: tag.on.try_clone()?,
     })
 }
 
-// A tag, put on the characters between two places or taken from them, where it has the name.
-fn tagged(
+// Changes tags where so many characters come in at a place: they have those on both sides of it. Tells how many are changed:
+// all, unless memory is refused.
+fn grow_first_around(tags: &mut [Tag], place: usize, count: usize) -> usize
+    ensures made { tags.new ≡ map (λ g. grown place count (is_around place g) g) (take result tags.old) ++ drop result tags.old }
+    ensures bound { result ≤ length tags.old }
+{
+    let mut done = 0;
+    for tag in tags.iter_mut() {
+        let value = is_around(place, tag);
+        match grow(tag, place, count, value) {
+            Ok(()) => done += 1,
+            Err(_) => return done,
+        }
+    }
+    done
+}
+
+// The same, where they have those of some names.
+fn grow_first_among(tags: &mut [Tag], place: usize, count: usize, names: &[Txt]) -> usize
+    ensures made { tags.new ≡ map (λ g. grown place count (is_among names.now g) g) (take result tags.old) ++ drop result tags.old }
+    ensures bound { result ≤ length tags.old }
+{
+    let mut done = 0;
+    for tag in tags.iter_mut() {
+        let value = is_listed(&tag.name, names);
+        match grow(tag, place, count, value) {
+            Ok(()) => done += 1,
+            Err(_) => return done,
+        }
+    }
+    done
+}
+
+// Changes each tag where the characters between two places go out.
+fn shrink_each(tags: &mut [Tag], first: usize, last: usize)
+    ensures { tags.new ≡ map (shrunk first last) tags.old }
+{
+    for tag in tags.iter_mut() {
+        shrink(tag, first, last);
+    }
+}
+
+// Lets characters that came in go out again, of the first so many tags.
+fn shrink_first(tags: &mut [Tag], done: usize, first: usize, last: usize)
+    requires { done ≤ length tags.old }
+    ensures { tags.new ≡ map (shrunk first last) (take done tags.old) ++ drop done tags.old }
+{
+    shrink_each(&mut tags[..done], first, last);
+}
+
+// Changes each tag where so many characters come in at a place: they have those on both sides of it.
+fn grow_each_around(tags: &mut [Tag], place: usize, count: usize) -> Result<(), AllocError>
+    requires here { AllByRecursion (λ g. place ≤ length g.on) tags.old }
+    requires small { place + count < 2 ^ 64 }
+    ensures ok { OnOk result (tags.new ≡ map (λ g. grown place count (is_around place g) g) tags.old) }
+    ensures err { OnErr result (tags.new ≡ tags.old) }
+{
+    let done = grow_first_around(tags, place, count);
+    if done < tags.len() {
+        shrink_first(tags, done, place, place + count);
+        return Err(AllocError);
+    }
+    Ok(())
+}
+
+// The same, where they have those of some names.
+fn grow_each_among(
+    tags: &mut [Tag],
+    place: usize,
+    count: usize,
+    names: &[Txt],
+) -> Result<(), AllocError>
+    requires here { AllByRecursion (λ g. place ≤ length g.on) tags.old }
+    requires small { place + count < 2 ^ 64 }
+    ensures ok { OnOk result (tags.new ≡ map (λ g. grown place count (is_among names.now g) g) tags.old) }
+    ensures err { OnErr result (tags.new ≡ tags.old) }
+{
+    let done = grow_first_among(tags, place, count, names);
+    if done < tags.len() {
+        shrink_first(tags, done, place, place + count);
+        return Err(AllocError);
+    }
+    Ok(())
+}
+
+// A tag of a name, put on the characters between two places of so many.
+fn new_tag(
     alloc: Global,
-    value: bool,
     name: &Txt,
+    len: usize,
     first: usize,
     last: usize,
-    tag: &Tag,
 ) -> Result<Tag, AllocError>
-    ensures { IfOk result (λ g. g ≡ tagged value name.now first last tag.now) }
+    ensures { IfOk result (λ g. g ≡ record (new_tag name.now len) { on = painted true first last (new_tag name.now len).on }) }
 {
-    if tag.name.as_bytes() != name.as_bytes() {
-        let tag = copy(alloc, tag)?;
-        return Ok(tag);
-    }
+    let mut on = Flags::none(alloc, len)?;
+    on.paint(first, last, true)?;
     Ok(Tag {
-        name: tag.name.try_clone()?,
-        on: tag.on.painted(alloc, first, last, value)?,
+        name: name.try_clone()?,
+        on,
     })
 }
 
-/// The tags where so many characters come in at a place: they have those on both sides of it.
-pub(crate) fn all_grown_around(
-    alloc: Global,
-    tags: &[Tag],
-    place: usize,
-    count: usize,
-) -> Result<Seq<Tag>, AllocError>
-    ensures { IfOk result (λ all. all ≡ map (λ g. grown place count (is_around place g) g) tags.now) }
+// Adds a tag, unless there are too many.
+fn push(tags: &mut Vec<Tag>, tag: Tag) -> Result<(), AllocError>
+    ensures ok { OnOk result ((tags.new.items ≡ tags.old.items ++ tag ∷ []) × IsShort tags.new.items) }
+    ensures err { OnErr result (tags.new.items ≡ tags.old.items) }
 {
-    let mut all = Seq::new(alloc);
-    for tag in tags {
-        all.push(grown(alloc, place, count, is_around(place, tag), tag)?)?;
+    if tags.len() >= MAX_LEN {
+        return Err(AllocError);
     }
-    Ok(all)
+    tags.push(tag)?;
+    Ok(())
 }
 
-/// The tags where so many characters come in at a place: they have those of some names.
-pub(crate) fn all_grown_among(
-    alloc: Global,
-    tags: &[Tag],
-    place: usize,
-    count: usize,
-    names: &[Txt],
-) -> Result<Seq<Tag>, AllocError>
-    ensures { IfOk result (λ all. all ≡ map (λ g. grown place count (is_among names.now g) g) tags.now) }
+// Adds a tag of a name where there is none.
+fn add_tag(alloc: Global, tags: &mut Vec<Tag>, name: &Txt, len: usize) -> Result<(), AllocError>
+    requires { IsShort tags.old.items }
+    ensures ok { OnOk result ((tags.new.items ≡ with_tag name.now len tags.old.items) × IsShort tags.new.items) }
+    ensures err { OnErr result (tags.new.items ≡ tags.old.items) }
 {
-    let mut all = Seq::new(alloc);
-    for tag in tags {
-        all.push(grown(alloc, place, count, is_listed(&tag.name, names), tag)?)?;
+    if before_tag(name, tags.as_slice()) < tags.len() {
+        return Ok(());
     }
-    Ok(all)
+    let tag = new_tag(alloc, name, len, 0, 0)?;
+    push(tags, tag)?;
+    Ok(())
 }
 
-/// The tags where the characters between two places go out.
-pub(crate) fn all_shrunk(
-    alloc: Global,
-    tags: &[Tag],
-    first: usize,
-    last: usize,
-) -> Result<Seq<Tag>, AllocError>
-    ensures { IfOk result (λ all. all ≡ map (shrunk first last) tags.now) }
+// Adds a tag of each of some names where there is none. Where memory is refused, those that were there stand first.
+fn add_tags(alloc: Global, tags: &mut Vec<Tag>, names: &[Txt], len: usize) -> Result<(), AllocError>
+    requires { IsShort tags.old.items }
+    ensures ok { OnOk result ((tags.new.items ≡ with_tags names.now len tags.old.items) × IsShort tags.new.items) }
+    ensures err { OnErr result (take (length tags.old.items) tags.new.items ≡ tags.old.items) }
 {
-    let mut all = Seq::new(alloc);
-    for tag in tags {
-        all.push(shrunk(alloc, first, last, tag)?)?;
+    for name in names {
+        add_tag(alloc, tags, name, len)?;
     }
-    Ok(all)
+    Ok(())
 }
 
-/// The tags, those of a name put on the characters between two places, or taken from them.
-pub(crate) fn all_tagged(
-    alloc: Global,
-    tags: &[Tag],
-    value: bool,
-    name: &Txt,
-    first: usize,
-    last: usize,
-) -> Result<Seq<Tag>, AllocError>
-    ensures { IfOk result (λ all. all ≡ map (tagged value name.now first last) tags.now) }
-{
-    let mut all = Seq::new(alloc);
-    for tag in tags {
-        all.push(tagged(alloc, value, name, first, last, tag)?)?;
+impl Tags {
+    /// None.
+    pub(crate) fn new(alloc: Global) -> Tags
+        ensures { result ≡ [] }
+    {
+        Tags {
+            tags: Vec::new(alloc),
+        }
     }
-    Ok(all)
+
+    /// These tags.
+    pub(crate) fn of(tags: Seq<Tag>) -> Tags
+        ensures { result ≡ tags }
+    {
+        let _len = tags.len();
+        Tags {
+            tags: tags.into_items(),
+        }
+    }
+
+    /// The tags, in order.
+    pub(crate) fn as_slice(&self) -> &[Tag]
+        ensures value { result.now ≡ self.now }
+        ensures short { IsShort self.now }
+    {
+        self.tags.as_slice()
+    }
+
+    /// How many there are.
+    pub(crate) fn len(&self) -> usize
+        ensures { result ≡ length self.now }
+    {
+        self.tags.len()
+    }
+
+    /// Changes them where so many characters come in at a place: they have the tags on both sides of it.
+    pub(crate) fn grow_around(&mut self, place: usize, count: usize) -> Result<(), AllocError>
+        requires here { AllByRecursion (λ g. place ≤ length g.on) self.old }
+        requires small { place + count < 2 ^ 64 }
+        ensures ok { OnOk result (self.new ≡ map (λ g. grown place count (is_around place g) g) self.old) }
+        ensures err { OnErr result (self.new ≡ self.old) }
+    {
+        grow_each_around(&mut self.tags, place, count)?;
+        Ok(())
+    }
+
+    /// The same, where they have the tags of some names.
+    pub(crate) fn grow_among(
+        &mut self,
+        place: usize,
+        count: usize,
+        names: &[Txt],
+    ) -> Result<(), AllocError>
+        requires here { AllByRecursion (λ g. place ≤ length g.on) self.old }
+        requires small { place + count < 2 ^ 64 }
+        ensures ok { OnOk result (self.new ≡ map (λ g. grown place count (is_among names.now g) g) self.old) }
+        ensures err { OnErr result (self.new ≡ self.old) }
+    {
+        grow_each_among(&mut self.tags, place, count, names)?;
+        Ok(())
+    }
+
+    /// Changes them where the characters between two places go out.
+    pub(crate) fn shrink(&mut self, first: usize, last: usize)
+        ensures { self.new ≡ map (shrunk first last) self.old }
+    {
+        shrink_each(&mut self.tags, first, last);
+    }
+
+    /// Adds one of each of some names, for a text of so many characters.
+    pub(crate) fn add(&mut self, alloc: Global, names: &[Txt], len: usize) -> Result<(), AllocError>
+        ensures ok { OnOk result (self.new ≡ with_tags names.now len self.old) }
+        ensures err { OnErr result (self.new ≡ self.old) }
+    {
+        let before = self.tags.len();
+        if let Err(error) = add_tags(alloc, &mut self.tags, names, len) {
+            self.tags.truncate(before);
+            return Err(error);
+        }
+        Ok(())
+    }
+
+    /// Lets go of all but the first so many.
+    pub(crate) fn truncate(&mut self, len: usize)
+        ensures { self.new ≡ take len self.old }
+    {
+        self.tags.truncate(len);
+    }
+
+    /// Puts the one of a name on the characters between two places; one of the name is made where there is none, for a text of
+    /// so many characters.
+    pub(crate) fn put_on(
+        &mut self,
+        alloc: Global,
+        name: &Txt,
+        first: usize,
+        last: usize,
+        len: usize,
+    ) -> Result<(), AllocError>
+        requires { Differ (map (λ g. g.name) self.old) }
+        ensures ok { OnOk result (self.new ≡ map (tagged true name.now first last) (with_tag name.now len self.old)) }
+        ensures err { OnErr result (self.new ≡ self.old) }
+    {
+        let index = before_tag(name, self.tags.as_slice());
+        if index < self.tags.len() {
+            paint(&mut self.tags[index], true, first, last)?;
+            return Ok(());
+        }
+        let tag = new_tag(alloc, name, len, first, last)?;
+        push(&mut self.tags, tag)?;
+        Ok(())
+    }
+
+    /// Takes the one of a name from the characters between two places.
+    pub(crate) fn take_off(
+        &mut self,
+        name: &Txt,
+        first: usize,
+        last: usize,
+    ) -> Result<(), AllocError>
+        requires { Differ (map (λ g. g.name) self.old) }
+        ensures ok { OnOk result (self.new ≡ map (tagged false name.now first last) self.old) }
+        ensures err { OnErr result (self.new ≡ self.old) }
+    {
+        let index = before_tag(name, self.tags.as_slice());
+        if index < self.tags.len() {
+            paint(&mut self.tags[index], false, first, last)?;
+        }
+        Ok(())
+    }
+
+    /// Those without the ones of some names.
+    pub(crate) fn without(&self, alloc: Global, names: &[Txt]) -> Result<Tags, AllocError>
+        ensures { IfOk result (λ all. all ≡ without_tags names.now self.now) }
+    {
+        let left = without_tags(alloc, self.tags.as_slice(), names)?;
+        Ok(Tags::of(left))
+    }
+
+    /// Equal tags.
+    pub(crate) fn try_clone(&self, alloc: Global) -> Result<Tags, AllocError>
+        ensures { IfOk result (λ all. all ≡ self.now) }
+    {
+        let all = copied(alloc, self.tags.as_slice())?;
+        Ok(Tags::of(all))
+    }
 }
 
-/// The tags without those of some names.
-pub(crate) fn without_tags(
-    alloc: Global,
-    tags: &[Tag],
-    names: &[Txt],
-) -> Result<Seq<Tag>, AllocError>
+// The tags without those of some names.
+fn without_tags(alloc: Global, tags: &[Tag], names: &[Txt]) -> Result<Seq<Tag>, AllocError>
     ensures { IfOk result (λ all. all ≡ without_tags names.now tags.now) }
 {
     let mut all = Seq::new(alloc);
     for tag in tags {
         if !is_listed(&tag.name, names) {
-            all.push(copy(alloc, tag)?)?;
+            all.push(copy(tag)?)?;
         }
     }
     Ok(all)
 }
 
-/// Equal tags.
-pub(crate) fn copied(alloc: Global, tags: &[Tag]) -> Result<Seq<Tag>, AllocError>
+// Equal tags.
+fn copied(alloc: Global, tags: &[Tag]) -> Result<Seq<Tag>, AllocError>
     ensures { IfOk result (λ all. all ≡ tags.now) }
 {
     let mut all = Seq::new(alloc);
     for tag in tags {
-        all.push(copy(alloc, tag)?)?;
-    }
-    Ok(all)
-}
-
-// Adds a tag of a name where there is none.
-fn add_tag(alloc: Global, tags: &mut Seq<Tag>, name: &Txt, len: usize) -> Result<(), AllocError>
-    ensures { OnOk result (tags.new ≡ with_tag name.now len tags.old) }
-{
-    if has_tag(name, tags.as_slice()) {
-        return Ok(());
-    }
-    tags.push(Tag {
-        name: name.try_clone()?,
-        on: Flags::none(alloc, len)?,
-    })?;
-    Ok(())
-}
-
-/// The tags, with one of a name, for a text of so many characters.
-pub(crate) fn with_tag(
-    alloc: Global,
-    tags: &[Tag],
-    name: &Txt,
-    len: usize,
-) -> Result<Seq<Tag>, AllocError>
-    ensures { IfOk result (λ all. all ≡ with_tag name.now len tags.now) }
-{
-    let mut all = copied(alloc, tags)?;
-    add_tag(alloc, &mut all, name, len)?;
-    Ok(all)
-}
-
-/// The tags, with one of each of some names, for a text of so many characters.
-pub(crate) fn with_tags(
-    alloc: Global,
-    tags: &[Tag],
-    names: &[Txt],
-    len: usize,
-) -> Result<Seq<Tag>, AllocError>
-    ensures { IfOk result (λ all. all ≡ with_tags names.now len tags.now) }
-{
-    let mut all = copied(alloc, tags)?;
-    for name in names {
-        add_tag(alloc, &mut all, name, len)?;
+        all.push(copy(tag)?)?;
     }
     Ok(all)
 }

@@ -1,14 +1,12 @@
-use Rattle.std.proofs.Common.{List, Bool, sym, ap, ◌∙◌}
-use Rattle.std.specs.Prelude.{slice_get}
-use Rattle.tks_lines.specs.declared.range.Range.{Range}
-use Rattle.tks_lines.specs.Lines.{is_true}
-use Rattle.tks_lines.specs.Ranges.{are_around}
-use Rattle.tks_lines.proofs.Clipped.{flag_around}
+use Rattle.tks_lines.proofs.Apart.{begins_rise, no_range}
+use Rattle.tks_lines.proofs.Edges.{found_around, none_around_it}
 use Rattle.tks_lines.proofs.flag_list.Flags.is_on.Goals as goal
 
-pub returns : goal.returns
-returns c =
-    c.are_around.ensures
-    ∙ ap (λ (ranges : List Range). are_around ranges c.args.place) c.as_slice.ensures.value
-    ∙ sym (flag_around c.self.inside.len c.self.inside.ranges c.args.place c.self.invariant.0)
-    ∙ ap (λ (on : List Bool). is_true (slice_get on c.args.place)) c.self.view_is
+pub beginning_up_to-begun-requires : goal.beginning_up_to-begun-requires
+beginning_up_to-begun-requires c = rw c.as_slice-ranges.ensures.value (begins_rise c.self.inside.len c.self.inside.ranges.items c.self.invariant.0)
+
+pub returns-then-begun-ne0 : goal.returns-then-begun-ne0
+returns-then-begun-ne0 c = found_around c.self.inside.len c.args.place c.beginning_up_to-begun.result c.args.self.now c.as_slice-ranges.result.now c.self.inside.ranges.items no_range c.self.invariant.0 c.as_slice-ranges.ensures.value c.self.view_is c.beginning_up_to-begun.ensures.value c.if-begun-ne0.true
+
+pub returns-else-begun-ne0 : goal.returns-else-begun-ne0
+returns-else-begun-ne0 c = none_around_it c.self.inside.len c.args.place c.beginning_up_to-begun.result c.args.self.now c.as_slice-ranges.result.now c.self.inside.ranges.items c.self.invariant.0 c.as_slice-ranges.ensures.value c.self.view_is c.beginning_up_to-begun.ensures.value c.if-begun-ne0.false

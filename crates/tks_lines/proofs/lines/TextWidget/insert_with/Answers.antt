@@ -1,21 +1,28 @@
-use Rattle.std.proofs.Common.{◌≡◌, ◌≤◌, ℕ, List, length, map, sym, ap, ◌∙◌, rules}
-use Rattle.tks_lines.specs.declared.parts.Tag.{Tag}
-use Rattle.tks_lines.specs.Lines.{Lines, spliced, grown, is_among, moved_on, with_tags}
-use Rattle.tks_lines.proofs.Inserted.{among_formed}
+use Rattle.std.proofs.Common.{◌≡◌, ◌≤◌, ℕ, List, length, take, sym, ap, ◌∙◌, subst, arith}
+use Rattle.std.proofs.lemmas.List.{take_all}
+use Rattle.tks_lines.specs.Lines.{Lines, Formed, with_tags}
+use Rattle.tks_lines.proofs.Tagged.{front_stays}
 use Rattle.tks_lines.proofs.lines.TextWidget.insert_with.Goals as goal
 
-pub invariant_of-self-2 : goal.invariant_of-self-2
-invariant_of-self-2 c =
-    let old : Lines = record { options = c.self.inside.options; text = c.self.inside.text; tags = c.self.inside.tags; marks = c.self.inside.marks } in
-    let place = c.at_most_last-place.result in
-    let here : place ≤ length old.text = search rules in
-    let text : c.insert.new.self ≡ spliced place c.args.more.now old.text = search rules in
-    let names = c.args.names.now in
-    let growth = λ (n : ℕ) (g : Tag). grown place n (is_among names g) g in
-    let len : c.len-len.result ≡ length old.text = c.len-len.ensures.value ∙ sym (ap (λ (t : Lines). length t.text) c.self.view_is) in
-    let made : c.as_slice-2.result.now ≡ with_tags names (length old.text) old.tags =
-    c.as_slice-2.ensures.value ∙ c.in_ok-tags.ensures ∙ ap (with_tags names c.len-len.result) c.as_slice.ensures.value ∙ ap (λ n. with_tags names n old.tags) len in
-    let tags : c.in_ok-tags-2.tags ≡ map (growth (length c.args.more.now)) (with_tags names (length old.text) old.tags) =
-    c.in_ok-tags-2.ensures ∙ ap (λ (more : List ℕ). map (growth (length more)) c.as_slice-2.result.now) c.as_bytes-count.ensures.value ∙ ap (map (growth (length c.args.more.now))) made in
-    let marks : c.move_on.new.self ≡ map (moved_on place (length c.args.more.now)) old.marks = search rules in
-    among_formed old place c.args.more.now c.args.names.now c.insert.new.self c.in_ok-tags-2.tags c.move_on.new.self c.self.invariant here text tags marks
+-- the tags that were there before others were added
+as_before : (names : List (List ℕ)) (n : ℕ) (t u : Lines) → n ≡ length t.tags → u ≡ record t { tags = with_tags names (length t.text) t.tags } → record u { tags = take n u.tags } ≡ t
+as_before names n t u e m =
+    let all : length t.tags ≤ n = omega (arith, e) in
+    let few : n ≤ length t.tags = omega (arith, e) in
+    ap (λ (v : Lines). record v { tags = take n v.tags }) m
+    ∙ ap (λ gs. record t { tags = gs }) (front_stays names (length t.text) n t.tags t.tags (take_all n t.tags all) few)
+
+pub invariant_of-self : goal.invariant_of-self
+invariant_of-self c =
+    let old = c.args.self.now in
+    let now : Lines = record { options = c.self-2.inside.options; text = c.self-2.inside.text; tags = c.self-2.inside.tags; marks = c.self-2.inside.marks } in
+    let before : c.len-before.result ≡ length old.tags = c.len-before.ensures ∙ ap (λ (t : Lines). length t.tags) c.self.view_is in
+    let same = as_before c.args.names.now c.len-before.result old now before (c.self-2.view_is ∙ c.in-Err.ensures.err ∙ c.in_ok-add_tags.ensures.ok) in
+    subst (λ gs. Formed (record now { tags = gs })) (sym c.truncate.ensures) (subst Formed (sym same) (subst Formed c.self.view_is c.self.invariant))
+
+pub returns-in-Err-clause-err : goal.returns-in-Err-clause-err
+returns-in-Err-clause-err c =
+    let old = c.args.self.now in
+    let now : Lines = record { options = c.self-2.inside.options; text = c.self-2.inside.text; tags = c.self-2.inside.tags; marks = c.self-2.inside.marks } in
+    let before : c.len-before.result ≡ length old.tags = c.len-before.ensures ∙ ap (λ (t : Lines). length t.tags) c.self.view_is in
+    ap (λ gs. record now { tags = gs }) c.truncate.ensures ∙ as_before c.args.names.now c.len-before.result old now before (c.self-2.view_is ∙ c.in-Err.ensures.err ∙ c.in_ok-add_tags.ensures.ok)
