@@ -55,6 +55,8 @@ impl Machine for Log {
         }
     }
 
+    fn prepare(&self, _world: &mut Txt) {}
+
     fn first(&self, alloc: Global) -> Result<Txt, AllocError> {
         Ok(Txt::new(alloc))
     }

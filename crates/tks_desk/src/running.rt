@@ -116,7 +116,10 @@ fn answer<D: Disk, T: AppMeaning, B: AppBody, W: Write>(
         Request::Quit => put_last(writer, b"bye\n"),
         Request::Bad => put_last(writer, b"bad line\n"),
         Request::Unfit => put_refusal(writer, Refused::BadInput),
-        Request::Screen => answer_screen(alloc, writer, session),
+        Request::Screen => {
+            session.prepare();
+            answer_screen(alloc, writer, session)
+        }
         Request::Faults => put_faults(writer, session.world().faults()),
         Request::Commit => answer_commit(writer, session),
         Request::Checkpoint => answer_checkpoint(writer, session),

@@ -120,6 +120,13 @@ impl<D: Disk, M: Machine> Durable<D, M> {
         &self.world
     }
 
+    /// Finds what reading the state would find anew each time, and keeps it there, where memory serves. Nothing changes.
+    pub fn prepare(&mut self)
+        ensures stays { self.new ≡ self.old }
+    {
+        self.machine.prepare(&mut self.world);
+    }
+
     /// Whether a call of the disk failed. From then on nothing more is taken or put on the disk.
     pub fn has_failed(&self) -> bool
         ensures { result ≡ self.now.journal.failed }

@@ -29,6 +29,10 @@ pub trait Machine {
         ensures refused { IfErr result (λ why. RefusedAs why ((meaning self.now).step world.old input.now)) }
         ensures unchanged { OnErr result (world.new ≡ world.old) };
 
+    /// Finds what reading a state would find anew each time, and keeps it there, where memory serves. The state stays.
+    fn prepare(&self, world: &mut Self::World)
+        ensures stays { world.new ≡ world.old };
+
     /// The state before any input. Its spelling is shorter than 2^40 bytes.
     fn first(&self, alloc: Global) -> Result<Self::World, AllocError>
         ensures value { IfOk result (λ world. world ≡ (meaning self.now).first) }

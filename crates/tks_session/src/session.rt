@@ -115,6 +115,14 @@ impl<D: Disk, T: AppMeaning, B: AppBody> Session<D, T, B> {
         self.durable.world()
     }
 
+    /// Finds where the windows lie, where that isn't known, and keeps it for whoever reads the world next, where memory serves.
+    /// Nothing changes.
+    pub fn prepare(&mut self)
+        ensures stays { self.new ≡ self.old }
+    {
+        self.durable.prepare();
+    }
+
     /// Whether a call of the disk failed. From then on nothing more is taken or put on the disk.
     pub fn has_failed(&self) -> bool
         ensures { result ≡ self.now.journal.failed }

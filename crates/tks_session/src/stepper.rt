@@ -104,6 +104,11 @@ impl<T: AppMeaning, B: AppBody> Machine for Stepper<T, B> {
         }
     }
 
+    fn prepare(&self, world: &mut World) {
+        // Where memory is refused, whoever reads the world finds it anew.
+        let _ = world.lay_out();
+    }
+
     fn first(&self, alloc: Global) -> Result<World, AllocError> {
         // The names are those of commands.
         let _ = self.apps.commands();

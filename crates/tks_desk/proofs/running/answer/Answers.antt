@@ -30,9 +30,10 @@ returns-in-Unfit g c =
 pub returns-in-Screen : goal.returns-in-Screen
 returns-in-Screen g c =
     let s = c.args.session.now in
-    rw c.in-Screen.is
+    let writes = rw c.prepare.ensures.stays at c.answer_screen.ensures in
+    rw (c.in-Screen.is, c.prepare.ensures.stays)
     (written g.T.AppMeaning.meaning g.D.Disk.honest g.D.Disk.view g.D.Disk.failures s s [] refl refl (sym (append-nil s.waiting)) c.stands.ensures.images g.met.D.Disk.only_now
-    c.answer_screen.result _ _ _ _ c.answer_screen.ensures.writes (answers_so (setting_of g.T.AppMeaning.meaning s.machine) c.answer_screen.result Screen [] (standing s) (standing s) _ _ c.answer_screen.ensures))
+    c.answer_screen.result _ _ _ _ writes.writes (answers_so (setting_of g.T.AppMeaning.meaning s.machine) c.answer_screen.result Screen [] (standing s) (standing s) _ _ writes))
 
 pub returns-in-Faults : goal.returns-in-Faults
 returns-in-Faults g c =
