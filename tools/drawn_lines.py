@@ -13,7 +13,7 @@ WORDS = ('a b x y(1) y $a $x $y(1) ${x} 0 1 2 -1 08 '
          '-side left -fill both -textvariable -variable -command -expand -padx -state disabled normal -when tail head '
          'mark -data -time -x configure cget get insert delete index curselection selection activate names tag add '
          'remove ranges mark invoke toggle slaves propagate forget generate info exists cancel idle length range equal '
-         'else elseif . .a .b .e .l .t .a.c .a.c.d .L all Entry <Key-a> <1> <Double-1> <<V>> <<V> <Control-x> %W %x %% '
+         'else elseif idletasks . .a .b .e .l .t .a.c .a.c.d .L all Entry <Key-a> <1> <Double-1> <<V>> <<V> <Control-x> %W %x %% '
          '{*}$a {*} # ; ; ; ; \\n \\x41 \\ { } [ ] " $ ( ) + * / < ? && || == eq ! ~').split()
 WORDS += ['[set a]', '[incr x]', '{a b}', '{set a 1}', '{incr x}', '{$a < 9}', '"a b"', '"x $a"', '{incr n; lappend r $n}',
           '{event generate . <<V>>}', '{while 1 {}}', '{error boom}', '[list a {b c}]', '{p $a}', '{incr x; $w}', '{p}']
@@ -27,7 +27,8 @@ WHOLE = [
     'foreach i {1 2 3} {append s $i}; set s', 'for {set i 0} {$i < 99} {incr i} {lappend k $i}; llength $k', 'while 1 {}',
     'while 1 {append s $s$s}', 'append s 0123456789abcdef0123456789abcdef; string length $s', 'unset s',
     'catch {expr {1 / 0}} m', 'expr {$a * (3 - 1) + [llength {a b}]}', 'app.next', 'app.swap [app.next]', 'focus .l',
-    'bindtags .e {.e all}', 'error "a\\tb"',
+    'bindtags .e {.e all}', 'error "a\\tb"', 'update', 'update idletasks', 'after idle {incr n}; update; set n',
+    'after idle {update; error idle}',
 ]
 NUMBERS = ('0 1 2 3 4 5 7 9 10 19 20 63 64 99 100 255 256 1000 65535 65536 70000 007 000000000000000000000 0x10 1e3 -1 +1 1.5 '
            '4611686018427387903 4611686018427387904 9223372036854775807 18446744073709551616 9999999999999999999 '

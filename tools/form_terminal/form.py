@@ -1,11 +1,11 @@
-"""A form: a script with the size of its grid. What is wrong with one is told by its line."""
+"""A form: a script with the size of its grid, and its rules. What is wrong with one is told by its line."""
 import re
 from typing import NamedTuple
 
 from gaikyrumo import error_in_words, refusal_in_words, run
 
 MOST_BYTES = 1_048_576
-GRID = re.compile(r'on a grid of (\d+) by (\d+)')
+GRID = re.compile(r'on a grid of (\d+) by (\d+)(?:, by rules ([12]))?')
 
 
 class FormFault(Exception):
@@ -13,11 +13,12 @@ class FormFault(Exception):
 
 
 class Form(NamedTuple):
-    """A form: where its file is, its script, and the columns and rows of its grid."""
+    """A form: where its file is, its script, the columns and rows of its grid, and the rules by which it is run."""
 
     path: str
     script: str
     size: tuple
+    rules: int
 
 
 def read_form(path):
@@ -35,7 +36,7 @@ def read_form(path):
     size = int(found[1]), int(found[2])
     if not (1 <= size[0] <= 200 and 1 <= size[1] <= 100):
         raise FormFault('%s, line %d: a grid has 1 to 200 columns and 1 to 100 rows.' % (path, line_at(text, found.start())))
-    return Form(path, text, size)
+    return Form(path, text, size, int(found[3] or 1))
 
 
 def checked(path, script):
@@ -59,8 +60,15 @@ def line_at(text, place):
     return text.count('\n', 0, place) + 1
 
 
+def go_by_rules(session, form):
+    """Has a new store go by the rules of a form."""
+    if form.rules > 1:
+        session.line('rules %d' % form.rules)
+
+
 def load(session, form):
     """Loads a form into a new store, and commits it. Where it fails nothing is kept, and FormFault says why."""
+    go_by_rules(session, form)
     answer = session.script(form.script)
     if answer.kind == 'ok':
         session.commit()
@@ -87,5 +95,5 @@ def failing_line(program, form):
 def runs(program, form, lines):
     """Whether these lines of a form run in a store of their own."""
     script = '\n'.join(lines)
-    done = run(program, ('load %d\n%s\n' % (len(script), script)).encode(), size=form.size)
-    return bool(done.lines) and done.lines[0].startswith(b'ok ')
+    done = run(program, ('rules %d\nload %d\n%s\n' % (form.rules, len(script), script)).encode(), size=form.size)
+    return len(done.lines) == 2 and done.lines[1].startswith(b'ok ')

@@ -39,7 +39,7 @@ REFUSALS = {
     'depth': 'it opens more than 64 scripts in one another',
     'large': 'a text or a list would be longer than is allowed',
     'memory': 'memory is wanting',
-    'bad': 'there is no such key, button, cell, time or rules, or the script is too long',
+    'bad': 'there is no such key, button, cell, time or rules, rules would go back, or the script is too long',
     'clock': 'the time is before the present one',
     'pending': 'too much waits for a commit',
 }

@@ -1,15 +1,16 @@
 //! A second host of scripts.
 ghost use Rattle.std.specs.Prelude.{◌≡◌, IfOk};
-ghost use Rattle.tests_parts.specs.Counter.{script_in, counting};
+ghost use Rattle.tests_parts.specs.Counter.{script_in, waiting, rest_of, counting};
 
 use std::alloc::{AllocError, Global};
-use tks_eval::{Host, Plan};
+use tks_eval::{Due, Host, Plan};
 use tks_tcl::Stop;
 use tks_text::Txt;
 use tks_vars::Vars;
 
 /// A host with a count: `up` adds one to it, `zero` sets it to 0, and `top` does so and wants its word run at global
-/// level. A window is there while the count is below its number; a fault makes it 1000.
+/// level. A window is there while the count is below its number; a fault makes it 1000. Below that, as many things wait as
+/// it counts: `all` wants them done, and `idle` all but the last two.
 #[derive(Drop)]
 pub struct Counter {
     pub alloc: Global,
@@ -23,6 +24,30 @@ fn script_in(alloc: Global, words: &[Txt]) -> Result<Txt, AllocError>
     match words.first() {
         Some(script) => script.try_clone(),
         None => Ok(Txt::new(alloc)),
+    }
+}
+
+// The script of the next thing at a count.
+fn waiting(alloc: Global, count: u32) -> Result<Txt, AllocError>
+    ensures { IfOk result (λ script. script ≡ waiting count) }
+{
+    match count {
+        1 => Ok(Txt::new(alloc)),
+        5 => Txt::from_text(alloc, b"error e"),
+        6 => Txt::from_text(alloc, b"break"),
+        7 => Txt::from_text(alloc, b"return x"),
+        8 => Txt::from_text(alloc, b"all"),
+        _ => Txt::from_text(alloc, b"incr n"),
+    }
+}
+
+// The count at which nothing waits any more.
+fn rest_of(due: Due) -> u32
+    ensures { result ≡ rest_of due }
+{
+    match due {
+        Due::All => 0,
+        Due::Idle => 2,
     }
 }
 
@@ -56,6 +81,12 @@ impl Host for Counter {
             self.count = 0;
             return Ok(Some(Plan::Eval(script_in(self.alloc, rest)?)));
         }
+        if name.as_bytes() == b"all".as_slice() {
+            return Ok(Some(Plan::Update(Due::All)));
+        }
+        if name.as_bytes() == b"idle".as_slice() {
+            return Ok(Some(Plan::Update(Due::Idle)));
+        }
         Ok(None)
     }
 
@@ -72,5 +103,17 @@ impl Host for Counter {
     fn fault(&mut self, _text: &Txt) -> Result<(), Stop> {
         self.count = 1000;
         Ok(())
+    }
+
+    fn next(&mut self, due: Due) -> Result<Option<Plan>, Stop> {
+        if self.count <= rest_of(due) || self.count >= 1000 {
+            return Ok(None);
+        }
+        if self.count == 20 {
+            return Err(Stop::TooLarge);
+        }
+        let script = waiting(self.alloc, self.count)?;
+        self.count -= 1;
+        Ok(Some(Plan::Eval(script)))
     }
 }

@@ -84,6 +84,24 @@ foreach x {1 2} {return $x} => 2 1\n\
 for {} 1 {continue} {} => 4 "
 }
 
+// What this project's rules make of what waits in the host: each thing runs at global level, whatever it ends with, an error
+// joins the faults, and the next one is asked for then.
+fn rows_of_updates() -> &'static str {
+    "all => 0 \n\
+up; all; set n 0 => 0 0\n\
+up; up; up; all; set n => 0 2\n\
+up; up; up; up; idle; set n => 0 2\n\
+up; up; idle; info exists n => 0 0\n\
+proc f {} {set n 7; up; up; all; set n}; list [f] $n => 0 7 1\n\
+list [all] x => 0 {} x\n\
+foreach x {1 2 3 4 5} up; all; info exists n => 0 0\n\
+foreach x {1 2 3 4 5 6} up; all; all; up; info exists n => 0 0\n\
+foreach x {1 2 3 4 5 6 7 8 9} up; all; set n => 0 1\n\
+for {set i 0} {$i < 21} {incr i} {up}; all => too large\n\
+for {set i 0} {$i < 21} {incr i} {up}; catch all => too large\n\
+for {set i 0} {$i < 1001} {incr i} {up}; all; info exists n => 0 0"
+}
+
 #[test]
 fn scripts_on_a_second_host(rt: HostRuntime) {
     let limits = Limits::format1();
@@ -91,6 +109,9 @@ fn scripts_on_a_second_host(rt: HostRuntime) {
         assert_eq!(rt; ends_so(rt.alloc(), row, &limits), Some(true), "at {row}");
     }
     for row in own_rows().lines() {
+        assert_eq!(rt; ends_so(rt.alloc(), row, &limits), Some(true), "at {row}");
+    }
+    for row in rows_of_updates().lines() {
         assert_eq!(rt; ends_so(rt.alloc(), row, &limits), Some(true), "at {row}");
     }
 }
@@ -116,6 +137,9 @@ eval list 12345678 => too large\n\
 set a 1; set b 2; set c 3 => too large\n\
 proc f {} {}; proc g {} {}; proc h {} {} => too large\n\
 proc f {a b c} {}; f 1 2 3 => too large\n\
+up; all => 0 \n\
+up; up; all => out of steps\n\
+catch {up; up; all} => out of steps\n\
 top {up; up} => 0 \n\
 top {up; up; up} => out of steps\n\
 top {top {}} => 0 \n\
@@ -159,21 +183,43 @@ fn counts(alloc: Global) -> Option<bool> {
     Some(fuel == 9_994 && host.count == 3 && is_there && owned)
 }
 
+// The count and the steps left behind a script.
+fn left_behind(alloc: Global, script: &str) -> Option<(u32, u64)> {
+    let mut host = Counter { alloc, count: 0 };
+    let script = Txt::from_bytes(alloc, script.as_bytes()).ok()?;
+    let ended = ended(alloc, &mut host, &script, &Limits::format1()).ok()?;
+    Some((host.count, ended.fuel))
+}
+
+// Worked out by hand: each thing is a step before its script runs, which an empty one hasn't; a fault makes the count 1000.
+const UPDATES: [(&str, u32, u64); 6] = [
+    ("all", 0, 9_999),
+    ("up; all", 0, 9_997),
+    ("up; up; up; all", 0, 9_991),
+    ("up; up; up; idle", 2, 9_994),
+    ("foreach x {1 2 3 4 5} up; all", 1000, 9_986),
+    ("foreach x {1 2 3 4 5 6 7} up; all", 1000, 9_980),
+];
+
+#[test]
+fn things_that_wait_take_steps(rt: HostRuntime) {
+    for (script, count, left) in UPDATES {
+        assert_eq!(rt;
+            left_behind(rt.alloc(), script),
+            Some((count, left)),
+            "at {script}"
+        );
+    }
+}
+
 #[test]
 fn steps_and_states_are_counted(rt: HostRuntime) {
     assert_eq!(rt; counts(rt.alloc()), Some(true));
 }
 
-// The count and the steps left behind the scripts of an event, ` | ` between them, for the window of a number.
-fn dispatched(alloc: Global, window: u64, scripts: &str) -> Option<(u32, u64)> {
-    let mut chosen = Seq::new(alloc);
-    for script in scripts.split(" | ") {
-        chosen
-            .push(Txt::from_bytes(alloc, script.as_bytes()).ok()?)
-            .ok()?;
-    }
+// The count and the steps left behind a thing that waited, by its plan, where it ends with code 0 and the empty text.
+fn done(alloc: Global, plan: Plan) -> Option<(u32, u64)> {
     let mut host = Counter { alloc, count: 0 };
-    let plan = Plan::Dispatch(window, chosen);
     let limits = Limits::format1();
     let mut parsed = ParseTable::new(alloc);
     let ended = eval_plan(
@@ -190,6 +236,23 @@ fn dispatched(alloc: Global, window: u64, scripts: &str) -> Option<(u32, u64)> {
     } else {
         None
     }
+}
+
+// The same of the scripts of an event, ` | ` between them, for the window of a number.
+fn dispatched(alloc: Global, window: u64, scripts: &str) -> Option<(u32, u64)> {
+    let mut chosen = Seq::new(alloc);
+    for script in scripts.split(" | ") {
+        chosen
+            .push(Txt::from_bytes(alloc, script.as_bytes()).ok()?)
+            .ok()?;
+    }
+    done(alloc, Plan::Dispatch(window, chosen))
+}
+
+// The same of a script.
+fn run_later(alloc: Global, script: &str) -> Option<(u32, u64)> {
+    let script = Txt::from_bytes(alloc, script.as_bytes()).ok()?;
+    done(alloc, Plan::Eval(script))
 }
 
 // Worked out by hand from the rule: each script is a step, `break` and a window that is gone end them, an error joins
@@ -212,6 +275,26 @@ fn scripts_of_an_event(rt: HostRuntime) {
             dispatched(rt.alloc(), window, scripts),
             Some((count, left)),
             "at {scripts}"
+        );
+    }
+}
+
+// Worked out by hand from the rule: it ends as a script at top level, and an error joins the faults.
+const LATER: [(&str, u32, u64); 5] = [
+    ("up", 1, 9_999),
+    ("up; return x; up", 1, 9_998),
+    ("up; error e", 1000, 9_998),
+    ("up; break", 1000, 9_998),
+    ("up; continue", 1000, 9_998),
+];
+
+#[test]
+fn scripts_that_waited(rt: HostRuntime) {
+    for (script, count, left) in LATER {
+        assert_eq!(rt;
+            run_later(rt.alloc(), script),
+            Some((count, left)),
+            "at {script}"
         );
     }
 }

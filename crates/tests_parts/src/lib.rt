@@ -14,7 +14,11 @@ mod counter;
 #[cfg(test)]
 mod evaluation;
 #[cfg(test)]
+mod items_trial;
+#[cfg(test)]
 mod lines;
+#[cfg(test)]
+mod lines_trial;
 #[cfg(test)]
 mod listboxes;
 #[cfg(test)]
@@ -25,6 +29,8 @@ mod options;
 mod packings;
 #[cfg(test)]
 mod plain;
+#[cfg(test)]
+mod plain_lines;
 #[cfg(test)]
 mod plain_queue;
 #[cfg(test)]

@@ -1,7 +1,10 @@
-//! Text widgets made again from what they had, and the ranges of tags.
+//! Text widgets made again from what they had, the ranges of tags, and random commands beside plain lists.
 
+use crate::lines_trial::command_agrees;
+use crate::plain_lines::PlainLines;
 use crate::texts::text;
 use std::alloc::Global;
+use tests_disk::Dice;
 use tks_lines::{Flags, Mark, Range, Tag, TextWidget};
 use tks_opt::Options;
 use tks_text::{Class, Seq};
@@ -104,4 +107,28 @@ fn text_widgets(rt: HostRuntime) {
         Some(false)
     );
     assert_eq!(rt; is_made_of(rt.alloc(), Class::Entry), Some(false));
+}
+
+// Gives a new text widget and plain lists so many random commands, up to the first behind which they differ.
+fn agrees_for(alloc: Global, seed: u64, commands: usize) -> Option<usize> {
+    let mut dice = Dice::new(seed);
+    let mut widget = TextWidget::new(alloc, &text(alloc, ".t")?).ok()?;
+    let mut plain = PlainLines::new(alloc)?;
+    let mut near = 0;
+    for command in 0..commands {
+        let (agrees, place) = command_agrees(alloc, &mut widget, &mut plain, near, &mut dice)?;
+        if !agrees {
+            return Some(command);
+        }
+        near = place;
+    }
+    Some(commands)
+}
+
+#[test]
+fn text_widgets_do_what_plain_lists_do(rt: HostRuntime) {
+    for seed in 0..12 {
+        let agreed = agrees_for(rt.alloc(), seed, 150);
+        assert_eq!(rt; agreed, Some(150), "seed {seed}");
+    }
 }

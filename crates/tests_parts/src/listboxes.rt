@@ -1,7 +1,9 @@
-//! Listboxes made again from what they had.
+//! Listboxes made again from what they had, and random commands beside a plain list.
 
+use crate::items_trial::{PlainItems, items_command_agrees};
 use crate::texts::text;
 use std::alloc::Global;
+use tests_disk::Dice;
 use tks_listbox::{Item, ListWidget};
 use tks_opt::Options;
 use tks_share::SharedList;
@@ -66,4 +68,25 @@ fn listboxes(rt: HostRuntime) {
     assert_eq!(rt; is_made(rt.alloc(), Class::Text, 0), Some(false));
     assert!(rt; is_made_empty(rt.alloc(), 0));
     assert!(rt; !is_made_empty(rt.alloc(), 1));
+}
+
+// Gives a new listbox and a plain list so many random commands, up to the first behind which they differ.
+fn agrees_for(alloc: Global, seed: u64, commands: usize) -> Option<usize> {
+    let mut dice = Dice::new(seed);
+    let mut listbox = ListWidget::new(alloc, &text(alloc, ".l")?).ok()?;
+    let mut plain = PlainItems::new(alloc);
+    for command in 0..commands {
+        if !items_command_agrees(alloc, &mut listbox, &mut plain, &mut dice)? {
+            return Some(command);
+        }
+    }
+    Some(commands)
+}
+
+#[test]
+fn listboxes_do_what_plain_lists_do(rt: HostRuntime) {
+    for seed in 0..20 {
+        let agreed = agrees_for(rt.alloc(), seed, 150);
+        assert_eq!(rt; agreed, Some(150), "seed {seed}");
+    }
 }

@@ -1,4 +1,4 @@
-//! Keys, buttons, the clock and turns: what limits and want of memory leave of them.
+//! Keys, buttons, the clock, turns and `update`: what limits and want of memory leave of them.
 
 use crate::nothing::Nothing;
 use crate::worlds::{first_world, shown};
@@ -50,6 +50,9 @@ pub fn input_of(alloc: Global, row: &str) -> Option<Input> {
     if kind == "turn" {
         return Some(Input::Turn);
     }
+    if kind == "rules" {
+        return Some(Input::Rules(u8::try_from(next_number(&mut words)?).ok()?));
+    }
     Some(Input::Script(Txt::from_bytes(alloc, row.as_bytes()).ok()?))
 }
 
@@ -59,6 +62,7 @@ fn refusal(refused: Refused) -> &'static [u8] {
         Refused::BadInput => b"bad",
         Refused::ClockBack => b"clock",
         Refused::Budget => b"budget",
+        Refused::Depth => b"depth",
         Refused::TooLarge => b"large",
         Refused::NoMemory => b"memory",
         Refused::Quiet => b"quiet",
@@ -207,4 +211,104 @@ fn limits_of_events_are_kept(rt: HostRuntime) {
         ("keyup a", "large"),
     ];
     assert_eq!(rt; differing(rt.alloc(), &limits, &rows), "none");
+}
+
+// By which rules a world goes, and `update` by the second ones: where it runs what waits, what that leaves of the scripts
+// around it, and how it ends. The timer that isn't due stays.
+const UPDATES: [(&str, &str); 28] = [
+    ("catch {update}", "1 0 1"),
+    ("proc update {} {return mine}; update", "2 0 mine"),
+    ("rules 3", "bad"),
+    ("rules 0", "bad"),
+    ("rules 1", "3 0 "),
+    ("rules 2", "4 0 "),
+    ("rules 1", "bad"),
+    ("rules 2", "5 0 "),
+    ("after idle {set a 1}; update; set a", "6 0 1"),
+    ("proc update {} {}", "7 1 E17 update"),
+    ("update x", "8 1 E10 update"),
+    ("update idletasks x", "9 1 E10 update"),
+    ("list [update] [update idletasks]", "10 0 {} {}"),
+    (
+        "proc f {} {set x 1; after idle {set x 2}; update; set x}; list [f] $x",
+        "11 0 1 2",
+    ),
+    (
+        "foreach i {1 2} {after idle break; update; lappend q $i}; set q",
+        "12 0 1 2",
+    ),
+    (
+        "after idle {after idle {lappend r b}; update; lappend r a}; after idle {lappend r c}; update; set r",
+        "13 0 c b a",
+    ),
+    ("after 5 {set t 1}; update; info exists t", "14 0 0"),
+    (
+        "bind . <<W>> {lappend s w}; bind all <<V>> {lappend s old}",
+        "15 0 ",
+    ),
+    (
+        "bind . <<V>> {lappend s 1; bind all <<V>> {lappend s new}; event generate . <<W>> -when tail; update; lappend s 2}",
+        "16 0 ",
+    ),
+    ("event generate . <<V>>; set s", "17 0 1 w 2 old"),
+    (
+        "frame .f; bind Frame <<V>> {lappend g late}; bind . <<W>> {destroy .f}",
+        "18 0 ",
+    ),
+    (
+        "bind .f <<V>> {event generate . <<W>> -when tail; update; lappend g after}; event generate .f <<V>>; set g",
+        "19 0 after",
+    ),
+    (
+        "after idle {error e}; after idle {set h 1; return x}; update; set h",
+        "20 0 1",
+    ),
+    ("turn", "quiet"),
+    (
+        "after idle {set k 1}; after 0 {set k 2}; update idletasks; set k",
+        "21 0 1",
+    ),
+    ("turn", "22 0 timer after#11"),
+    ("set k", "23 0 2"),
+    ("turn", "quiet"),
+];
+
+#[test]
+fn update_does_what_waits(rt: HostRuntime) {
+    let limits = Limits::format1();
+    assert_eq!(rt; differing(rt.alloc(), &limits, &UPDATES), "none");
+}
+
+// `update idletasks` leaves the event and the timer, which `update` then does in the order of turns.
+const IN_ORDER: [(&str, &str); 2] = [
+    ("rules 2", "1 0 "),
+    (
+        "bind . <<V>> {lappend r v}; after idle {lappend r i}; after 0 {lappend r t}; event generate . <<V>> -when tail; update idletasks; lappend r x; update; set r",
+        "2 0 i x v t",
+    ),
+];
+
+// What never ends is refused as a whole, whatever was done.
+const ENDLESS: [(&str, &str); 6] = [
+    ("rules 2", "1 0 "),
+    ("proc l {} {after idle l}; l; update", "budget"),
+    ("proc l {} {after idle l}; l; catch update", "budget"),
+    (
+        "bind . <<V>> {event generate . <<V>> -when tail; update}; event generate . <<V>>",
+        "depth",
+    ),
+    ("info exists l; after info", "2 0 "),
+    ("bind .", "3 0 "),
+];
+
+#[test]
+fn update_goes_by_the_order_of_turns(rt: HostRuntime) {
+    let limits = Limits::format1();
+    assert_eq!(rt; differing(rt.alloc(), &limits, &IN_ORDER), "none");
+}
+
+#[test]
+fn updates_that_never_end_are_refused(rt: HostRuntime) {
+    let limits = Limits::format1();
+    assert_eq!(rt; differing(rt.alloc(), &limits, &ENDLESS), "none");
 }

@@ -3,10 +3,9 @@ use Rattle.std.proofs.Common.{◌≡◌, ℕ, zero, suc, Bool, true, false, ◌|
 use Rattle.std.specs.Ordering.{is_lt, nat_cmp, ordering_reverse}
 use Rattle.std.specs.Cmp.Lexicographic.{slice_cmp, bytes_decides}
 use Rattle.std.proofs.lemmas.Cmp.{nat_list_cmp_total}
-use Rattle.std.proofs.lemmas.List.{length-map}
 use Rattle.std.proofs.lemmas.Map.Lookups.{exact_bytes}
 use Rattle.tks_text.specs.Text.{same_text}
-use Rattle.tks_app.specs.Applications.{Command, command_names, has, comes_before, place_for, in_place, Leads, AreNames, Joins}
+use Rattle.tks_app.specs.Applications.{has, comes_before, place_for, in_place, Leads, AreNames, Joins}
 
 either_false : (b c : Bool) → (b || c) ≡ false → (b ≡ false) × (c ≡ false)
 either_false false c h = (refl, h)
@@ -59,14 +58,3 @@ longer name (other ∷ names) = by (comes_before name other) (longer name names)
     by : (b : Bool) → length (in_place name names) ≡ suc (length names) → length (if b then name ∷ other ∷ names else other ∷ in_place name names) ≡ suc (suc (length names))
     by true rest = refl
     by false rest = ap suc rest
-
--- a command has one name
-pub names_length : {B : Type 0} (commands : List (Command B)) → length (command_names commands) ≡ length commands
-names_length commands = length-map commands (λ c. c.name)
-
--- with a command at a place, its name is there
-pub names_put : {B : Type 0} (commands : List (Command B)) (place : ℕ) (command : Command B) → command_names (insert commands place command) ≡ insert (command_names commands) place command.name
-names_put [] zero command = refl
-names_put [] (suc place) command = refl
-names_put (other ∷ commands) zero command = refl
-names_put (other ∷ commands) (suc place) command = ap (λ ns. other.name ∷ ns) (names_put commands place command)

@@ -1,2 +1,3 @@
 pub mod Firsts
 mod Joining
+mod Keyed

@@ -5,12 +5,13 @@ ghost use Rattle.tks_app.specs.Applications.{command_names, is_name_byte, is_nam
 ghost use Rattle.tks_app.specs.declared.apps.AddRefusal.TheVariants.{NoMemory};
 
 use crate::{AppAnswer, AppBody, AppClosure, AppCommand, AppMeaning};
+use indexmap::IndexMap;
 use std::alloc::{AllocError, Global};
 use std::fmt;
 use std::marker::Model;
 use thiserror::Error;
 use tks_tcl::is_built_in;
-use tks_text::{Seq, Txt, begins_dot};
+use tks_text::{Seq, Txt, begins_dot, texts_again};
 
 /// How many bytes a name has at most.
 const NAME_LEN: usize = 64;
@@ -88,7 +89,8 @@ impl<T: AppMeaning, B: AppBody> fmt::Debug for AddFault<T, B> {
 /// their bytes.
 #[derive(Drop)]
 pub struct Apps<T: AppMeaning, B: AppBody = AppClosure> {
-    commands: Vec<AppCommand<T, B>>,
+    // Each under its name, in the order of their names.
+    commands: IndexMap<Txt, AppCommand<T, B>>,
 }
 
 impl<T: AppMeaning, B: AppBody> Model for Apps<T, B> {
@@ -99,12 +101,13 @@ impl<T: AppMeaning, B: AppBody> Model for Apps<T, B> {
 
     ghost coded = { coded_list (coded_list coded_ℕ) };
 
-    ghost use Rattle.std.specs.Prelude.{◌<◌, ◌^◌, length};
+    ghost use Rattle.std.specs.Prelude.{◌≡◌, ◌<◌, ◌^◌, length};
+    ghost use Rattle.indexmap.specs.IndexMap.{keys, values};
     ghost use Rattle.tks_app.specs.Applications.{command_names, AreNames};
 
-    ghost view = { λ a. command_names a.commands.items };
+    ghost view = { λ a. keys a.commands };
 
-    ghost invariant = { λ a. AreNames (command_names a.commands.items) × (length (command_names a.commands.items) < 2 ^ 32) };
+    ghost invariant = { λ a. AreNames (keys a.commands) × (length (keys a.commands) < 2 ^ 32) × (command_names (values a.commands) ≡ keys a.commands) };
 }
 
 impl<T: AppMeaning, B: AppBody> Apps<T, B> {
@@ -113,7 +116,7 @@ impl<T: AppMeaning, B: AppBody> Apps<T, B> {
         ensures { result ≡ [] }
     {
         Apps {
-            commands: Vec::new(alloc),
+            commands: IndexMap::new(alloc),
         }
     }
 
@@ -123,18 +126,14 @@ impl<T: AppMeaning, B: AppBody> Apps<T, B> {
         ensures names { AreNames self.now }
         ensures count { length self.now < 2 ^ 32 }
     {
-        &self.commands
+        self.commands.values().as_slice()
     }
 
     /// Their names, in order.
     pub fn names(&self, alloc: Global) -> Result<Seq<Txt>, AllocError>
         ensures { IfOk result (λ names. names ≡ self.now) }
     {
-        let mut names = Seq::new(alloc);
-        for command in &self.commands {
-            names.push(command.name().try_clone()?)?;
-        }
-        Ok(names)
+        texts_again(alloc, self.commands.keys().as_slice())
     }
 
     // The command of a name.
@@ -142,14 +141,7 @@ impl<T: AppMeaning, B: AppBody> Apps<T, B> {
         ensures found { IfSome result (λ command. command.now.name ≡ name.now) }
         ensures there { is_some result ≡ has self.now name.now }
     {
-        let mut rest = self.commands.as_slice();
-        while let Some((command, behind)) = rest.split_first() {
-            if command.name().as_bytes() == name.as_bytes() {
-                return Some(command);
-            }
-            rest = behind;
-        }
-        None
+        self.commands.get(name)
     }
 
     /// Whether a command has this name.
@@ -165,9 +157,9 @@ impl<T: AppMeaning, B: AppBody> Apps<T, B> {
         ensures bound { result ≤ length self.now }
     {
         let mut place = 0;
-        let mut rest = self.commands();
-        while let Some((command, behind)) = rest.split_first() {
-            if comes_before(name, command.name()) {
+        let mut rest = self.commands.keys().as_slice();
+        while let Some((other, behind)) = rest.split_first() {
+            if comes_before(name, other) {
                 return place;
             }
             place += 1;
@@ -178,7 +170,7 @@ impl<T: AppMeaning, B: AppBody> Apps<T, B> {
 
     /// Adds a command, in the place of its name. One that doesn't join is itself handed back, with the reason; so is one
     /// beyond 2^32 - 1, as for want of memory.
-    #[tactic(auto, using(crate::proofs::Joining::names_length))]
+    #[tactic(auto, using(crate::proofs::Keyed::keys_length))]
     pub fn add(&mut self, command: AppCommand<T, B>) -> Result<(), AddFault<T, B>>
         ensures ok { OnOk result (self.new ≡ with_name command self.old) }
         ensures joins { OnOk result (Joins self.old command.name) }
@@ -208,7 +200,7 @@ impl<T: AppMeaning, B: AppBody> Apps<T, B> {
     }
 
     // Puts a command in the place of its name.
-    #[tactic(auto, using(crate::proofs::Joining::names_length))]
+    #[tactic(auto, using(crate::proofs::Keyed::keys_length))]
     fn put(&mut self, command: AppCommand<T, B>) -> Result<(), AddFault<T, B>>
         requires joins { Joins self.old command.name }
         requires room { length self.old < 2 ^ 32 - 1 }
@@ -217,9 +209,16 @@ impl<T: AppMeaning, B: AppBody> Apps<T, B> {
         ensures handed_back { IfErr result (λ fault. (fault.command ≡ command) × (fault.why ≡ NoMemory)) }
     {
         let place = self.place_for(command.name());
-        if let Err(refused) = self.commands.insert(place, command) {
+        let Ok(name) = command.name().try_clone() else {
             return Err(AddFault {
-                command: refused.value,
+                command,
+                why: AddRefusal::NoMemory,
+            });
+        };
+        if let Err(refused) = self.commands.shift_insert(place, name, command) {
+            let (_, command) = refused.value;
+            return Err(AddFault {
+                command,
                 why: AddRefusal::NoMemory,
             });
         }

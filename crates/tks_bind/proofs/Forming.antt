@@ -1,12 +1,10 @@
 -- Bindings differ, whatever is done to them.
 use Rattle.std.specs.Bool as tests
-use Rattle.std.specs.Borrow.{Bor}
 use Rattle.std.specs.Cmp.Lexicographic.{bytes_decides}
-use Rattle.std.specs.Prelude.{◌||◌, not, nat_lt, Result, Ok, Err, OnOk, OnErr}
-use Rattle.std.specs.List.{list_all, filter, remove}
-use Rattle.std.proofs.Common.{◌≡◌, ℕ, ◌+◌, ◌==◌, Bool, true, false, cond, List, [], ◌∷◌, refl, sym, true≢false, arith}
+use Rattle.std.specs.Prelude.{◌||◌, not, nat_lt}
+use Rattle.std.specs.List.{list_all, remove}
+use Rattle.std.proofs.Common.{◌≡◌, ℕ, ◌+◌, ◌==◌, Bool, true, false, List, [], ◌∷◌, refl, sym, true≢false, arith}
 use Rattle.std.proofs.lemmas.Bool.Decides.{Decides-and, nat_tests}
-use Rattle.tks_share.specs.Lists.{Says, Decides}
 use Rattle.tks_text.proofs.Texts.{both}
 use Rattle.tks_text.specs.Text.{same_text}
 use Rattle.tks_event.specs.Equality.{equal_patterns}
@@ -15,7 +13,7 @@ use Rattle.tks_event.proofs.Equal.{equal_so}
 use Rattle.tks_bind.specs.declared.binding.Binding.{Binding}
 use Rattle.tks_bind.specs.Binding.{is_for, placed}
 use Rattle.tks_bind.specs.Distinct.{all_differ}
-use Rattle.tks_bind.specs.WellFormed.{differ, are_bindings, others_are_below, AreBindings}
+use Rattle.tks_bind.specs.WellFormed.{differ, are_bindings, others_are_below}
 use Rattle.tks_bind.proofs.Differing.{join, all_removed, differ_removed}
 
 -- whether numbers are below one
@@ -112,37 +110,6 @@ pub removed_differ : (next : ℕ) (bs : List Binding) (i : ℕ) → are_bindings
 removed_differ next bs i h =
     let all = both (are_below next bs) (all_differ differ bs) h in
     join (are_below next (remove bs i)) (all_differ differ (remove bs i)) (all_removed (λ b. nat_lt b.number next) bs i all.0) (differ_removed differ bs i all.1)
-
-all_kept : (test p : Binding → Bool) (bs : List Binding) → list_all test bs ≡ true → list_all test (filter p bs) ≡ true
-all_kept test p [] h = refl
-all_kept test p (c ∷ cs) h = by (p c) (both (test c) (list_all test cs) h) (all_kept test p cs)
-  where
-    by : (t : Bool) → (test c ≡ true) × (list_all test cs ≡ true) → (list_all test cs ≡ true → list_all test (filter p cs) ≡ true)
-        → list_all test (cond t (c ∷ filter p cs) (filter p cs)) ≡ true
-    by true h rest = join (test c) (list_all test (filter p cs)) h.0 (rest h.1)
-    by false h rest = rest h.1
-
-differ_kept : (p : Binding → Bool) (bs : List Binding) → all_differ differ bs ≡ true → all_differ differ (filter p bs) ≡ true
-differ_kept p [] h = refl
-differ_kept p (c ∷ cs) h = by (p c) (both (list_all (differ c) cs) (all_differ differ cs) h) (differ_kept p cs)
-  where
-    by : (t : Bool) → (list_all (differ c) cs ≡ true) × (all_differ differ cs ≡ true) → (all_differ differ cs ≡ true → all_differ differ (filter p cs) ≡ true)
-        → all_differ differ (cond t (c ∷ filter p cs) (filter p cs)) ≡ true
-    by true h rest = join (list_all (differ c) (filter p cs)) (all_differ differ (filter p cs)) (all_kept (differ c) p cs h.0) (rest h.1)
-    by false h rest = rest h.1
-
--- some are taken out
-kept_differ : (next : ℕ) (p : Binding → Bool) (bs : List Binding) → are_bindings next bs ≡ true → are_bindings next (filter p bs) ≡ true
-kept_differ next p bs h =
-    let all = both (are_below next bs) (all_differ differ bs) h in
-    join (are_below next (filter p bs)) (all_differ differ (filter p bs)) (all_kept (λ b. nat_lt b.number next) p bs all.0) (differ_kept p bs all.1)
-
--- those that a test leaves are such as there are, and so are all where nothing was changed
-pub stay_bindings : {A E : Type 0} {says : Bor Binding → Bool → Type 0} → Decides says → (r : Result A E) (next : ℕ) (old now : List Binding)
-    → AreBindings (record { bindings = old; next = next }) → OnOk r ((p : Binding → Bool) → Says says p → now ≡ filter p old) → OnErr r (now ≡ old)
-    → AreBindings (record { bindings = now; next = next })
-stay_bindings d (Ok a) next old now h ok err = record { next = h.next; bindings = rw (ok d.test d.so) (kept_differ next d.test old h.bindings) }
-stay_bindings d (Err e) next old now h ok err = rw err h
 
 -- ---- which number is the greatest
 

@@ -21,7 +21,7 @@ use Rattle.tks_bind.proofs.Grouping.{no_groups}
 use Rattle.tks_bind.proofs.Members.{all_at}
 
 -- what is of a tag and a sequence is found as these are
-found_alike : (t : List ℕ) (e : Key) (tag : List ℕ) (q : List Pattern) (c : Binding) → is_for tag q c ≡ true → is_under t e c ≡ is_found_by t e tag q
+pub found_alike : (t : List ℕ) (e : Key) (tag : List ℕ) (q : List Pattern) (c : Binding) → is_for tag q c ≡ true → is_under t e c ≡ is_found_by t e tag q
 found_alike t e tag q c h =
     let two = both (same_text c.tag tag) (equal_patterns c.sequence q) h in
     ap (λ x. is_found_by t e x c.sequence) ((bytes_decides c.tag tag).0 two.0) ∙ ap (λ x. is_found_by t e tag x) ((equal_so c.sequence q).0 two.1)
@@ -117,7 +117,7 @@ placed_next (c ∷ bs) (suc i) b h e =
     let more : suc i + 1 ≡ suc (i + 1) = omega arith in
     rw (more, other_one c b (differs_at c bs i b two.0 e)) (ap (λ l. c ∷ l) (placed_next bs i b two.1 e))
 
-kept_next : (p : Binding → Bool) (done : List Binding) (b : Binding) (rest : List Binding) → p b ≡ true → filter p (done ++ b ∷ []) ++ rest ≡ filter p done ++ b ∷ rest
+pub kept_next : (p : Binding → Bool) (done : List Binding) (b : Binding) (rest : List Binding) → p b ≡ true → filter p (done ++ b ∷ []) ++ rest ≡ filter p done ++ b ∷ rest
 kept_next p [] b rest h = rw h refl
 kept_next p (c ∷ done) b rest h = by (p c) (kept_next p done b rest h)
   where
@@ -126,7 +126,7 @@ kept_next p (c ∷ done) b rest h = by (p c) (kept_next p done b rest h)
     by true e = ap (λ l. c ∷ l) e
     by false e = e
 
-gone_next : (p : Binding → Bool) (done : List Binding) (b : Binding) (rest : List Binding) → p b ≡ false → all_differ differ (done ++ b ∷ rest) ≡ true
+pub gone_next : (p : Binding → Bool) (done : List Binding) (b : Binding) (rest : List Binding) → p b ≡ false → all_differ differ (done ++ b ∷ rest) ≡ true
     → filter p (done ++ b ∷ []) ++ rest ≡ without b.tag b.sequence (filter p done ++ b ∷ rest)
 gone_next p [] b rest h apart = rw (h, itself b) refl
 gone_next p (c ∷ done) b rest h apart =
@@ -139,19 +139,6 @@ gone_next p (c ∷ done) b rest h apart =
     by false k e = e
 
 -- ---- the groups
-
-module _ (p : Binding → Bool) (m : Map (Map (Map (List Binding)))) (done : List Binding) (b : Binding) (rest left : List Binding) (steps : left ≡ b ∷ rest) where
-  -- of those so far the next one stays
-  pub kept_on : p b ≡ true → Groups m (filter p done ++ left) → Groups m (filter p (done ++ b ∷ []) ++ rest)
-  kept_on h groups = subst (Groups m) (sym (kept_next p done b rest h)) (subst (λ l. Groups m (filter p done ++ l)) steps groups)
-
-  -- or it goes
-  pub gone_on : (made : Map (Map (Map (List Binding)))) → p b ≡ false → all_differ differ (done ++ left) ≡ true → ((bs : List Binding) → Groups m bs → Groups made (without b.tag b.sequence bs))
-      → Groups m (filter p done ++ left) → Groups made (filter p (done ++ b ∷ []) ++ rest)
-  gone_on made h apart less groups =
-      let differing = subst (λ l. all_differ differ (done ++ l) ≡ true) steps apart in
-      let before = subst (λ l. Groups m (filter p done ++ l)) steps groups in
-      subst (Groups made) (sym (gone_next p done b rest h differing)) (less (filter p done ++ b ∷ rest) before)
 
 pub none_grouped : Groups map.empty []
 none_grouped t e = no_groups map.empty t e (map.get-empty order t)

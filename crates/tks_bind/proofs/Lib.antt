@@ -25,3 +25,5 @@ mod VirtualForming
 mod Bounded
 mod Pieces
 mod Others
+mod Counting
+mod Numbering

@@ -16,6 +16,7 @@ pub mod Ways
 pub mod Choosing
 pub mod Endings
 pub mod Groups
+pub mod Places
 pub mod Throughs
 pub mod Ends
 pub mod Passes

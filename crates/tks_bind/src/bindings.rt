@@ -11,6 +11,7 @@ ghost use Rattle.tks_bind.specs.Distinct.{all_differ};
 ghost use Rattle.tks_bind.specs.Endings.{ending_seen, is_under};
 ghost use Rattle.tks_bind.specs.Groups.{Groups};
 ghost use Rattle.tks_bind.specs.Indexes.{index_of};
+ghost use Rattle.tks_bind.specs.Places.{numbers_of};
 ghost use Rattle.tks_bind.specs.declared.binding.Binding.{Binding};
 ghost use Rattle.tks_bind.specs.WellFormed.{differ, are_bindings, others_are_below, AreBindings};
 
@@ -19,8 +20,9 @@ use crate::ending::Ending;
 use crate::fault::BindFault;
 use crate::history::History;
 use crate::passes::Passes;
+use crate::places::Places;
 use crate::scene::Scene;
-use crate::tag_groups::{TagGroups, group_of, with_binding, without_binding};
+use crate::tag_groups::{TagGroups, group_of, held_for, with_binding, without_binding};
 use crate::virtuals::Virtuals;
 use std::alloc::{AllocError, Global};
 use std::marker::Model;
@@ -34,6 +36,8 @@ pub struct Bindings {
     bindings: SharedList<Binding>,
     // The same ones, by their tags and the endings of their sequences.
     tags: TagGroups,
+    // The places of their numbers.
+    places: Places,
     next: u64,
 }
 
@@ -44,6 +48,7 @@ impl Drop for Bindings {
             alloc: _,
             bindings: _,
             tags: _,
+            places: _,
             next: _,
         } = self;
     }
@@ -56,10 +61,9 @@ impl Model for Bindings {
 
     ghost view = { λ b. record { bindings = b.bindings; next = b.next } };
 
-    ghost use Rattle.tks_bind.specs.WellFormed.{AreBindings};
-    ghost use Rattle.tks_bind.specs.Groups.{Groups};
+    ghost use Rattle.tks_bind.specs.Places.{AreIndexed};
 
-    ghost invariant = { λ b. AreBindings (record { bindings = b.bindings; next = b.next }) × Groups b.tags b.bindings };
+    ghost invariant = { λ b. AreIndexed (record { bindings = b.bindings; next = b.next }) b.tags b.places };
 }
 
 impl Bindings {
@@ -71,6 +75,7 @@ impl Bindings {
             alloc,
             bindings: SharedList::new(alloc),
             tags: SharedMap::new(alloc),
+            places: Places::new(alloc),
             next: 0,
         }
     }
@@ -84,10 +89,12 @@ impl Bindings {
     {
         let bindings = SharedList::of(alloc, bindings)?;
         let tags = grouped(alloc, &bindings)?;
+        let places = placed(alloc, &bindings)?;
         Ok(Bindings {
             alloc,
             bindings,
             tags,
+            places,
             next,
         })
     }
@@ -126,7 +133,8 @@ impl Bindings {
     pub fn script(&self, tag: &Txt, sequence: &Sequence) -> Option<&Txt>
         ensures { option_copied result ≡ script_for tag.now sequence.now self.now.bindings }
     {
-        script_for(&self.bindings, tag, sequence)
+        let binding = held_for(&self.tags, tag, sequence)?;
+        Some(&binding.get().script)
     }
 
     /// The sequences of a tag, in canonical spelling, in the order in which its bindings were made.
@@ -208,10 +216,35 @@ impl Bindings {
         ensures ok { OnOk result ((p : Binding → Bool) → Says (F.post keep) p → self.new ≡ record self.old { bindings = filter p self.old.bindings }) }
         ensures err { OnErr result (self.new ≡ self.old) }
     {
-        let tags = left(self.alloc, &self.tags, &self.bindings, &keep)?;
-        self.bindings.retain(keep)?;
-        self.tags = tags;
+        *self = self.kept(&keep)?;
         Ok(())
+    }
+
+    // The same without the bindings that the closure doesn't accept.
+    fn kept<F: Fn(&Binding) -> bool>(&self, keep: &F) -> Result<Bindings, AllocError>
+        requires callable { F.IsAlwaysCallable keep.now }
+        ensures { IfOk result (λ left. (p : Binding → Bool) → Says (F.post keep.now) p → left ≡ record self.now { bindings = filter p self.now.bindings }) }
+    {
+        let mut left = self.share()?;
+        for binding in self.bindings.iter() {
+            if !keep(binding) {
+                left.unset(&binding.tag, &binding.sequence)?;
+            }
+        }
+        Ok(left)
+    }
+
+    // The index of the binding of a tag and a sequence, or the end.
+    fn index_of(&self, tag: &Txt, sequence: &Sequence) -> usize
+        ensures { result ≡ index_of tag.now sequence.now self.now.bindings }
+    {
+        let Some(binding) = held_for(&self.tags, tag, sequence) else {
+            return self.bindings.len();
+        };
+        match self.places.place_of(binding.get().number) {
+            Some(index) => index,
+            None => unreachable!(),
+        }
     }
 
     // Takes a binding away, if it is there.
@@ -221,12 +254,14 @@ impl Bindings {
         ensures err { OnErr result (self.new ≡ self.old) }
         ensures latest { OnOk result (others_are_below self.old.next tag.now sequence.now self.new.bindings ≡ true) }
     {
-        let index = index_of(&self.bindings, tag, sequence);
+        let index = self.index_of(tag, sequence);
         if index < self.bindings.len() {
-            let mut bindings = self.bindings.share()?;
-            bindings.remove(index)?;
-            self.tags = without_binding(self.alloc, &self.tags, tag, sequence)?;
-            self.bindings = bindings;
+            let tags = without_binding(self.alloc, &self.tags, tag, sequence)?;
+            let mut places = self.places.share()?;
+            places.remove(index)?;
+            self.bindings.remove(index)?;
+            self.tags = tags;
+            self.places = places;
         }
         Ok(())
     }
@@ -238,6 +273,7 @@ impl Bindings {
         ensures err { OnErr result (self.new ≡ self.old) }
         ensures latest { OnOk result (others_are_below self.old.next tag sequence self.new.bindings ≡ true) }
     {
+        let index = self.index_of(&tag, &sequence);
         let binding = Binding {
             number: self.next,
             tag,
@@ -245,10 +281,12 @@ impl Bindings {
             script,
         };
         let mut bindings = self.bindings.share()?;
-        let index = place(&mut bindings, binding)?;
+        place(&mut bindings, index, binding)?;
         let binding = held_at(&bindings, index)?;
-        self.tags = with_binding(self.alloc, &self.tags, &binding)?;
+        let tags = with_binding(self.alloc, &self.tags, &binding)?;
+        self.places.put(index, self.next)?;
         self.bindings = bindings;
+        self.tags = tags;
         self.next += 1;
         Ok(())
     }
@@ -260,55 +298,30 @@ impl Share for Bindings {
             alloc: self.alloc,
             bindings: self.bindings.share()?,
             tags: self.tags.share()?,
+            places: self.places.share()?,
             next: self.next,
         })
     }
 }
 
-// The index of the binding of a tag and a sequence, or the end.
-fn index_of(bindings: &SharedList<Binding>, tag: &Txt, sequence: &Sequence) -> usize
-    ensures { result ≡ index_of tag.now sequence.now bindings.now }
-{
-    let len = bindings.len();
-    let mut left = len;
-    for binding in bindings.iter() {
-        if binding.is_for(tag, sequence) {
-            return len - left;
-        }
-        left -= 1;
-    }
-    len
-}
-
-fn script_for<'a>(
-    bindings: &'a SharedList<Binding>,
-    tag: &Txt,
-    sequence: &Sequence,
-) -> Option<&'a Txt>
-    ensures { option_copied result ≡ script_for tag.now sequence.now bindings.now }
-{
-    for binding in bindings.iter() {
-        if binding.is_for(tag, sequence) {
-            return Some(&binding.script);
-        }
-    }
-    None
-}
-
-// Puts a binding into the place of the one of its tag and sequence, or at the end, and tells where that is.
+// Puts a binding into the place of the one of its tag and sequence, which is at this index, or at the end.
 #[tactic(auto, using(crate::proofs::Placing::placed_there, crate::proofs::Placing::placed_last, crate::proofs::Placing::there_set))]
-fn place(bindings: &mut SharedList<Binding>, binding: Binding) -> Result<usize, AllocError>
+fn place(
+    bindings: &mut SharedList<Binding>,
+    index: usize,
+    binding: Binding,
+) -> Result<(), AllocError>
+    requires { index ≡ index_of binding.tag binding.sequence bindings.old }
     ensures ok { OnOk result (bindings.new ≡ placed binding bindings.old) }
-    ensures there { IfOk result (λ index. slice_get bindings.new index ≡ Some binding) }
+    ensures there { OnOk result (slice_get bindings.new index ≡ Some binding) }
     ensures err { OnErr result (bindings.new ≡ bindings.old) }
 {
-    let index = index_of(bindings, &binding.tag, &binding.sequence);
     if index < bindings.len() {
         bindings.set(index, binding)?;
     } else {
         bindings.push(binding)?;
     }
-    Ok(index)
+    Ok(())
 }
 
 // The binding at an index, held once more. It is taken out of a copy of the list, since a list hands out just what is taken
@@ -333,23 +346,16 @@ fn grouped(alloc: Global, bindings: &SharedList<Binding>) -> Result<TagGroups, A
     Ok(tags)
 }
 
-// Those bindings by their tags and endings that the closure accepts.
-fn left<F: Fn(&Binding) -> bool>(
-    alloc: Global,
-    tags: &TagGroups,
-    bindings: &SharedList<Binding>,
-    keep: &F,
-) -> Result<TagGroups, AllocError>
-    requires callable { F.IsAlwaysCallable keep.now }
-    ensures { IfOk result (λ left. (p : Binding → Bool) → Says (F.post keep.now) p → all_differ differ bindings.now ≡ true → Groups tags.now bindings.now → Groups left (filter p bindings.now)) }
+// The places of the numbers of these bindings.
+fn placed(alloc: Global, bindings: &SharedList<Binding>) -> Result<Places, AllocError>
+    requires { all_differ differ bindings.now ≡ true }
+    ensures { IfOk result (λ places. places ≡ numbers_of bindings.now) }
 {
-    let mut left = tags.share()?;
+    let mut places = Places::new(alloc);
     for binding in bindings.iter() {
-        if !keep(binding) {
-            left = without_binding(alloc, &left, &binding.tag, &binding.sequence)?;
-        }
+        places.push(binding.number)?;
     }
-    Ok(left)
+    Ok(places)
 }
 
 // The script that is set where this one is there and that one is given: one behind a plus sign is appended.

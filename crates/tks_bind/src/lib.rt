@@ -14,6 +14,7 @@ mod matching;
 mod passes;
 mod past;
 mod physical;
+mod places;
 mod ring;
 mod scene;
 mod search;

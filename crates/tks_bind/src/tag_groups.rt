@@ -1,8 +1,9 @@
 //! Bindings by their tags and by the endings of their sequences.
-ghost use Rattle.std.specs.Prelude.{ℕ, ◌≡◌, List, ◌&&◌, if◌then◌else◌, IfOk};
+ghost use Rattle.std.specs.Prelude.{ℕ, ◌≡◌, List, ◌&&◌, if◌then◌else◌, IfOk, option_copied};
+ghost use Rattle.std.specs.List.{find};
 ghost use Rattle.tks_text.specs.Text.{same_text};
 ghost use Rattle.tks_bind.specs.declared.binding.Binding.{Binding};
-ghost use Rattle.tks_bind.specs.Binding.{placed, without};
+ghost use Rattle.tks_bind.specs.Binding.{is_for, placed, without};
 ghost use Rattle.tks_bind.specs.Indexes.{index_of};
 ghost use Rattle.tks_bind.specs.Endings.{Key, ending_seen, same_ending};
 ghost use Rattle.tks_bind.specs.Groups.{group_of, Groups};
@@ -55,6 +56,18 @@ fn place_of(list: &[Shared<Binding>], tag: &Txt, sequence: &Sequence) -> usize
         }
     }
     list.len()
+}
+
+/// The binding of a tag and a sequence.
+pub fn held_for<'a>(
+    tags: &'a TagGroups,
+    tag: &Txt,
+    sequence: &Sequence,
+) -> Option<&'a Shared<Binding>>
+    ensures { (bs : List Binding) → Groups tags.now bs → option_copied result ≡ find (is_for tag.now sequence.now) bs }
+{
+    let list = group_of(tags, tag, Ending::of(sequence));
+    list.get(place_of(list, tag, sequence))
 }
 
 // With a binding in the place of the one of its tag and sequence, or at the end.

@@ -86,7 +86,7 @@ module _ (limits : Limits) where
 
   words_well : (words : List (List ℕ)) (w : World) (variables : Variables) → AllWell (words_do limits words w variables)
   words_well [] w variables = tt
-  words_well (name ∷ words) w variables = named_well (command_named name) name words w variables
+  words_well (name ∷ words) w variables = named_well (command_named w.rules name) name words w variables
 
 -- an answer with code 1 has the world and the variables of before
 abbrev pub Unchanged : World → Variables → Answer World → Type 0
@@ -100,6 +100,7 @@ module _ (limits : Limits) (w : World) (variables : Variables) where
   by_plan (plan.Answer code text) w' variables' true none = λ e. absurd (omega (arith, e, none))
   by_plan (plan.Eval script) w' variables' true none = tt
   by_plan (plan.Dispatch window scripts) w' variables' true none = tt
+  by_plan (plan.Update due) w' variables' true none = tt
   by_plan p w' variables' false none = tt
 
   by_fault : (text : List ℕ) (b : Bool) → Unchanged w variables (cond b (Comes (plan.Answer 1 text) w variables) PassesLimit)

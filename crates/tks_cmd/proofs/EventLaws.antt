@@ -23,6 +23,7 @@ use Rattle.tks_queue.specs.declared.place.Place.TheVariants as place
 use Rattle.tks_tree.specs.Windows.{Window, of_number, on_window}
 use Rattle.tks_limits.proofs.Wider.{sequence_wider, sequences_wider}
 use Rattle.tks_state.specs.World.{World, bound_to, tagged, scene, with_event, queued, focused, with_timer, with_idle}
+use Rattle.tks_eval.specs.declared.host.Due.TheVariants as due
 use Rattle.tks_eval.specs.declared.host.Plan.{Plan}
 use Rattle.tks_eval.specs.declared.host.Plan.TheVariants as plan
 use Rattle.tks_cmd.specs.Changes.{Changed, silent}
@@ -36,6 +37,7 @@ use Rattle.tks_cmd.specs.VirtualEvents as virtuals
 use Rattle.tks_cmd.specs.VirtualEvents.{name_read, all_read, with_all, virtuals_within, added, add_does, delete_does}
 use Rattle.tks_cmd.specs.Focus.{path_at, focus_event, focus_moved, focus_given, focus_on, focus_does, focus_next_does, focus_previous_does}
 use Rattle.tks_cmd.specs.After.{id_text, delay_read, timers_within, idles_within, timer_kept, idle_kept, script_read, delay_does, idle_does, cancelled_id, cancelled, cancel_does, info_does, form_does, some_does, after_does}
+use Rattle.tks_cmd.specs.Update.{update_does}
 use Rattle.tks_cmd.specs.EventCommands.{told, event_form_does, event_does, event_command_does}
 use Rattle.tks_cmd.specs.declared.events.When.{When}
 use Rattle.tks_cmd.specs.declared.events.When.TheVariants as when
@@ -96,6 +98,15 @@ module _ (limits : Limits) where
   event_well name [] w = tt
   event_well name (form ∷ words) w = form_well name form words w
 
+  update_well : (name : List ℕ) (words : List (List ℕ)) (w : World) → PlansWell (event_command_does limits command.Update name words w)
+  update_well name [] w = tt
+  update_well name (form ∷ []) w = by (same_text form (codes "idletasks"))
+    where
+      by : (b : Bool) → PlansWell (after (if b then Ok (plan.Update due.Idle) else wrong_words name) (λ p. Ok (p, w)))
+      by true = tt
+      by false = tt
+  update_well name (form ∷ more ∷ words) w = tt
+
   pub event_command_well : (c : EventCommand) (name : List ℕ) (words : List (List ℕ)) (w : World) → PlansWell (event_command_does limits c name words w)
   event_command_well command.Bind name words w = told_well (bind_does limits name words w)
   event_command_well command.Bindtags name words w = told_well (bindtags_does limits name words w)
@@ -104,6 +115,7 @@ module _ (limits : Limits) where
   event_command_well command.FocusNext name words w = told_well (focus_next_does name words w)
   event_command_well command.FocusPrev name words w = told_well (focus_previous_does name words w)
   event_command_well command.After name words w = told_well (after_does limits name words w)
+  event_command_well command.Update name words w = update_well name words w
 
 -- ---- wider limits
 
@@ -305,3 +317,4 @@ module _ (limits wider : Limits) (wide : Wider limits wider) where
   event_command_keeps command.FocusNext name words w = itself (told (focus_next_does name words w))
   event_command_keeps command.FocusPrev name words w = itself (told (focus_previous_does name words w))
   event_command_keeps command.After name words w = told_keeps (after_command_keeps name words w)
+  event_command_keeps command.Update name words w = itself (after (update_does name words) (λ p. Ok (p, w)))

@@ -163,7 +163,7 @@ module _ (limits : Limits) where
 
   all_stay : (words : List (List ℕ)) (w : World) (v : Variables) → AllLeft v (words_do limits words w v)
   all_stay [] w v = tt
-  all_stay (name ∷ words) w v = named_stays (command_named name) name words w v
+  all_stay (name ∷ words) w v = named_stays (command_named w.rules name) name words w v
 
   -- ---- their answers
 

@@ -8,6 +8,7 @@ use Rattle.tks_text.specs.Limits.{fits}
 use Rattle.tks_vars.specs.Variables.{Variables}
 use Rattle.tks_tree.specs.Windows.{of_path}
 use Rattle.tks_state.specs.World.{World}
+use Rattle.tks_state.specs.declared.rules.Rules.{Rules}
 use Rattle.tks_eval.specs.Outcome.{Answer, Unknown, Comes, PassesLimit}
 use Rattle.tks_eval.specs.declared.host.Plan.{Plan}
 use Rattle.tks_eval.specs.declared.host.Plan.TheVariants as plan
@@ -21,19 +22,19 @@ use Rattle.tks_cmd.specs.declared.commands.Command.{Command}
 use Rattle.tks_cmd.specs.declared.commands.Command.TheVariants as command
 
 -- one that makes no windows
-abbrev pub other_named : List ℕ → Option Command
-other_named name =
+abbrev pub other_named : Rules → List ℕ → Option Command
+other_named rules name =
     if same_text name (codes "destroy") then Some command.Destroy
     else (if same_text name (codes "pack") then Some command.Pack
-    else option_map command.Events (event_command_named name))
+    else option_map command.Events (event_command_named rules name))
 
 abbrev pub making_or : Option WindowKind → Option Command → Option Command
 making_or (Some kind) other = Some (command.Make kind)
 making_or None other = other
 
--- the command of a name
-abbrev pub command_named : List ℕ → Option Command
-command_named name = making_or (kind_named name) (other_named name)
+-- the command of a name, by these rules
+abbrev pub command_named : Rules → List ℕ → Option Command
+command_named rules name = making_or (kind_named name) (other_named rules name)
 
 module _ (limits : Limits) where
   -- what a command comes to with the words behind its name
@@ -51,7 +52,7 @@ module _ (limits : Limits) where
   -- what words come to, where the first of them is a command's name or a window's path
   abbrev pub words_do : List (List ℕ) → World → Variables → Option (Result Outcome Cause)
   words_do [] w variables = None
-  words_do (name ∷ words) w variables = named_does (command_named name) name words w variables
+  words_do (name ∷ words) w variables = named_does (command_named w.rules name) name words w variables
 
   -- an answer's text passes no limit
   abbrev pub may_come : Plan → Bool

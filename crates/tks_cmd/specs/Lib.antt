@@ -15,4 +15,5 @@ pub mod Events
 pub mod VirtualEvents
 pub mod Focus
 pub mod After
+pub mod Update
 pub mod EventCommands

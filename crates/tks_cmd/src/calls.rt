@@ -26,7 +26,7 @@ fn run(
     let Some((name, rest)) = words.split_first() else {
         return Ok(None);
     };
-    if let Some(command) = Command::named(name) {
+    if let Some(command) = Command::named(world.rules(), name) {
         let plan = command.run(alloc, name, rest, world, variables, limits)?;
         return Ok(Some(plan));
     }
@@ -60,12 +60,12 @@ fn err(alloc: Global, fault: &ScriptFault, limits: &Limits) -> Result<Plan, Stop
 }
 
 /// What a command on windows comes to: `frame`, `label`, `button`, `checkbutton`, `entry`, `listbox`, `text`, `destroy`,
-/// `pack`, `bind`, `bindtags`, `event`, `focus`, `tk_focusNext`, `tk_focusPrev`, `after`, or one of a window, whose name is
-/// its path. The first word names it; `None` where there is none of this name, and then nothing has changed. An error of
-/// the command's own leaves the world and the variables as they were. The stops are `TooLarge`, where a text, or a list of
-/// windows, bindings, tags, virtual events, waiting events or scripts, or variables, or one that a widget or a virtual event
-/// holds, would pass its limit or numbers have run out, and `NoMemory`; after them nothing is said of either. The variables
-/// are those handed in: the world's own aren't looked at.
+/// `pack`, `bind`, `bindtags`, `event`, `focus`, `tk_focusNext`, `tk_focusPrev`, `after`, by the second rules of a world
+/// `update`, or one of a window, whose name is its path. The first word names it; `None` where there is none of this name,
+/// and then nothing has changed. An error of the command's own leaves the world and the variables as they were. The stops
+/// are `TooLarge`, where a text, or a list of windows, bindings, tags, virtual events, waiting events or scripts, or
+/// variables, or one that a widget or a virtual event holds, would pass its limit or numbers have run out, and `NoMemory`;
+/// after them nothing is said of either. The variables are those handed in: the world's own aren't looked at.
 pub fn command(
     alloc: Global,
     world: &mut World,

@@ -10,7 +10,7 @@ use crate::packing::run_pack;
 use crate::windows::{WindowKind, run_destroy, run_make};
 use std::alloc::Global;
 use tks_eval::Plan;
-use tks_state::World;
+use tks_state::{Rules, World};
 use tks_tcl::Interrupt;
 use tks_text::{Limits, Txt};
 use tks_vars::Vars;
@@ -27,19 +27,19 @@ pub enum Command {
 }
 
 impl Command {
-    /// The command of this name.
-    pub fn named(name: &Txt) -> Option<Command>
-        ensures { result ≡ command_named name.now }
+    /// The command of this name, by these rules.
+    pub fn named(rules: Rules, name: &Txt) -> Option<Command>
+        ensures { result ≡ command_named rules name.now }
     {
         match WindowKind::named(name) {
             Some(kind) => Some(Command::Make(kind)),
-            None => Command::other_named(name),
+            None => Command::other_named(rules, name),
         }
     }
 
     // The command of this name that makes no windows.
-    fn other_named(name: &Txt) -> Option<Command>
-        ensures { result ≡ other_named name.now }
+    fn other_named(rules: Rules, name: &Txt) -> Option<Command>
+        ensures { result ≡ other_named rules name.now }
     {
         let name = name.as_bytes();
         if name == b"destroy".as_slice() {
@@ -47,7 +47,7 @@ impl Command {
         } else if name == b"pack".as_slice() {
             Some(Command::Pack)
         } else {
-            match EventCommand::named(name) {
+            match EventCommand::named(rules, name) {
                 Some(command) => Some(Command::Events(command)),
                 None => None,
             }

@@ -1,17 +1,18 @@
 //! The commands on bindings, events, the focus and scripts that wait.
 ghost use Rattle.std.specs.Prelude.{◌≡◌};
 ghost use Rattle.tks_tcl.specs.Meets.{GivesSo};
-ghost use Rattle.tks_cmd.specs.EventCommands.{event_command_named, event_form_does, event_does, event_command_does};
+ghost use Rattle.tks_cmd.specs.EventCommands.{named_by, is_built_in_by, event_command_named, event_form_does, event_does, event_command_does};
 ghost use Rattle.tks_cmd.specs.Meets.{KeepsSo};
 
 use crate::after::run_after;
 use crate::bindings::{run_bind, run_bindtags};
 use crate::events::run_generate;
 use crate::focus::{run_focus, run_focus_next, run_focus_previous};
+use crate::update::run_update;
 use crate::virtual_events::{run_add, run_delete, run_info};
 use std::alloc::Global;
 use tks_eval::Plan;
-use tks_state::World;
+use tks_state::{Rules, World};
 use tks_tcl::{Interrupt, wrong_words};
 use tks_text::{Limits, Txt};
 
@@ -25,12 +26,29 @@ pub enum EventCommand {
     FocusNext,
     FocusPrev,
     After,
+    Update,
 }
 
 impl EventCommand {
-    /// The command of this name.
-    pub fn named(name: &[u8]) -> Option<EventCommand>
-        ensures { result ≡ event_command_named name.now }
+    // The command of this name that not all rules have.
+    fn named_by(rules: Rules, name: &[u8]) -> Option<EventCommand>
+        ensures { result ≡ named_by rules name.now }
+    {
+        match rules {
+            Rules::One => None,
+            Rules::Two => {
+                if name == b"update".as_slice() {
+                    Some(EventCommand::Update)
+                } else {
+                    None
+                }
+            }
+        }
+    }
+
+    /// The command of this name, by these rules.
+    pub fn named(rules: Rules, name: &[u8]) -> Option<EventCommand>
+        ensures { result ≡ event_command_named rules name.now }
     {
         if name == b"bind".as_slice() {
             Some(EventCommand::Bind)
@@ -47,7 +65,7 @@ impl EventCommand {
         } else if name == b"after".as_slice() {
             Some(EventCommand::After)
         } else {
-            None
+            EventCommand::named_by(rules, name)
         }
     }
 
@@ -92,8 +110,20 @@ impl EventCommand {
                 let text = run_after(alloc, name, words, world, limits)?;
                 Ok(Plan::Answer(0, text))
             }
+            EventCommand::Update => {
+                let plan = run_update(name, words)?;
+                Ok(plan)
+            }
         }
     }
+}
+
+/// Whether a name is that of a built-in command that not all rules have, beside those that are always there. No procedure has
+/// it while a world goes by these rules.
+pub fn is_built_in_by(rules: Rules, name: &Txt) -> bool
+    ensures { result ≡ is_built_in_by rules name.now }
+{
+    EventCommand::named_by(rules, name.as_bytes()).is_some()
 }
 
 // The forms of `event`: those on virtual events, and the one that makes events.

@@ -14,10 +14,12 @@ mod laws;
 mod links;
 mod packing;
 mod queue;
+mod update;
 mod virtual_events;
 mod widgets;
 mod windows;
 
 pub use calls::command;
 pub use dispatch::begin;
+pub use event_commands::is_built_in_by;
 pub use laws::{commands_leave_frames, errors_change_nothing, wider_limits_keep_commands};

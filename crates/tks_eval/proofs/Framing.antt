@@ -23,11 +23,12 @@ use Rattle.tks_tcl.specs.Plain as commands
 use Rattle.tks_tcl.specs.Plain.{plain}
 use Rattle.tks_tcl.specs.Variables.{stores}
 use Rattle.tks_tcl.proofs.Framing.{follows, follows_on, one_of, Left, stores_stay, leaves_frames}
-use Rattle.tks_eval.specs.Outcome.{Outcome, End, Stopped, Next, Level, Answer, Unknown, Comes, PassesLimit, Meaning, after_step, after, after_body, after_next, caught, appended, fails, given}
-use Rattle.tks_eval.specs.Evaluation.{Loop, element_name, with_value, words_in, foreach_form, without_frame, returned, at_global, global_does, after_script, scripts_do, plan_does, parts_do, wrong_words, text_done, and_then, made_text, value_does, expression_does, if_holds, tested, done, expr_does, script_does, branches_do, form_does, turn_does, turns, loop_does, while_does, for_does, catch_ends, catch_does, eval_does, each, foreach_does, settled, procedure_does, proc_does, control_does, host_does, plain_does, command_does, call, words_do, commands_do, evaluate}
+use Rattle.tks_eval.specs.Outcome.{Outcome, End, Stopped, OutOfSteps, Next, Level, Answer, Unknown, Comes, PassesLimit, Taken, Nothing, Takes, TooMuch, Meaning, after_step, after, after_taken, after_body, after_next, caught, appended, fails, given}
+use Rattle.tks_eval.specs.Evaluation.{Loop, element_name, with_value, words_in, foreach_form, without_frame, returned, at_global, global_does, after_script, scripts_do, plan_with, noted, thing_with, things_do, update_does, plan_does, thing_does, parts_do, wrong_words, text_done, and_then, made_text, value_does, expression_does, if_holds, tested, done, expr_does, script_does, branches_do, form_does, turn_does, turns, loop_does, while_does, for_does, catch_ends, catch_does, eval_does, each, foreach_does, settled, procedure_does, proc_does, control_does, host_does, plain_does, command_does, call, words_do, commands_do, evaluate}
 use Rattle.tks_eval.specs.Names.{Control, control_named}
 use Rattle.tks_eval.specs.Names as control
 use Rattle.tks_eval.specs.Procedures.{given_arguments, arguments, with_arguments, entered, parameters_in, defined, is_taken, proc_form}
+use Rattle.tks_eval.specs.declared.host.Due.{Due}
 use Rattle.tks_eval.specs.declared.host.Plan.{Plan}
 use Rattle.tks_eval.specs.declared.host.Plan.TheVariants as plan
 use Rattle.tks_eval.specs.Branches.{Test, Branches, Condition, branches}
@@ -128,10 +129,23 @@ module _ {S : Type 0} where
           (step_leaves variables fuel _ (λ fuel. script_ended_leaves variables _ (at_global_leaves inner deep script state variables fuel) (scripts_leave window scripts)))
           (end_leaves 0 [] state variables fuel)
 
-      pub plan_leaves : (p : Plan) → NextLeaves (plan_does host inner p)
-      plan_leaves (plan.Answer code text) = end_leaves code text
-      plan_leaves (plan.Eval script) = global_leaves inner deep script
-      plan_leaves (plan.Dispatch window scripts) = scripts_leave window scripts
+      plan_with_leaves : (update : Due → Next S) → ((due : Due) → NextLeaves (update due)) → (p : Plan) → NextLeaves (plan_with host update inner p)
+      plan_with_leaves update h (plan.Answer code text) = end_leaves code text
+      plan_with_leaves update h (plan.Eval script) = global_leaves inner deep script
+      plan_with_leaves update h (plan.Dispatch window scripts) = scripts_leave window scripts
+      plan_with_leaves update h (plan.Update due) = h due
+
+    -- ---- things that wait
+
+    noted_leaves : (v : Variables) {o : Outcome S} → Leaves v o → Leaves v (noted host o)
+    noted_leaves v {o = Stopped why} h = record { leaves = tt }
+    noted_leaves v {o = End code text state w fuel} h =
+        if_leaves v (code == 0) (ends v 0 [] state w fuel h.leaves) (ends v 0 [] (host.faulted state text) w fuel h.leaves)
+
+  pub taken_leaves : (taken : Taken S) (state : S) (variables : Variables) (fuel : ℕ) (next : Plan → Next S) → ((p : Plan) → NextLeaves (next p)) → Leaves variables (after_taken taken state variables fuel next)
+  taken_leaves Nothing state variables fuel next n = end_leaves 0 [] state variables fuel
+  taken_leaves (Takes p state') state variables fuel next n = n p state' variables fuel
+  taken_leaves TooMuch state variables fuel next n = record { leaves = tt }
 
   module _ (limits : Limits) where
     pub fails_leave : (fault : ScriptFault) → NextLeaves (fails limits fault)
@@ -153,6 +167,30 @@ module _ {S : Type 0} where
     settled_leaves v {o = End code text state w fuel} h =
         if_leaves v (code == 2) (ends v 0 text state w fuel h.leaves)
         (if_leaves v (code == 3 || code == 4) (from_those v w (fails limits (bare OutsideLoop) state w fuel) h.leaves (fails_leave (bare OutsideLoop) state w fuel)) h)
+
+    module _ (host : Meaning S) (inner : Level S) (deep : LevelLeaves inner) where
+      -- ---- what waits
+
+      thing_with_leaves : (update : Due → Next S) → ((due : Due) → NextLeaves (update due)) → (p : Plan) → NextLeaves (thing_with host limits update inner p)
+      thing_with_leaves update h p state variables fuel = noted_leaves host variables (settled_leaves variables (plan_with_leaves host inner deep update h p state variables fuel))
+
+      things_leave : (most : ℕ) (due : Due) → NextLeaves (things_do host limits most inner due)
+      things_leave zero due state variables fuel =
+          taken_leaves (host.next due state) state variables fuel (λ p state variables fuel. Stopped OutOfSteps) (λ p state variables fuel. record { leaves = tt })
+      things_leave (suc most) due state variables fuel =
+          taken_leaves (host.next due state) state variables fuel
+          (λ p state variables fuel. after_step fuel (λ fuel. caught (thing_with host limits (things_do host limits most inner) inner p state variables fuel) (λ code text. things_do host limits most inner due)))
+          (λ p state variables fuel. step_leaves variables fuel _ (λ fuel.
+          caught_leaves variables _ (thing_with_leaves (things_do host limits most inner) (things_leave most) p state variables fuel) (λ code text. things_leave most due)))
+
+      update_leaves : (due : Due) → NextLeaves (update_does host limits inner due)
+      update_leaves due state variables fuel = things_leave fuel due state variables fuel
+
+      pub plan_leaves : (p : Plan) → NextLeaves (plan_does host limits inner p)
+      plan_leaves p state variables fuel = plan_with_leaves host inner deep (update_does host limits inner) update_leaves p state variables fuel
+
+      pub thing_leaves : (p : Plan) → NextLeaves (thing_does host limits inner p)
+      thing_leaves p state variables fuel = thing_with_leaves (update_does host limits inner) update_leaves p state variables fuel
 
     module _ (inner : Level S) (deep : LevelLeaves inner) where
       -- ---- words

@@ -53,6 +53,8 @@ module _ {S : Type 0} (host : Meaning S) (limits : Limits) where
   resume_stopped left (frame.Procedure levels ∷ below) why = resume_stopped levels below why
   resume_stopped left (frame.Global levels ∷ below) why = resume_stopped levels below why
   resume_stopped left (frame.Scripts window scripts levels ∷ below) why = resume_stopped levels below why
+  resume_stopped left (frame.Thing ∷ below) why = resume_stopped left below why
+  resume_stopped left (frame.Update due levels ∷ below) why = resume_stopped levels below why
 
   -- a stop on top is a stop of the whole
   pub resume_stops : (left : ℕ) (stack : List Frame) (outcome : Outcome S) (why : Stop) → StopsSo outcome why → StopsSo (resume host limits left stack outcome) why

@@ -4,6 +4,7 @@ pub mod Halves
 pub mod Runs
 pub mod Spending
 pub mod Turns
+pub mod Updates
 pub mod Wider
 pub mod Framing
 pub mod Grammar

@@ -206,6 +206,8 @@ waits_weigh no_command levels (frame.Turns stage loop ∷ below) = omega arith
 waits_weigh no_command levels (frame.Procedure k ∷ below) = omega arith
 waits_weigh no_command levels (frame.Global k ∷ below) = omega arith
 waits_weigh no_command levels (frame.Scripts window scripts k ∷ below) = omega arith
+waits_weigh no_command levels (frame.Thing ∷ below) = omega arith
+waits_weigh no_command levels (frame.Update due k ∷ below) = omega arith
 waits_weigh (faulty fault) levels stack = omega arith
 waits_weigh (command words rest) levels stack = omega arith
 
@@ -228,6 +230,8 @@ module _ {S : Type 0} (host : Meaning S) (limits : Limits) where
       ap (λ o. resume host limits k below (settled limits (without_frame o))) (sym (after_done outcome))
   waits_resume left no_command levels (frame.Global k ∷ below) outcome = ap (λ o. resume host limits k below (returned (without_frame o))) (sym (after_done outcome))
   waits_resume left no_command levels (frame.Scripts window scripts k ∷ below) outcome = refl
+  waits_resume left no_command levels (frame.Thing ∷ below) outcome = refl
+  waits_resume left no_command levels (frame.Update due k ∷ below) outcome = refl
   waits_resume left (faulty fault) levels stack outcome = refl
   waits_resume left (command words rest) levels stack outcome = refl
 

@@ -20,13 +20,14 @@ use Rattle.tks_expr.specs.Tree.{Expr, Literal, Made, One, Two, Both, Either, Con
 use Rattle.tks_expr.specs.Operation.{truth_of, applied, applied_unary, result_of}
 use Rattle.tks_expr.specs.Reading.{expr_of}
 use Rattle.tks_expr.specs.Value.{by_condition}
-use Rattle.tks_eval.specs.Outcome.{Outcome, End, Stopped, TooLarge, Next, Level, Answer, Unknown, Comes, PassesLimit, Meaning, after_step, after, after_body, after_next, caught, appended, fails, given}
+use Rattle.tks_eval.specs.Outcome.{Outcome, End, Stopped, OutOfSteps, TooLarge, Next, Level, Answer, Unknown, Comes, PassesLimit, Taken, Nothing, Takes, TooMuch, Meaning, after_step, after, after_taken, after_body, after_next, caught, appended, fails, given}
 use Rattle.tks_eval.specs.Names.{Control, control_named}
 use Rattle.tks_eval.specs.Names as control
 use Rattle.tks_eval.specs.Branches.{Test, Branches, Condition, branches}
 use Rattle.tks_eval.specs.Procedures.{entered, proc_form}
-use Rattle.tks_eval.specs.Evaluation.{Loop, element_name, with_value, words_in, foreach_form, text_done, and_then, done, without_frame, returned, at_global, global_does, after_script, scripts_do, plan_does, parts_do, made_text, value_does, expression_does, if_holds, after_truth, tested, wrong_words, result_told, expr_does, script_does, branches_do, form_does, behind_body, turn_does, turns, loop_does, while_does, for_does, catch_ends, catch_does, each, settled, procedure_does, control_does, host_does, plain_does, command_does, call, words_do, commands_do, evaluate}
+use Rattle.tks_eval.specs.Evaluation.{Loop, element_name, with_value, words_in, foreach_form, text_done, and_then, done, without_frame, returned, at_global, global_does, after_script, scripts_do, plan_with, noted, thing_with, things_do, update_does, plan_does, parts_do, made_text, value_does, expression_does, if_holds, after_truth, tested, wrong_words, result_told, expr_does, script_does, branches_do, form_does, behind_body, turn_does, turns, loop_does, while_does, for_does, catch_ends, catch_does, each, settled, procedure_does, control_does, host_does, plain_does, command_does, call, words_do, commands_do, evaluate}
 use Rattle.tks_eval.specs.Values.{told_text, by_truth, truth_told}
+use Rattle.tks_eval.specs.declared.host.Due.{Due}
 use Rattle.tks_eval.specs.declared.host.Plan.{Plan}
 use Rattle.tks_eval.specs.declared.host.Plan.TheVariants as plan
 
@@ -86,6 +87,12 @@ module _ {S : Type 0} where
   pub step_spends : (bound fuel : ℕ) (next : ℕ → Outcome S) → fuel ≤ bound → ((less : ℕ) → less ≤ bound → Spends bound (next less)) → Spends bound (after_step fuel next)
   step_spends bound zero next h k = tt
   step_spends bound (suc fuel) next h k = k fuel (omega (arith, h))
+
+  taken_spends : (bound : ℕ) (taken : Taken S) (state : S) (variables : Variables) (fuel : ℕ) (next : Plan → Next S) → fuel ≤ bound → ((p : Plan) → Within bound (next p))
+      → Spends bound (after_taken taken state variables fuel next)
+  taken_spends bound Nothing state variables fuel next h k = h
+  taken_spends bound (Takes p state') state variables fuel next h k = k p state' variables fuel h
+  taken_spends bound TooMuch state variables fuel next h k = tt
 
   pub script_spends : (inner : Level S) → Thrifty inner → (script : Script) (bound : ℕ) → Within bound (inner script)
   script_spends inner thrifty script bound state variables fuel h = spends_less (inner script state variables fuel) fuel bound h (thrifty script state variables fuel)
@@ -331,13 +338,44 @@ module _ {S : Type 0} (host : Meaning S) where
           | false ↦ h
         ]
 
-    plan_spends : (p : Plan) (bound : ℕ) → Within bound (plan_does host inner p)
-    plan_spends (plan.Answer code text) bound state variables fuel h = h
-    plan_spends (plan.Eval script) bound state variables fuel h = global_spends inner thrifty script bound state variables fuel h
-    plan_spends (plan.Dispatch window scripts) bound state variables fuel h = scripts_spend window scripts bound state variables fuel h
+    plan_with_spends : (update : Due → Next S) → ((due : Due) (bound : ℕ) → Within bound (update due)) → (p : Plan) (bound : ℕ) → Within bound (plan_with host update inner p)
+    plan_with_spends update k (plan.Answer code text) bound state variables fuel h = h
+    plan_with_spends update k (plan.Eval script) bound state variables fuel h = global_spends inner thrifty script bound state variables fuel h
+    plan_with_spends update k (plan.Dispatch window scripts) bound state variables fuel h = scripts_spend window scripts bound state variables fuel h
+    plan_with_spends update k (plan.Update due) bound state variables fuel h = k due bound state variables fuel h
+
+  noted_spends : (bound : ℕ) (outcome : Outcome S) → Spends bound outcome → Spends bound (noted host outcome)
+  noted_spends bound (Stopped why) h = tt
+  noted_spends bound (End code text state variables fuel) h =
+      elim (code == 0) as (λ b. Spends bound (cond b (End 0 [] state variables fuel) (End 0 [] (host.faulted state text) variables fuel))) [ true ↦ h | false ↦ h ]
 
 module _ {S : Type 0} (host : Meaning S) (limits : Limits) where
   module _ (inner : Level S) (thrifty : Thrifty inner) where
+    -- ---- things that wait
+
+    pub thing_with_spends : (update : Due → Next S) → ((due : Due) (bound : ℕ) → Within bound (update due)) → (p : Plan) (bound : ℕ) → Within bound (thing_with host limits update inner p)
+    thing_with_spends update k p bound state variables fuel h =
+        noted_spends host bound (settled limits (plan_with host update inner p state variables fuel))
+        (settled_spends limits bound (plan_with host update inner p state variables fuel) (plan_with_spends host inner thrifty update k p bound state variables fuel h))
+
+    pub things_spend : (most : ℕ) (due : Due) (bound : ℕ) → Within bound (things_do host limits most inner due)
+    things_spend zero due bound state variables fuel h =
+        taken_spends bound (host.next due state) state variables fuel (λ p s v u. Stopped OutOfSteps) h (λ p s v u k. tt)
+    things_spend (suc most) due bound state variables fuel h =
+        taken_spends bound (host.next due state) state variables fuel
+        (λ p s v u. after_step u (λ u. caught (thing_with host limits (things_do host limits most inner) inner p s v u) (λ code text. things_do host limits most inner due))) h
+        (λ p s v u k. step_spends bound u (λ u. caught (thing_with host limits (things_do host limits most inner) inner p s v u) (λ code text. things_do host limits most inner due)) k (λ less l.
+        caught_spends bound (thing_with host limits (things_do host limits most inner) inner p s v less) (λ code text. things_do host limits most inner due)
+        (thing_with_spends (things_do host limits most inner) (things_spend most) p bound s v less l) (λ code text. things_spend most due bound)))
+
+    update_spends : (due : Due) (bound : ℕ) → Within bound (update_does host limits inner due)
+    update_spends due bound state variables fuel h = things_spend fuel due bound state variables fuel h
+
+    plan_spends : (p : Plan) (bound : ℕ) → Within bound (plan_does host limits inner p)
+    plan_spends p bound state variables fuel h = plan_with_spends host inner thrifty (update_does host limits inner) update_spends p bound state variables fuel h
+
+    -- ---- any command
+
     control_spends : (c : Control) (first : List ℕ) (words : List (List ℕ)) (bound : ℕ) → Within bound (control_does host limits inner c first words)
     control_spends control.Catch first words bound state variables fuel h = catch_spends limits inner thrifty first words bound state variables fuel h
     control_spends control.Eval first words bound state variables fuel h =
@@ -354,7 +392,7 @@ module _ {S : Type 0} (host : Meaning S) (limits : Limits) where
     control_spends control.While first words bound state variables fuel h = while_spends limits inner thrifty first words bound state variables fuel h
 
     host_spends : (first : List ℕ) (words : List (List ℕ)) (answer : Answer S) (bound : ℕ) → Within bound (host_does host limits inner first words answer)
-    host_spends first words (Comes p state' variables') bound state variables fuel h = plan_spends host inner thrifty p bound state' variables' fuel h
+    host_spends first words (Comes p state' variables') bound state variables fuel h = plan_spends p bound state' variables' fuel h
     host_spends first words PassesLimit bound state variables fuel h = tt
     host_spends first words Unknown bound state variables fuel h =
         procedure_spends limits inner thrifty first words (map.get variables.procedures first) bound state variables fuel h

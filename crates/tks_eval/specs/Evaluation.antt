@@ -17,7 +17,7 @@ use Rattle.tks_tcl.specs.Lists.{concatenated, joined_by}
 use Rattle.tks_tcl.specs.Plain as commands
 use Rattle.tks_tcl.specs.Plain.{plain}
 use Rattle.tks_tcl.specs.Variables.{stores}
-use Rattle.tks_eval.specs.Outcome.{Outcome, End, Stopped, TooDeep, TooLarge, OutOfSteps, Next, Level, Answer, Unknown, Comes, PassesLimit, Meaning, after_step, after, after_body, after_next, caught, appended, fails, given}
+use Rattle.tks_eval.specs.Outcome.{Outcome, End, Stopped, TooDeep, TooLarge, OutOfSteps, Next, Level, Answer, Unknown, Comes, PassesLimit, Meaning, after_step, after, after_taken, after_body, after_next, caught, appended, fails, given}
 use Rattle.tks_eval.specs.Names.{Control, control_named}
 use Rattle.tks_eval.specs.Names as control
 use Rattle.tks_expr.specs.Tree.{Expr}
@@ -26,6 +26,7 @@ use Rattle.tks_expr.specs.Operation.{truth_of, result_of}
 use Rattle.tks_expr.specs.Reading.{expr_of}
 use Rattle.tks_eval.specs.Branches.{Test, Branches, Condition, branches}
 use Rattle.tks_eval.specs.Procedures.{entered, proc_form}
+use Rattle.tks_eval.specs.declared.host.Due.{Due}
 use Rattle.tks_eval.specs.declared.host.Plan.{Plan}
 use Rattle.tks_eval.specs.declared.host.Plan.TheVariants as plan
 
@@ -265,13 +266,49 @@ module _ {S : Type 0} (host : Meaning S) where
       if host.alive state window then after_step fuel (λ fuel. after_script (at_global inner script state variables fuel) (scripts_do inner window scripts))
       else End 0 [] state variables fuel
 
-  -- what comes of a plan
-  abbrev pub plan_does : Level S → Plan → Next S
-  plan_does inner (plan.Answer code text) state variables fuel = End code text state variables fuel
-  plan_does inner (plan.Eval script) state variables fuel = global_does inner script state variables fuel
-  plan_does inner (plan.Dispatch window scripts) state variables fuel = scripts_do inner window scripts state variables fuel
+  -- what comes of a plan, where `update` does this
+  abbrev pub plan_with : (Due → Next S) → Level S → Plan → Next S
+  plan_with update inner (plan.Answer code text) state variables fuel = End code text state variables fuel
+  plan_with update inner (plan.Eval script) state variables fuel = global_does inner script state variables fuel
+  plan_with update inner (plan.Dispatch window scripts) state variables fuel = scripts_do inner window scripts state variables fuel
+  plan_with update inner (plan.Update due) state variables fuel = update due state variables fuel
+
+  -- ---- things that wait
+
+  -- no script sees how a thing ends that waited: an error joins the faults (this project's own rule)
+  abbrev pub noted : Outcome S → Outcome S
+  noted (Stopped why) = Stopped why
+  noted (End code text state variables fuel) =
+      if code == 0 then End 0 [] state variables fuel else End 0 [] (host.faulted state text) variables fuel
 
 module _ {S : Type 0} (host : Meaning S) (limits : Limits) where
+  -- what a thing does that waited, by its plan: it ends as a script at top level, and no script sees how
+  abbrev pub thing_with : (Due → Next S) → Level S → Plan → Next S
+  thing_with update inner p state variables fuel = noted host (settled limits (plan_with host update inner p state variables fuel))
+
+  -- what waits is done, one thing after the other, up to so many: each is the next of what waits then, taken out, and takes a
+  -- step before it runs (update(n))
+  abbrev pub things_do : ℕ → Level S → Due → Next S
+  things_do zero inner due state variables fuel =
+      after_taken (host.next due state) state variables fuel (λ p state variables fuel. Stopped OutOfSteps)
+  things_do (suc more) inner due state variables fuel =
+      after_taken (host.next due state) state variables fuel (λ p state variables fuel. after_step fuel (λ fuel.
+      caught (thing_with (things_do more inner) inner p state variables fuel) (λ code text. things_do more inner due)))
+
+  -- update, update idletasks: each thing takes a step, so there are no more of them than steps
+  abbrev pub update_does : Level S → Due → Next S
+  update_does inner due state variables fuel = things_do fuel inner due state variables fuel
+
+  -- what comes of a plan
+  abbrev pub plan_does : Level S → Plan → Next S
+  plan_does inner p state variables fuel = plan_with host (update_does inner) inner p state variables fuel
+
+  -- what a thing does that waited: in a turn, and in an `update`
+  abbrev pub thing_does : Level S → Plan → Next S
+  thing_does inner p state variables fuel = thing_with (update_does inner) inner p state variables fuel
+
+  -- ---- procedures
+
   -- proc name params body
   abbrev pub proc_does : List ℕ → List (List ℕ) → Next S
   proc_does first words state variables fuel =
@@ -292,7 +329,7 @@ module _ {S : Type 0} (host : Meaning S) (limits : Limits) where
 
   -- a command that the host has, or else a procedure
   abbrev pub host_does : Level S → List ℕ → List (List ℕ) → Answer S → Next S
-  host_does inner first words (Comes p state' variables') state variables fuel = plan_does host inner p state' variables' fuel
+  host_does inner first words (Comes p state' variables') state variables fuel = plan_does inner p state' variables' fuel
   host_does inner first words PassesLimit state variables fuel = Stopped TooLarge
   host_does inner first words Unknown state variables fuel =
       procedure_does limits inner first words (map.get variables.procedures first) state variables fuel

@@ -14,7 +14,7 @@ use Rattle.tks_tcl.specs.Meets.{text_of}
 use Rattle.tks_eval.specs.Outcome.{Outcome, End, Stopped, Meaning, Next, Level, after, after_body, caught, appended, fails, given}
 use Rattle.tks_expr.specs.Tree.{Expr, Literal, Made, One, Two, Both, Either, Conditional}
 use Rattle.tks_expr.specs.declared.tree.Link.{Link}
-use Rattle.tks_eval.specs.Evaluation.{Loop, loop_does, element_name, with_value, parts_do, words_in, words_do, commands_do, evaluate, control_does, host_does, value_does, after_truth, branches_do, catch_ends, each, settled, without_frame, returned, after_script, scripts_do, procedure_does, result_told}
+use Rattle.tks_eval.specs.Evaluation.{Loop, loop_does, element_name, with_value, parts_do, words_in, words_do, commands_do, evaluate, control_does, host_does, value_does, after_truth, branches_do, catch_ends, each, settled, without_frame, returned, after_script, scripts_do, noted, update_does, plan_does, procedure_does, result_told}
 use Rattle.tks_eval.specs.Filling.{left_of, Stand, All, Upto, words_made}
 use Rattle.tks_eval.specs.Names.{Control, control_named}
 use Rattle.tks_eval.specs.Names as control
@@ -33,7 +33,9 @@ use Rattle.tks_eval.specs.declared.loops.Turn.{Turn}
 use Rattle.tks_eval.specs.declared.loops.Turn.TheVariants as turn
 use Rattle.tks_eval.specs.declared.frame.Ending.{Ending}
 use Rattle.tks_eval.specs.declared.frame.Now.{Now}
-use Rattle.tks_eval.specs.declared.frame.Now.TheVariants.{Open, Index, Value, At}
+use Rattle.tks_eval.specs.declared.frame.Now.TheVariants.{Open, Index, Value, Planned, At}
+use Rattle.tks_eval.specs.declared.host.Plan.{Plan}
+use Rattle.tks_eval.specs.declared.host.Plan.TheVariants as plan
 use Rattle.tks_eval.specs.declared.machine.Machine.{Machine}
 use Rattle.tks_eval.specs.declared.words.Filled.{Filled}
 use Rattle.tks_eval.specs.declared.words.Filled.TheVariants as filled
@@ -127,6 +129,8 @@ module _ {S : Type 0} (host : Meaning S) (limits : Limits) where
   after_frame left (frame.Procedure levels) outcome = settled limits (without_frame outcome)
   after_frame left (frame.Global levels) outcome = returned (without_frame outcome)
   after_frame left (frame.Scripts window scripts levels) outcome = after_script host (without_frame outcome) (scripts_do host (evaluate host limits left) window scripts)
+  after_frame left frame.Thing outcome = noted host (settled limits outcome)
+  after_frame left (frame.Update due levels) outcome = caught outcome (λ code text. update_does host limits (evaluate host limits left) due)
 
   -- how many scripts may be opened in one another behind a frame
   abbrev pub left_below : ℕ → Frame → ℕ
@@ -134,6 +138,7 @@ module _ {S : Type 0} (host : Meaning S) (limits : Limits) where
   left_below left (frame.Procedure levels) = levels
   left_below left (frame.Global levels) = levels
   left_below left (frame.Scripts window scripts levels) = levels
+  left_below left (frame.Update due levels) = levels
   left_below left frame = left
 
   -- what comes of an end on top of a stack
@@ -146,6 +151,7 @@ module _ {S : Type 0} (host : Meaning S) (limits : Limits) where
   outcome_now left (Open script) state variables fuel = evaluate host limits left script state variables fuel
   outcome_now left (Index parts) state variables fuel = parts_do limits (evaluate host limits left) (parts_of parts) [] state variables fuel
   outcome_now left (Value e) state variables fuel = value_does limits (evaluate host limits left) e state variables fuel
+  outcome_now left (Planned p) state variables fuel = plan_does host limits (evaluate host limits left) p state variables fuel
   outcome_now left (At ended) state variables fuel = End ended.code ended.text state variables fuel
 
   -- the machine goes on to this outcome of the whole
@@ -282,15 +288,24 @@ frame_weight (frame.Each name body elements) = 1
 frame_weight (frame.Procedure levels) = 1
 frame_weight (frame.Global levels) = 1
 frame_weight (frame.Scripts window scripts levels) = 1
+frame_weight frame.Thing = 1
+frame_weight (frame.Update due levels) = 1
 
 abbrev pub stack_weight : List Frame → ℕ
 stack_weight [] = 0
 stack_weight (frame ∷ below) = frame_weight frame + stack_weight below
 
+abbrev pub plan_weight : Plan → ℕ
+plan_weight (plan.Answer code text) = 1
+plan_weight (plan.Eval script) = text_weight script + 2
+plan_weight (plan.Dispatch window scripts) = 1
+plan_weight (plan.Update due) = 1
+
 abbrev pub now_weight : Now → ℕ
 now_weight (Open script) = 4 * script_size script + 2
 now_weight (Index parts) = 4 * parts_size (parts_of parts) + 1
 now_weight (Value e) = value_weight e
+now_weight (Planned p) = plan_weight p
 now_weight (At ended) = 0
 
 abbrev pub result_weight : Result Now Halt → ℕ

@@ -13,7 +13,7 @@ use Rattle.tks_tcl.specs.declared.interrupt.Interrupt.{Interrupt}
 use Rattle.tks_tcl.specs.declared.interrupt.Interrupt.TheVariants as interrupt
 use Rattle.tks_tcl.specs.declared.stop.Stop.{Stop}
 use Rattle.tks_tcl.specs.declared.stop.Stop.TheVariants as stop
-use Rattle.tks_eval.specs.Outcome.{Outcome, End, Stopped, OutOfSteps, TooDeep, TooLarge, Answer, Unknown, Comes, PassesLimit}
+use Rattle.tks_eval.specs.Outcome.{Outcome, End, Stopped, OutOfSteps, TooDeep, TooLarge, Answer, Unknown, Comes, PassesLimit, Taken, Nothing, Takes, TooMuch}
 use Rattle.tks_text.specs.Limits.{fits}
 use Rattle.tks_eval.specs.declared.frame.Ending.{Ending}
 use Rattle.tks_eval.specs.declared.ended.Ended.{Ended}
@@ -30,6 +30,14 @@ AnswersSo answer (Ok (Some p)) old new variables variables' = answer ≡ Comes p
 AnswersSo answer (Err stop.TooLarge) old new variables variables' = answer ≡ PassesLimit
 AnswersSo answer (Err stop.NoMemory) old new variables variables' = Unit {0}
 AnswersSo answer (Err why) old new variables variables' = ⊥
+
+-- what was taken out is the host's next; a host stops at a limit or for want of memory alone
+abbrev pub TakesSo : {S : Type 0} → Taken S → Result (Option Plan) Stop → S → S → Type 0
+TakesSo taken (Ok None) old new = (taken ≡ Nothing) × (new ≡ old)
+TakesSo taken (Ok (Some p)) old new = taken ≡ Takes p new
+TakesSo taken (Err stop.TooLarge) old new = taken ≡ TooMuch
+TakesSo taken (Err stop.NoMemory) old new = Unit {0}
+TakesSo taken (Err why) old new = ⊥
 
 -- a fault joined the others, or memory was refused
 abbrev pub FaultsSo : {S : Type 0} → Result (Unit {0}) Stop → S → S → Type 0

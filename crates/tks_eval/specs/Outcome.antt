@@ -9,6 +9,7 @@ use Rattle.tks_vars.specs.Variables.{Variables}
 use Rattle.tks_tcl.specs.Cause as tcl
 use Rattle.tks_tcl.specs.Cause.{Fault, OverLimit}
 use Rattle.tks_text.specs.Limits.{fits}
+use Rattle.tks_eval.specs.declared.host.Due.{Due}
 use Rattle.tks_eval.specs.declared.host.Plan.{Plan}
 
 -- why a run stops; no script sees it
@@ -37,11 +38,24 @@ pub data Answer (S : Type 0) : Type 0 where
   Comes : (plan : Plan) (state : S) (variables : Variables) → Answer S
   PassesLimit : Answer S
 
+-- what a host takes out of what waits in it: nothing, since nothing waits, a plan with the state that is left, or it would
+-- pass a limit
+pub data Taken (S : Type 0) : Type 0 where
+  Nothing : Taken S
+  Takes : (plan : Plan) (state : S) → Taken S
+  TooMuch : Taken S
+
 -- the same answer with other states, one for each
 abbrev pub mapped : {S T : Type 0} → (S → T) → Answer S → Answer T
 mapped f Unknown = Unknown
 mapped f (Comes plan state variables) = Comes plan (f state) variables
 mapped f PassesLimit = PassesLimit
+
+-- the same of what is taken out
+abbrev pub taken_mapped : {S T : Type 0} → (S → T) → Taken S → Taken T
+taken_mapped f Nothing = Nothing
+taken_mapped f (Takes plan state) = Takes plan (f state)
+taken_mapped f TooMuch = TooMuch
 
 -- what a host does and says in each of its states
 pub record Meaning (S : Type 0) : Type 0 where
@@ -52,6 +66,8 @@ pub record Meaning (S : Type 0) : Type 0 where
   pub alive : S → ℕ → Bool
   -- the state with an error's text joined to its faults
   pub faulted : S → List ℕ → S
+  -- the next of what waits, taken out: of all that there is, or of the idle scripts alone
+  pub next : Due → S → Taken S
 
 -- more behind a text that is being made; only what adds to it can pass the limit
 abbrev pub appended : Limits → List ℕ → List ℕ → Result (List ℕ) tcl.Cause
@@ -67,6 +83,12 @@ module _ {S : Type 0} where
   abbrev pub after : Outcome S → (List ℕ → Next S) → Outcome S
   after (Stopped why) next = Stopped why
   after (End code text state variables fuel) next = if code == 0 then next text state variables fuel else End code text state variables fuel
+
+  -- what follows on what was taken out; where nothing was, nothing is left to do
+  abbrev pub after_taken : Taken S → S → Variables → ℕ → (Plan → Next S) → Outcome S
+  after_taken Nothing state variables fuel next = End 0 [] state variables fuel
+  after_taken (Takes plan taken) state variables fuel next = next plan taken variables fuel
+  after_taken TooMuch state variables fuel next = Stopped TooLarge
 
   -- what follows the body of a loop: break ends the loop, continue goes on
   abbrev pub after_body : Outcome S → Next S → Outcome S

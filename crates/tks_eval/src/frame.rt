@@ -3,6 +3,7 @@ ghost use Rattle.std.specs.Prelude.{◌≡◌, []};
 
 use crate::branches::Branches;
 use crate::expressions::ValueFrame;
+use crate::host::{Due, Plan};
 use crate::loops::{Loop, Stage};
 use crate::rest::Rest;
 use std::alloc::Global;
@@ -89,6 +90,13 @@ pub enum Frame {
         scripts: Rest<Txt>,
         levels: u32,
     },
+    /// A thing that waited, of which no script sees how it ends.
+    Thing,
+    /// `update`, at one of the things that waited, behind which the host is asked for the next one, the same.
+    Update {
+        due: Due,
+        levels: u32,
+    },
 }
 
 /// What the machine is at.
@@ -100,6 +108,8 @@ pub enum Now {
     Index(Remaining<Part>),
     /// An expression, to be evaluated.
     Value(Expr),
+    /// What the host wants done.
+    Planned(Plan),
     /// An end, for the frame on top.
     At(Ending),
 }

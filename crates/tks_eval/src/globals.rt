@@ -1,8 +1,8 @@
 //! Scripts at global level.
-ghost use Rattle.std.specs.Prelude.{◌≡◌, ◌≤◌, ◌∷◌};
+ghost use Rattle.std.specs.Prelude.{◌≡◌, ◌+◌, ◌∷◌};
 ghost use Rattle.tks_eval.specs.Outcome.{End};
 ghost use Rattle.tks_eval.specs.Evaluation.{evaluate, global_does};
-ghost use Rattle.tks_eval.specs.Machine.{resume, frame_weight, GoesSo, Falls};
+ghost use Rattle.tks_eval.specs.Machine.{resume, text_weight, GoesSo, Falls};
 ghost use Rattle.tks_eval.specs.declared.frame.Frame.TheVariants as frame;
 
 use crate::frame::{Ending, Frame, Now};
@@ -24,7 +24,7 @@ impl Machine {
         levels: u32,
         limits: &Limits,
     ) -> Result<Now, Halt>
-        ensures spends { self.new.fuel ≤ self.old.fuel }
+        ensures falls { Falls result (text_weight script + 2) self.old self.new }
         ensures goes { GoesSo H.meaning limits.now (resume H.meaning limits.now levels self.old.stack (global_does (evaluate H.meaning limits.now self.old.left) script (H.state host.now) variables.old self.old.fuel)) result self.new (H.state host.now) variables.new }
     {
         variables.push_global()?;

@@ -1,13 +1,22 @@
 //! The host of scripts: what has the commands that the language lacks, and what these plan.
 ghost use Rattle.std.specs.Prelude.{◌≡◌};
 ghost use Rattle.tks_eval.specs.Outcome.{Meaning};
-ghost use Rattle.tks_eval.specs.Meets.{AnswersSo, FaultsSo};
+ghost use Rattle.tks_eval.specs.Meets.{AnswersSo, FaultsSo, TakesSo};
 
 use tks_tcl::Stop;
 use tks_text::{Seq, Txt};
 use tks_vars::Vars;
 
-/// What a command of a host comes to.
+/// Which of the things that wait are meant.
+#[derive(Clone, Copy)]
+pub enum Due {
+    /// All that a turn would do.
+    All,
+    /// The scripts that wait for nothing else to be done, and those alone.
+    Idle,
+}
+
+/// What a command of a host comes to, or a thing that waited in it.
 #[derive(Drop)]
 pub enum Plan {
     /// A code, 0 ok, 1 error, 2 return, 3 break or 4 continue, and the result or the error's text.
@@ -18,6 +27,9 @@ pub enum Plan {
     /// there: `break` ends them, an error joins the faults and ends them, `return` and `continue` go on. The command
     /// ends with code 0 and the empty text.
     Dispatch(u64, Seq<Txt>),
+    /// What waits in the host is done as turns do it, one thing after the other, until none is left; each is a step before it
+    /// runs. The command ends with code 0 and the empty text.
+    Update(Due),
 }
 
 /// What runs the commands that the language doesn't have: a state, and commands that change it and the
@@ -55,4 +67,10 @@ pub trait Host {
     fn fault(&mut self, text: &Txt) -> Result<(), Stop>
         ensures same_place { place self.new ≡ place self.old }
         ensures faulted { FaultsSo result (state self.new) (meaning.faulted (state self.old) text.now) };
+
+    /// Takes out the next of the things that wait, and tells what it wants done. `None` where none does; nothing has
+    /// changed then. It stops by `TooLarge` and `NoMemory` alone.
+    fn next(&mut self, due: Due) -> Result<Option<Plan>, Stop>
+        ensures same_place { place self.new ≡ place self.old }
+        ensures takes { TakesSo (meaning.next due (state self.old)) result (state self.old) (state self.new) };
 }

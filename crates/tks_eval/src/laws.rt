@@ -1,6 +1,6 @@
 //! Laws of evaluation.
 ghost use Rattle.tks_eval.specs.Grammar.{ReadsIf, ReadsParameters};
-ghost use Rattle.tks_eval.specs.Laws.{EndsStay, HostLeavesFrames, LeavesFrames, RunsAsHalves, TextIsOfSecondHalf, Unrolls};
+ghost use Rattle.tks_eval.specs.Laws.{EndsStay, HostLeavesFrames, LeavesFrames, RunsAsHalves, TextIsOfSecondHalf, Unrolls, UpdatesLeaveNothing, UpdatesUnroll};
 ghost use Rattle.tks_text.specs.Limits.{Wider};
 ghost use Rattle.tks_text.specs.declared.limits.Limits.{Limits};
 
@@ -20,6 +20,18 @@ pub fn wider_limits_keep_ends<H: Host>()
 /// A loop is a test of its condition and, where that holds, its body, the script behind it, and the loop again.
 pub fn loops_unroll<H: Host>()
     ensures { Unrolls H.meaning }
+{}
+
+/// `update` takes out the next of what waits, takes a step, does it, and goes on as an `update` does; where nothing waits it is
+/// done.
+pub fn updates_unroll<H: Host>()
+    ensures { UpdatesUnroll H.meaning }
+{}
+
+/// Behind an `update` that ended nothing waits that it would do, and it ended with code 0 and the empty text, whatever the scripts
+/// ended with that it ran.
+pub fn updates_leave_nothing<H: Host>()
+    ensures { UpdatesLeaveNothing H.meaning }
 {}
 
 /// A script that ends leaves all frames but the innermost, and as many of them, for each host whose commands do.

@@ -19,12 +19,13 @@ mod procedures;
 mod reach;
 mod rest;
 mod table;
+mod things;
 mod words;
 
 pub use ended::Ended;
-pub use host::{Host, Plan};
+pub use host::{Due, Host, Plan};
 pub use laws::{
     loops_unroll, parameters_are_lists_of_names, script_runs_as_its_halves, scripts_leave_frames,
-    wider_limits_keep_ends, words_of_if_follow_its_grammar,
+    updates_leave_nothing, updates_unroll, wider_limits_keep_ends, words_of_if_follow_its_grammar,
 };
 pub use machine::{Machine, eval, eval_plan};

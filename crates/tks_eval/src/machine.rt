@@ -1,10 +1,10 @@
 //! The machine: it runs a script or a plan by a stack of frames.
 ghost use Rattle.std.specs.Prelude.{◌≡◌, ◌+◌, ◌*◌, ◌∷◌, []};
 ghost use Rattle.tks_parse.specs.Tree.{script_size};
-ghost use Rattle.tks_eval.specs.Outcome.{End, fails};
-ghost use Rattle.tks_eval.specs.Evaluation.{evaluate, plan_does};
+ghost use Rattle.tks_eval.specs.Outcome.{End};
+ghost use Rattle.tks_eval.specs.Evaluation.{evaluate, plan_does, thing_does};
 ghost use Rattle.tks_eval.specs.Meets.{EndsSo, FailsSo, TakesStep};
-ghost use Rattle.tks_eval.specs.Machine.{resume, outcome_now, frame_weight, GoesSo, Falls};
+ghost use Rattle.tks_eval.specs.Machine.{resume, outcome_now, plan_weight, frame_weight, GoesSo, Falls};
 
 use crate::ended::Ended;
 use crate::frame::{Ending, Frame, Now};
@@ -54,7 +54,8 @@ fn taken(alloc: Global, parsed: &mut ParseTable) -> ParseTable {
     mem::replace(parsed, ParseTable::new(alloc))
 }
 
-/// Does what a plan says, with all the steps that an input has, and parses as `eval` does.
+/// Does a thing that waited, by its plan, with all the steps that an input has. It ends with code 0 and the empty text: no
+/// script sees how it ended, so an error joins the faults. It parses as `eval` does.
 pub fn eval_plan<H: Host>(
     alloc: Global,
     host: &mut H,
@@ -64,10 +65,10 @@ pub fn eval_plan<H: Host>(
     limits: &Limits,
 ) -> Result<Ended, Stop>
     ensures same_place { H.place host.new ≡ H.place host.old }
-    ensures ends { EndsSo (plan_does H.meaning (evaluate H.meaning limits.now limits.now.depth) plan (H.state host.old) variables.old limits.now.fuel) result (H.state host.new) variables.new }
+    ensures ends { EndsSo (thing_does H.meaning limits.now (evaluate H.meaning limits.now limits.now.depth) plan (H.state host.old) variables.old limits.now.fuel) result (H.state host.new) variables.new }
 {
     let mut machine = Machine::at_rest(alloc, taken(alloc, parsed), limits);
-    let ended = machine.run_whole_plan(alloc, host, variables, plan, limits);
+    let ended = machine.run_thing(alloc, host, variables, plan, limits);
     *parsed = machine.into_parsed();
     ended
 }
@@ -91,9 +92,8 @@ impl Machine {
         table.into_parsed()
     }
 
-    // Does what a plan says, up to its end.
-    #[tactic(auto, using(crate::proofs::Halts::fails_halts))]
-    fn run_whole_plan<H: Host>(
+    // Does a thing that waited, by its plan, up to its end.
+    fn run_thing<H: Host>(
         &mut self,
         alloc: Global,
         host: &mut H,
@@ -103,37 +103,10 @@ impl Machine {
     ) -> Result<Ended, Stop>
         requires { self.old ≡ record { stack = []; left = limits.now.depth; fuel = limits.now.fuel; table = tt } }
         ensures same_place { H.place host.new ≡ H.place host.old }
-        ensures ends { EndsSo (plan_does H.meaning (evaluate H.meaning limits.now limits.now.depth) plan (H.state host.old) variables.old limits.now.fuel) result (H.state host.new) variables.new }
+        ensures ends { EndsSo (thing_does H.meaning limits.now (evaluate H.meaning limits.now limits.now.depth) plan (H.state host.old) variables.old limits.now.fuel) result (H.state host.new) variables.new }
     {
-        match self.run_plan(alloc, host, variables, plan, limits.depth, limits) {
-            Ok(now) => {
-                let ended = self.run(alloc, host, variables, now, limits)?;
-                Ok(ended)
-            }
-            Err(Halt::Fault(fault)) => {
-                let ended = self.run_behind(alloc, host, variables, fault, limits)?;
-                Ok(ended)
-            }
-            Err(Halt::Stop(why)) => Err(why),
-        }
-    }
-
-    // Goes on behind an error up to the end of the whole.
-    #[tactic(auto, using(crate::proofs::Halts::fails_halts))]
-    fn run_behind<H: Host>(
-        &mut self,
-        alloc: Global,
-        host: &mut H,
-        variables: &mut Vars,
-        fault: ScriptFault,
-        limits: &Limits,
-    ) -> Result<Ended, Stop>
-        ensures same_place { H.place host.new ≡ H.place host.old }
-        ensures ends { EndsSo (resume H.meaning limits.now self.old.left self.old.stack (fails limits.now fault (H.state host.old) variables.old self.old.fuel)) result (H.state host.new) variables.new }
-    {
-        let end = failed(alloc, &fault, limits)?;
-        let ended = self.run(alloc, host, variables, Now::At(end), limits)?;
-        Ok(ended)
+        self.stack.push(Frame::Thing)?;
+        self.run(alloc, host, variables, Now::Planned(plan), limits)
     }
 
     // Goes on up to the end of the whole.
@@ -169,6 +142,7 @@ impl Machine {
                     Now::Index(parts) => {
                         self.fill(alloc, host, variables, Txt::new(alloc), parts, limits)
                     }
+                    Now::Planned(plan) => self.do_plan(alloc, host, variables, plan, limits),
                 };
                 now = match next {
                     Ok(now) => now,
@@ -183,8 +157,8 @@ impl Machine {
     }
 }
 
-// The end by an error.
-fn failed(alloc: Global, fault: &ScriptFault, limits: &Limits) -> Result<Ending, Stop>
+/// The end by an error.
+pub fn failed(alloc: Global, fault: &ScriptFault, limits: &Limits) -> Result<Ending, Stop>
     ensures { FailsSo limits.now fault.now result }
 {
     let text = fault.text(alloc)?;
@@ -235,6 +209,23 @@ impl Machine {
             begun,
             limits,
         )
+    }
+
+    // Does what a plan says. Behind that, as many scripts may be open as now.
+    fn do_plan<H: Host>(
+        &mut self,
+        alloc: Global,
+        host: &mut H,
+        variables: &mut Vars,
+        plan: Plan,
+        limits: &Limits,
+    ) -> Result<Now, Halt>
+        ensures same_place { H.place host.new ≡ H.place host.old }
+        ensures falls { Falls result (plan_weight plan) self.old self.new }
+        ensures goes { GoesSo H.meaning limits.now (resume H.meaning limits.now self.old.left self.old.stack (plan_does H.meaning limits.now (evaluate H.meaning limits.now self.old.left) plan (H.state host.old) variables.old self.old.fuel)) result self.new (H.state host.new) variables.new }
+    {
+        let levels = self.left;
+        self.run_plan(alloc, host, variables, plan, levels, limits)
     }
 
     // Goes on with what waited for an end.
@@ -289,6 +280,10 @@ impl Machine {
                 scripts,
                 levels,
             } => self.after_script(alloc, host, variables, window, scripts, levels, end, limits),
+            Frame::Thing => self.after_thing(alloc, host, variables, end, limits),
+            Frame::Update { due, levels } => {
+                self.next_thing(alloc, host, variables, due, levels, limits)
+            }
         }
     }
 }

@@ -1,8 +1,8 @@
-//! What a host's command planned: a script, or the scripts of an event.
-ghost use Rattle.std.specs.Prelude.{◌≡◌, ◌≤◌, [], ◌∷◌};
+//! What a host planned: a script, the scripts of an event, or what waits in it.
+ghost use Rattle.std.specs.Prelude.{◌≡◌, [], ◌∷◌};
 ghost use Rattle.tks_eval.specs.Outcome.{End};
 ghost use Rattle.tks_eval.specs.Evaluation.{evaluate, plan_does, scripts_do};
-ghost use Rattle.tks_eval.specs.Machine.{resume, GoesSo, Falls};
+ghost use Rattle.tks_eval.specs.Machine.{resume, plan_weight, GoesSo, Falls};
 ghost use Rattle.tks_eval.specs.declared.frame.Frame.TheVariants as frame;
 ghost use Rattle.tks_eval.specs.declared.frame.Now.TheVariants.{At};
 
@@ -20,14 +20,15 @@ impl Machine {
     pub fn run_plan<H: Host>(
         &mut self,
         alloc: Global,
-        host: &H,
+        host: &mut H,
         variables: &mut Vars,
         plan: Plan,
         levels: u32,
         limits: &Limits,
     ) -> Result<Now, Halt>
-        ensures spends { self.new.fuel ≤ self.old.fuel }
-        ensures goes { GoesSo H.meaning limits.now (resume H.meaning limits.now levels self.old.stack (plan_does H.meaning (evaluate H.meaning limits.now self.old.left) plan (H.state host.now) variables.old self.old.fuel)) result self.new (H.state host.now) variables.new }
+        ensures same_place { H.place host.new ≡ H.place host.old }
+        ensures falls { Falls result (plan_weight plan) self.old self.new }
+        ensures goes { GoesSo H.meaning limits.now (resume H.meaning limits.now levels self.old.stack (plan_does H.meaning limits.now (evaluate H.meaning limits.now self.old.left) plan (H.state host.old) variables.old self.old.fuel)) result self.new (H.state host.new) variables.new }
     {
         match plan {
             Plan::Answer(code, text) => {
@@ -39,6 +40,7 @@ impl Machine {
                 let scripts = Rest::of(scripts.into_items());
                 self.next_script(alloc, host, variables, window, scripts, levels, limits)
             }
+            Plan::Update(due) => self.next_thing(alloc, host, variables, due, levels, limits),
         }
     }
 

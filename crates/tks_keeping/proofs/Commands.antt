@@ -58,12 +58,13 @@ module _ (limits : Limits) (grid : Extent) where
 
   words_fit : (words : List (List ℕ)) (w : World) (v : Variables) → TextsFit limits words → WorldFits limits grid w → VariablesFit limits v → AllFit (words_do limits words w v)
   words_fit [] w v all h f = tt
-  words_fit (name ∷ words) w v all h f = named_fits (command_named name) name words w v all h f
+  words_fit (name ∷ words) w v all h f = named_fits (command_named w.rules name) name words w v all h f
 
   planned_fits : (p : Plan) → may_come limits p ≡ true → PlanFits limits p
   planned_fits (plan.Answer code text) h = h
   planned_fits (plan.Eval script) h = tt
   planned_fits (plan.Dispatch window scripts) h = tt
+  planned_fits (plan.Update due) h = tt
 
   comes_fits : (p : Plan) (w : World) (v : Variables) → WorldFits limits grid w → VariablesFit limits v → AnswerFits limits (WorldFits limits grid) (comes limits p w v)
   comes_fits p w v h f =

@@ -11,6 +11,7 @@ use Rattle.tks_cmd.specs.After.{after_does}
 use Rattle.tks_cmd.specs.Bindings.{bind_does, bindtags_does}
 use Rattle.tks_cmd.specs.Focus.{focus_does, next_taking, previous_taking, focus_next_does, focus_previous_does}
 use Rattle.tks_cmd.specs.VirtualEvents.{name_read, add_does, delete_does, info_does}
+use Rattle.tks_cmd.specs.Update.{update_does}
 use Rattle.tks_cmd.specs.EventCommands.{told, event_form_does, event_does, event_command_does}
 use Rattle.tks_cmd.specs.declared.event_commands.EventCommand.{EventCommand}
 use Rattle.tks_cmd.specs.declared.event_commands.EventCommand.TheVariants as command
@@ -53,6 +54,7 @@ module _ (limits : Limits) (grid : Extent) where
   words_fit command.FocusNext name words w h k = told_fits (focus_next_does name words w) (path_from_fits limits grid next_taking name words w k)
   words_fit command.FocusPrev name words w h k = told_fits (focus_previous_does name words w) (path_from_fits limits grid previous_taking name words w k)
   words_fit command.After name words w h k = told_fits (after_does limits name words w) (after_fits limits grid name words w k)
+  words_fit command.Update name words w h k = follows (LeftFits limits grid) (update_does name words) _ (λ p. k)
 
   -- any of them, called by words that pass no limit
   pub event_command_fits : (c : EventCommand) (name : List ℕ) (words : List (List ℕ)) (w : World) → TextsFit limits (name ∷ words) → WorldFits limits grid w

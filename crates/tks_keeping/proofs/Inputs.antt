@@ -1,6 +1,6 @@
 -- Inputs that run no script keep the world within limits, and so does taking out what a turn does.
 use Rattle.std.proofs.Common.{◌≡◌, ℕ, ◌==◌, ◌+◌, true, false, ◌&&◌, List, [], ◌∷◌, length, Option, Some, None, option_map, IfSome, refl, arith}
-use Rattle.std.specs.Prelude.{nat_lt}
+use Rattle.std.specs.Prelude.{nat_le, nat_lt}
 use Rattle.std.specs.FinMap as fin
 use Rattle.std.specs.List.{list_all}
 use Rattle.std.proofs.lemmas.Bool.{and_from, and_parts, cond_both}
@@ -23,14 +23,18 @@ use Rattle.tks_timer.specs.declared.entry.Idle.{Idle}
 use Rattle.tks_timer.specs.declared.entry.Timer.{Timer}
 use Rattle.tks_state.specs.EventLoop.{is_there}
 use Rattle.tks_state.specs.World as world
-use Rattle.tks_state.specs.World.{World, holding, with_clock, without_event, without_id}
+use Rattle.tks_state.specs.Rules.{number_of, numbered}
+use Rattle.tks_state.specs.World.{World, holding, with_rules, with_clock, without_event, without_id}
+use Rattle.tks_state.specs.declared.rules.Rules.{Rules as WorldRules}
 use Rattle.tks_limits.specs.Within.{may_hold, texts_fit, event_fits, queue_fits, variables_fit, memories_fit, windows_fit, events_fit, within}
 use Rattle.tks_world.specs.Stepped.{Stepped, Accepts, Refuses, max_count, counted, kept}
 use Rattle.tks_world.specs.Gestures.{has_room, remembering, left_by, gesture_step}
 use Rattle.tks_world.specs.Keys.{key_gesture, key_step, key_press_step, key_release_step}
 use Rattle.tks_world.specs.Buttons.{is_button_number, on_grid, target_at, release_target, press_gesture, release_gesture, press_step, release_step}
-use Rattle.tks_world.specs.Step.{max_clock, clock_step, rules_step}
-use Rattle.tks_world.specs.Things.{Next, script_taken, idle_or_none, timer_or_idle, event_or_script, next_thing}
+use Rattle.tks_world.specs.Step.{max_clock, clock_step, by_rules, rules_step}
+use Rattle.tks_eval.specs.declared.host.Due.{Due}
+use Rattle.tks_eval.specs.declared.host.Due.TheVariants as due
+use Rattle.tks_world.specs.Things.{Next, script_taken, idle_or_none, timer_or_idle, event_or_script, next_thing, next_due}
 use Rattle.tks_world.specs.declared.gestures.Gesture.{Gesture}
 use Rattle.tks_world.specs.declared.things.Thing.{Thing}
 use Rattle.tks_world.specs.declared.things.Thing.TheVariants as thing
@@ -141,7 +145,13 @@ module _ (limits : Limits) (grid : Extent) (names : List (List ℕ)) where
       one_so StepFits (nat_lt max_clock time) _ _ tt (one_so StepFits (nat_lt time w.clock) _ _ tt (kept_keeps (with_clock time w) later))
 
   pub rules_keeps : (number : ℕ) (w : World) → WholeFits limits grid names w → StepFits (rules_step number w)
-  rules_keeps number w h = one_so StepFits (number == 1) _ _ (kept_keeps w h) tt
+  rules_keeps number w h = by (numbered number)
+    where
+      by : (rules : Option WorldRules) → StepFits (by_rules rules w)
+      by None = tt
+      by (Some rules) =
+          let later = whole (with_rules rules w) h.world.on_grid h.world.windows h.world.events h.world.faults h.variables h.memories h.named in
+          one_so StepFits (nat_le (number_of w.rules) (number_of rules)) _ _ (kept_keeps (with_rules rules w) later) tt
 
 -- ---- what a turn does
 
@@ -209,7 +219,12 @@ module _ (limits : Limits) (grid : Extent) where
   event_taken (Some e) w f h = (f, with_queue_fits limits grid w h (without_first w.queue) (rest_fits w.queue (events_opened limits w h.events).queue))
 
   -- the thing that is taken out fits, and so does the world without it
-  pub next_fits : (w : World) → WorldFits limits grid w → NextFits (next_thing w)
+  next_fits : (w : World) → WorldFits limits grid w → NextFits (next_thing w)
   next_fits w h =
       let queue = (events_opened limits w h.events).queue in
       event_taken (first w.queue) w (first_fits w.queue (and_parts (may_hold limits (length w.queue)) (list_all (λ q. event_fits limits q.event) w.queue) queue).1) h
+
+  -- of all that waits, or of the idle scripts alone
+  pub due_fits : (d : Due) (w : World) → WorldFits limits grid w → NextFits (next_due d w)
+  due_fits due.All w h = next_fits w h
+  due_fits due.Idle w h = idle_fits (first_idle w.timers.idles) w h

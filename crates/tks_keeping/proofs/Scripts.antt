@@ -26,15 +26,16 @@ use Rattle.tks_expr.specs.Tree.{Expr}
 use Rattle.tks_expr.specs.Value.{told, by_condition, truth_text}
 use Rattle.tks_expr.specs.Operation.{truth_of, result_of, applied, applied_unary}
 use Rattle.tks_expr.specs.Reading.{expr_of}
-use Rattle.tks_eval.specs.Outcome.{Outcome, End, Stopped, Next, Level, Answer, Unknown, Comes, PassesLimit, Meaning, after_step, after, after_body, after_next, caught, appended, fails, given}
-use Rattle.tks_eval.specs.Evaluation.{Loop, element_name, with_value, words_in, foreach_form, without_frame, returned, at_global, global_does, after_script, scripts_do, plan_does, parts_do, wrong_words, text_done, and_then, made_text, value_does, expression_does, if_holds, tested, done, expr_does, script_does, branches_do, form_does, turn_does, turns, loop_does, while_does, for_does, catch_ends, catch_does, eval_does, each, foreach_does, settled, procedure_does, proc_does, control_does, host_does, plain_does, command_does, call, words_do, commands_do, evaluate}
+use Rattle.tks_eval.specs.Outcome.{Outcome, End, Stopped, OutOfSteps, Next, Level, Answer, Unknown, Comes, PassesLimit, Taken, Nothing, Takes, TooMuch, Meaning, after_step, after, after_taken, after_body, after_next, caught, appended, fails, given}
+use Rattle.tks_eval.specs.Evaluation.{Loop, element_name, with_value, words_in, foreach_form, without_frame, returned, at_global, global_does, after_script, scripts_do, plan_with, noted, thing_with, things_do, update_does, plan_does, thing_does, parts_do, wrong_words, text_done, and_then, made_text, value_does, expression_does, if_holds, tested, done, expr_does, script_does, branches_do, form_does, turn_does, turns, loop_does, while_does, for_does, catch_ends, catch_does, eval_does, each, foreach_does, settled, procedure_does, proc_does, control_does, host_does, plain_does, command_does, call, words_do, commands_do, evaluate}
 use Rattle.tks_eval.specs.Names.{Control, control_named}
 use Rattle.tks_eval.specs.Names as control
 use Rattle.tks_eval.specs.Procedures.{entered, is_taken, proc_form}
+use Rattle.tks_eval.specs.declared.host.Due.{Due}
 use Rattle.tks_eval.specs.declared.host.Plan.{Plan}
 use Rattle.tks_eval.specs.declared.host.Plan.TheVariants as plan
 use Rattle.tks_eval.specs.Branches.{Test, Branches, Condition, branches}
-use Rattle.tks_keeping.specs.Fitting.{PlanFits, AnswerFits, HostFits}
+use Rattle.tks_keeping.specs.Fitting.{PlanFits, AnswerFits, TakenFits, HostFits}
 use Rattle.tks_keeping.proofs.Lists.{one_of, appended_so}
 use Rattle.tks_keeping.proofs.Texts.{whatever, tested_so, TextFits, TextsFit, empty_fits, shorter_fits, first_word, other_words, list_fits}
 use Rattle.tks_keeping.proofs.Variables.{VariablesFit, ChangedFits, stores_fit}
@@ -191,6 +192,13 @@ module _ {S : Type 0} (limits : Limits) (P : S → Type 0) where
       if_leaves (code == 2) (λ e. well text state h.has.1 v h.has.2 fuel)
       (λ e. if_leaves (code == 3 || code == 4) (λ e. fails_leave (bare OutsideLoop) state h.has.1 v h.has.2 fuel) (λ e. h))
 
+  -- what follows on what was taken out
+  taken_leaves : (taken : Taken S) → TakenFits limits P taken → (state : S) → P state → (v : Variables) → VariablesFit limits v → (fuel : ℕ) (next : Plan → Next S)
+      → ((p : Plan) → PlanFits limits p → NextLeaves (next p)) → Leaves (after_taken taken state v fuel next)
+  taken_leaves Nothing t state p v h fuel next n = done_leaves state p v h fuel
+  taken_leaves (Takes x state') t state p v h fuel next n = n x t.0 state' t.1 v h fuel
+  taken_leaves TooMuch t state p v h fuel next n = record { has = tt }
+
   module _ (inner : Level S) (deep : LevelLeaves inner) where
     -- ---- plans
 
@@ -217,11 +225,42 @@ module _ {S : Type 0} (limits : Limits) (P : S → Type 0) where
           (λ e. step_leaves fuel _ (λ fuel. script_ended_leaves _ (at_global_leaves script state p v h fuel) (scripts_leave window scripts)))
           (λ e. done_leaves state p v h fuel)
 
+      plan_with_leaves : (update : Due → Next S) → ((due : Due) → NextLeaves (update due)) → (p : Plan) → PlanFits limits p → NextLeaves (plan_with host update inner p)
+      plan_with_leaves update k (plan.Answer code text) f = end_leaves code text (λ e. f)
+      plan_with_leaves update k (plan.Eval script) f = global_leaves script
+      plan_with_leaves update k (plan.Dispatch window scripts) f = scripts_leave window scripts
+      plan_with_leaves update k (plan.Update due) f = k due
+
+      -- ---- things that wait
+
+      noted_leaves : {o : Outcome S} → Leaves o → Leaves (noted host o)
+      noted_leaves {o = Stopped why} h = record { has = tt }
+      noted_leaves {o = End code text state v fuel} h =
+          if_leaves (code == 0) (λ e. done_leaves state h.has.1 v h.has.2 fuel)
+          (λ e. done_leaves (host.faulted state text) (fit.faulted state h.has.1 text (h.has.0 e)) v h.has.2 fuel)
+
+      thing_with_leaves : (update : Due → Next S) → ((due : Due) → NextLeaves (update due)) → (p : Plan) → PlanFits limits p → NextLeaves (thing_with host limits update inner p)
+      thing_with_leaves update k p f state ok v h fuel = noted_leaves (settled_leaves (plan_with_leaves update k p f state ok v h fuel))
+
+      things_leave : (most : ℕ) (due : Due) → NextLeaves (things_do host limits most inner due)
+      things_leave zero due state p v h fuel =
+          taken_leaves (host.next due state) (fit.next due state p) state p v h fuel (λ p state v fuel. Stopped OutOfSteps) (λ p f state ok v h fuel. record { has = tt })
+      things_leave (suc most) due state p v h fuel =
+          taken_leaves (host.next due state) (fit.next due state p) state p v h fuel
+          (λ p state v fuel. after_step fuel (λ fuel. caught (thing_with host limits (things_do host limits most inner) inner p state v fuel) (λ code text. things_do host limits most inner due)))
+          (λ p f state ok v h fuel. step_leaves fuel _ (λ fuel.
+          caught_leaves _ (thing_with_leaves (things_do host limits most inner) (things_leave most) p f state ok v h fuel) (λ code text. things_leave most due)))
+
+      update_leaves : (due : Due) → NextLeaves (update_does host limits inner due)
+      update_leaves due state p v h fuel = things_leave fuel due state p v h fuel
+
       -- what comes of a plan
-      plan_leaves : (p : Plan) → PlanFits limits p → NextLeaves (plan_does host inner p)
-      plan_leaves (plan.Answer code text) f = end_leaves code text (λ e. f)
-      plan_leaves (plan.Eval script) f = global_leaves script
-      plan_leaves (plan.Dispatch window scripts) f = scripts_leave window scripts
+      plan_leaves : (p : Plan) → PlanFits limits p → NextLeaves (plan_does host limits inner p)
+      plan_leaves p f state ok v h fuel = plan_with_leaves (update_does host limits inner) update_leaves p f state ok v h fuel
+
+      -- and of a thing that waited
+      thing_leaves : (p : Plan) → PlanFits limits p → NextLeaves (thing_does host limits inner p)
+      thing_leaves p f state ok v h fuel = thing_with_leaves (update_does host limits inner) update_leaves p f state ok v h fuel
 
     -- ---- words
 
@@ -448,11 +487,6 @@ module _ {S : Type 0} (limits : Limits) (P : S → Type 0) where
   pub settled_fits : (o : Outcome S) → EndFits o → EndFits (settled limits o)
   settled_fits o h = (settled_leaves {o = o} (record { has = h })).has
 
-  -- a value that has I, or an error
-  pub given_fits : {X : Type 0} (I : X → Type 0) (state : S) → P state → (v : Variables) → VariablesFit limits v → (fuel : ℕ) (r : Result X tcl.Cause) (next : X → Outcome S)
-      → IfOk r I → ((x : X) → I x → EndFits (next x)) → EndFits (given limits r state v fuel next)
-  given_fits I state p v h fuel r next i n = (given_leaves I state p v h fuel r next i (λ x k. record { has = n x k })).has
-
   module _ (host : Meaning S) (fit : HostFits limits P host) where
     run_leaves : (depth : ℕ) → LevelLeaves (evaluate host limits depth)
     run_leaves zero script state p v h fuel = record { has = tt }
@@ -462,7 +496,8 @@ module _ {S : Type 0} (limits : Limits) (P : S → Type 0) where
     pub evaluate_fits : (depth : ℕ) (script : Script) (state : S) → P state → (v : Variables) → VariablesFit limits v → (fuel : ℕ) → EndFits (evaluate host limits depth script state v fuel)
     evaluate_fits depth script state p v h fuel = (run_leaves depth script state p v h fuel).has
 
-    -- so does a plan whose answer fits
-    pub plan_fits : (depth : ℕ) (p : Plan) → PlanFits limits p → (state : S) → P state → (v : Variables) → VariablesFit limits v → (fuel : ℕ)
-        → EndFits (plan_does host (evaluate host limits depth) p state v fuel)
-    plan_fits depth x f state p v h fuel = (plan_leaves (evaluate host limits depth) (run_leaves depth) host fit x f state p v h fuel).has
+    -- so does a thing that was taken out
+    pub taken_fits : (depth : ℕ) (taken : Taken S) → TakenFits limits P taken → (state : S) → P state → (v : Variables) → VariablesFit limits v → (fuel : ℕ)
+        → EndFits (after_taken taken state v fuel (thing_does host limits (evaluate host limits depth)))
+    taken_fits depth taken t state p v h fuel =
+        (taken_leaves taken t state p v h fuel (thing_does host limits (evaluate host limits depth)) (thing_leaves (evaluate host limits depth) (run_leaves depth) host fit)).has

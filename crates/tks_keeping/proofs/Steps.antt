@@ -1,5 +1,5 @@
 -- A step keeps the world within the limits, on its grid and with memories of the same names.
-use Rattle.std.proofs.Common.{◌≡◌, ℕ, ◌-◌, ◌==◌, nat_lt, ◌&&◌, true, true≢false, List, [], ◌∷◌, ◌++◌, length, Some, None, refl, sym, subst, ◌∙◌}
+use Rattle.std.proofs.Common.{◌≡◌, ℕ, ◌-◌, ◌==◌, nat_lt, ◌&&◌, true, true≢false, List, [], ◌∷◌, ◌++◌, length, Some, None, Result, Ok, Err, IfOk, refl, sym, subst, ◌∙◌}
 use Rattle.std.specs.FinMap as fin
 use Rattle.std.proofs.lemmas.Bool.{and_parts, cond_both}
 use Rattle.tks_text.specs.Size.{Extent}
@@ -18,28 +18,29 @@ use Rattle.tks_input.specs.declared.reply.Reply.{Reply}
 use Rattle.tks_limits.specs.Within.{memories_fit, within}
 use Rattle.tks_state.specs.World.{World, with_fault}
 use Rattle.tks_eval.specs.Outcome.{Outcome, End, Stopped, Answer, Unknown, Comes, PassesLimit}
+use Rattle.tks_eval.specs.declared.host.Due.TheVariants as due
 use Rattle.tks_eval.specs.declared.host.Plan.{Plan}
+use Rattle.tks_tcl.specs.Cause.{Cause}
 use Rattle.tks_cmd.specs.Commands.{does}
-use Rattle.tks_cmd.specs.Dispatch.{begun}
 use Rattle.tks_world.specs.Stepped.{Accepts, counted}
 use Rattle.tks_world.specs.Hosting as hosting
-use Rattle.tks_world.specs.Hosting.{Setting, in_setting, world_does, is_of_world, application_does, stripped}
+use Rattle.tks_world.specs.Hosting.{Setting, in_setting, world_does, is_of_world, taken_in, thing_taken, next_taken, application_does, stripped}
 use Rattle.tks_world.specs.Scripts.{concluded, script_ends, lent, script_step}
 use Rattle.tks_world.specs.Step.{step}
-use Rattle.tks_world.specs.Things.{Next, next_thing}
-use Rattle.tks_world.specs.Turns.{noted, finished, scripts_run, thing_does, turned, turn_step}
+use Rattle.tks_world.specs.Things.{Next, next_due, planned}
+use Rattle.tks_world.specs.Turns.{finished, thing_runs, turned, turn_step}
 use Rattle.tks_world.specs.Telling.{told}
 use Rattle.tks_world.specs.declared.things.Thing.{Thing}
 use Rattle.tks_world.specs.declared.things.Thing.TheVariants as thing
-use Rattle.tks_keeping.specs.Fitting.{WorldFits, PlanFits, AnswerFits, HostFits}
+use Rattle.tks_keeping.specs.Fitting.{WorldFits, PlanFits, AnswerFits, TakenFits, HostFits}
 use Rattle.tks_keeping.proofs.Texts.{TextFits, TextsFit, first_word}
 use Rattle.tks_keeping.proofs.Variables.{VariablesFit}
 use Rattle.tks_keeping.proofs.Lists.{one_so, pushed_so, behind_so}
 use Rattle.tks_keeping.proofs.Tables.{insert_fits, keys_stay}
-use Rattle.tks_keeping.proofs.Scripts.{EndFits, given_fits, evaluate_fits, settled_fits, plan_fits}
+use Rattle.tks_keeping.proofs.Scripts.{EndFits, evaluate_fits, settled_fits, taken_fits}
 use Rattle.tks_keeping.proofs.Delivered.{begun_fits}
 use Rattle.tks_keeping.proofs.Commands.{does_fits}
-use Rattle.tks_keeping.proofs.Inputs.{WholeFits, StepFits, within_opened, within_closed, counted_keeps, key_press_keeps, key_release_keeps, press_keeps, release_keeps, clock_keeps, rules_keeps, ThingFits, NextFits, next_fits}
+use Rattle.tks_keeping.proofs.Inputs.{WholeFits, StepFits, within_opened, within_closed, counted_keeps, key_press_keeps, key_release_keeps, press_keeps, release_keeps, clock_keeps, rules_keeps, ThingFits, NextFits, due_fits}
 
 -- ---- what the world is to its scripts
 
@@ -77,12 +78,34 @@ module _ (limits : Limits) (grid : Extent) (names : List (List ℕ)) where
       let kept = remembers limits name a.memory s.memories k both.1 h.memories in
       (both.0, record { world = h.world; memories = kept.0; limited = h.limited; named = kept.1 ∙ h.named }, f)) (λ _. tt)
 
+  -- ---- what waits
+
+  -- what a thing wants done
+  planned_fits : (x : Thing) (w : World) → ThingFits limits x → WorldFits limits grid w → IfOk (planned limits x w) (λ y. PlanFits limits y.0 × WorldFits limits grid y.1)
+  planned_fits (thing.Event e) w t h = begun_fits limits grid w e t h
+  planned_fits (thing.Timer id script) w t h = (tt, h)
+  planned_fits (thing.Idle id script) w t h = (tt, h)
+
+  taken_in_fits : (s : Setting) → SettingFits s → (r : Result (Plan × World) Cause) → IfOk r (λ y. PlanFits limits y.0 × WorldFits limits grid y.1) → TakenFits limits SettingFits (taken_in s r)
+  taken_in_fits s h (Ok x) k = (k.0, record { world = k.1; memories = h.memories; limited = h.limited; named = h.named })
+  taken_in_fits s h (Err why) k = tt
+
+  thing_taken_fits : (x : Thing) (s : Setting) → ThingFits limits x → SettingFits s → TakenFits limits SettingFits (thing_taken s x)
+  thing_taken_fits x s t h =
+      subst (λ l. TakenFits limits SettingFits (taken_in s (planned l x s.world))) (sym h.limited)
+      (taken_in_fits s h (planned limits x s.world) (planned_fits x s.world t h.world))
+
+  next_taken_fits : (next : Next) (s : Setting) → NextFits limits grid next → SettingFits s → TakenFits limits SettingFits (next_taken s next)
+  next_taken_fits None s n h = tt
+  next_taken_fits (Some x) s n h =
+      thing_taken_fits x.0 (record s { world = x.1 }) n.0 (record { world = n.1; memories = h.memories; limited = h.limited; named = h.named })
+
   module _ (m : application.Meaning) where
     commands_fit : (s : Setting) → SettingFits s → (v : Variables) → VariablesFit limits v → (words : List (List ℕ)) → TextsFit limits words
         → AnswerFits limits SettingFits (hosting.command_does m s v words)
     commands_fit s h v f [] all = world_does_fits s h v f [] all
     commands_fit s h v f (name ∷ words) all =
-        one_so (AnswerFits limits SettingFits) (is_of_world s.names name) (world_does s v (name ∷ words)) (application_does m s v name words) (world_does_fits s h v f (name ∷ words) all)
+        one_so (AnswerFits limits SettingFits) (is_of_world s.world.rules s.names name) (world_does s v (name ∷ words)) (application_does m s v name words) (world_does_fits s h v f (name ∷ words) all)
         (told_fits s h v f name (first_word limits name words all) (m name (memory_of s.memories name) words))
 
     faulted_fits : (s : Setting) → SettingFits s → (text : List ℕ) → TextFits limits text → SettingFits (record s { world = with_fault text s.world })
@@ -99,7 +122,7 @@ module _ (limits : Limits) (grid : Extent) (names : List (List ℕ)) where
     }
 
     host_fits : HostFits limits SettingFits (hosting.hosting m)
-    host_fits = record { commands = commands_fit; faulted = faulted_fits }
+    host_fits = record { commands = commands_fit; faulted = faulted_fits; next = λ due s h. next_taken_fits (next_due due s.world) s (due_fits limits grid due s.world h.world) h }
 
     -- ---- scripts
 
@@ -107,28 +130,8 @@ module _ (limits : Limits) (grid : Extent) (names : List (List ℕ)) where
     script_ends_fit script s v h f =
         settled_fits limits SettingFits _ (evaluate_fits limits SettingFits (hosting.hosting m) host_fits limits.depth (script_of script) s h v f limits.fuel)
 
-    noted_fits : (o : Outcome Setting) → EndFits limits SettingFits o → EndFits limits SettingFits (noted m o)
-    noted_fits (Stopped why) h = tt
-    noted_fits (End code text s v fuel) h =
-        cond_both (code == 0) (End 0 [] s v fuel) (End 0 [] (record s { world = with_fault text s.world }) v fuel) (EndFits limits SettingFits) (λ _. (λ e. absurd (true≢false e), h.1, h.2))
-        (λ is. (λ e. absurd (true≢false e), faulted_fits s h.1 text (h.0 is), h.2))
-
-    scripts_run_fit : (x : Plan × World) (s : Setting) (v : Variables) → SettingFits s → VariablesFit limits v → PlanFits limits x.0 × WorldFits limits grid x.1
-        → EndFits limits SettingFits (scripts_run m limits x s v)
-    scripts_run_fit x s v h f k =
-        plan_fits limits SettingFits (hosting.hosting m) host_fits limits.depth x.0 k.0 (record s { world = x.1 })
-        (record { world = k.1; memories = h.memories; limited = h.limited; named = h.named }) v f limits.fuel
-
-    -- what comes of an event that is delivered
-    abbrev Begins : Plan × World → Type 0
-    Begins x = PlanFits limits x.0 × WorldFits limits grid x.1
-
-    thing_fits : (t : Thing) (s : Setting) (v : Variables) → ThingFits limits t → SettingFits s → VariablesFit limits v → EndFits limits SettingFits (thing_does m limits t s v)
-    thing_fits (thing.Event e) s v t h f =
-        given_fits limits SettingFits Begins s h v f limits.fuel (begun limits s.world e) (λ x. scripts_run m limits x s v) (begun_fits limits grid s.world e t h.world)
-        (λ x k. scripts_run_fit x s v h f k)
-    thing_fits (thing.Timer id script) s v t h f = noted_fits _ (script_ends_fit script s v h f)
-    thing_fits (thing.Idle id script) s v t h f = noted_fits _ (script_ends_fit script s v h f)
+    thing_fits : (x : Thing) (s : Setting) (v : Variables) → ThingFits limits x → SettingFits s → VariablesFit limits v → EndFits limits SettingFits (thing_runs m limits x s v)
+    thing_fits x s v t h f = taken_fits limits SettingFits (hosting.hosting m) host_fits limits.depth (thing_taken s x) (thing_taken_fits x s t h) s h v f limits.fuel
 
 -- ---- inputs
 
@@ -170,7 +173,7 @@ module _ (limits : Limits) (grid : Extent) (names : List (List ℕ)) where
   turn_keeps app w h =
       let s = lent app.names limits w in
       let fit = lent_fits app w h in
-      turned_keeps app (next_thing s.world) s w.variables fit h.variables (next_fits limits grid s.world fit.world)
+      turned_keeps app (next_due due.All s.world) s w.variables fit h.variables (due_fits limits grid due.All s.world fit.world)
 
   step_keeps : (app : Application) (w : World) (input : Input) → WholeFits limits grid names w → StepFits limits grid names (step app w input limits)
   unfolding step

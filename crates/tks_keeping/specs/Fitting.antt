@@ -6,7 +6,8 @@ use Rattle.tks_text.specs.declared.limits.Limits.{Limits}
 use Rattle.tks_vars.specs.Variables.{Variables}
 use Rattle.tks_limits.specs.Within.{texts_fit, variables_fit, windows_fit, events_fit}
 use Rattle.tks_state.specs.World.{World}
-use Rattle.tks_eval.specs.Outcome.{Answer, Unknown, Comes, PassesLimit, Meaning}
+use Rattle.tks_eval.specs.Outcome.{Answer, Unknown, Comes, PassesLimit, Taken, Nothing, Takes, TooMuch, Meaning}
+use Rattle.tks_eval.specs.declared.host.Due.{Due}
 use Rattle.tks_eval.specs.declared.host.Plan.{Plan}
 use Rattle.tks_eval.specs.declared.host.Plan.TheVariants as plan
 
@@ -30,8 +31,15 @@ module _ (limits : Limits) where
     AnswerFits PassesLimit = Unit {0}
     AnswerFits (Comes p state variables) = PlanFits p × P state × (variables_fit limits variables ≡ true)
 
-    -- a host whose commands and faults keep P, and all within the limits
+    -- what is taken out of what waits in a host
+    abbrev pub TakenFits : Taken S → Type 0
+    TakenFits Nothing = Unit {0}
+    TakenFits (Takes p state) = PlanFits p × P state
+    TakenFits TooMuch = Unit {0}
+
+    -- a host whose commands and faults keep P, and so does what is taken out of it, all within the limits
     pub record HostFits (host : Meaning S) : Type 0 where
       pub commands : (state : S) → P state → (variables : Variables) → variables_fit limits variables ≡ true → (words : List (List ℕ)) → texts_fit limits words ≡ true
           → AnswerFits (host.commands state variables words)
       pub faulted : (state : S) → P state → (text : List ℕ) → fits limits text ≡ true → P (host.faulted state text)
+      pub next : (due : Due) (state : S) → P state → TakenFits (host.next due state)

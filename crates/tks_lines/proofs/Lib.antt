@@ -23,3 +23,4 @@ pub mod Kept
 pub mod IndexRead
 pub mod IndexTold
 pub mod Indexed
+pub mod Called

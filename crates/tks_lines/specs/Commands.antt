@@ -72,15 +72,27 @@ delete_does path (index ∷ behind ∷ word ∷ words) t = wrong_words path
 
 -- ---- marks
 
+-- with a mark at a place, before the last newline at the furthest
+abbrev pub mark_set : List ℕ → ℕ → Lines → Lines
+mark_set name place t = record t { marks = with_mark name (at_most_last t place) t.marks }
+
+-- without the marks of some names
+abbrev pub marks_unset : List (List ℕ) → Lines → Lines
+marks_unset names t = record t { marks = without_marks names t.marks }
+
+-- with left or right gravity of a mark
+abbrev pub mark_turned : List ℕ → Bool → Lines → Lines
+mark_turned name left t = record t { marks = turned_marks name left t.marks }
+
 abbrev pub mark_set_does : List ℕ → List (List ℕ) → Lines → Called
 mark_set_does path [] t = wrong_words path
 mark_set_does path (name ∷ []) t = wrong_words path
-mark_set_does path (name ∷ index ∷ []) t = after (place_in t index) (λ place. becomes (record t { marks = with_mark name (at_most_last t place) t.marks }))
+mark_set_does path (name ∷ index ∷ []) t = after (place_in t index) (λ place. becomes (mark_set name place t))
 mark_set_does path (name ∷ index ∷ word ∷ words) t = wrong_words path
 
 abbrev pub mark_unset_does : List ℕ → List (List ℕ) → Lines → Called
 mark_unset_does path [] t = wrong_words path
-mark_unset_does path (name ∷ names) t = becomes (record t { marks = without_marks (name ∷ names) t.marks })
+mark_unset_does path (name ∷ names) t = becomes (marks_unset (name ∷ names) t)
 
 abbrev pub mark_names_does : List ℕ → List (List ℕ) → Lines → Called
 mark_names_does path [] t = answers (joined (map (λ m. m.name) t.marks)) t
@@ -100,7 +112,7 @@ is_left word = if same_text word (codes "left") then Some true else (if same_tex
 
 abbrev pub gravity_becomes : List ℕ → List ℕ → Option Bool → Lines → Called
 gravity_becomes path name None t = wrong_words path
-gravity_becomes path name (Some left) t = after (or_no_mark name (mark_named name t.marks)) (λ m. becomes (record t { marks = turned_marks name left t.marks }))
+gravity_becomes path name (Some left) t = after (or_no_mark name (mark_named name t.marks)) (λ m. becomes (mark_turned name left t))
 
 abbrev pub mark_gravity_does : List ℕ → List (List ℕ) → Lines → Called
 mark_gravity_does path [] t = wrong_words path
@@ -119,16 +131,17 @@ mark_does path (name ∷ words) t =
 
 -- ---- tags
 
--- on the characters between two places
-abbrev pub tag_put_on : List ℕ → ℕ → ℕ → Lines → Called
-tag_put_on name first last t = becomes (record t { tags = map (tagged true name first last) (with_tag name (length t.text) t.tags) })
-
-abbrev pub tag_taken_off : List ℕ → ℕ → ℕ → Lines → Called
-tag_taken_off name first last t = becomes (record t { tags = map (tagged false name first last) t.tags })
+-- with a tag on the characters between two places, or without it on them
+abbrev pub tag_set : Bool → List ℕ → ℕ → ℕ → Lines → Lines
+tag_set true name first last t = record t { tags = map (tagged true name first last) (with_tag name (length t.text) t.tags) }
+tag_set false name first last t = record t { tags = map (tagged false name first last) t.tags }
 
 abbrev pub tag_put : Bool → List ℕ → ℕ → ℕ → Lines → Called
-tag_put true = tag_put_on
-tag_put false = tag_taken_off
+tag_put on name first last t = becomes (tag_set on name first last t)
+
+-- without the tags of some names
+abbrev pub tags_deleted : List (List ℕ) → Lines → Lines
+tags_deleted names t = record t { tags = without_tags names t.tags }
 
 -- `tag add` and `tag remove`: without a second index, one character
 abbrev pub tag_put_does : Bool → List ℕ → List (List ℕ) → Lines → Called
@@ -169,7 +182,7 @@ tag_ranges_does path (name ∷ word ∷ words) t = wrong_words path
 
 abbrev pub tag_delete_does : List ℕ → List (List ℕ) → Lines → Called
 tag_delete_does path [] t = wrong_words path
-tag_delete_does path (name ∷ names) t = becomes (record t { tags = without_tags (name ∷ names) t.tags })
+tag_delete_does path (name ∷ names) t = becomes (tags_deleted (name ∷ names) t)
 
 abbrev pub tag_does : List ℕ → List (List ℕ) → Lines → Called
 tag_does path [] t = wrong_words path

@@ -8,4 +8,5 @@ pub mod IndexText
 pub mod Indices
 pub mod Commands
 pub mod Shown
+pub mod View
 pub mod Laws

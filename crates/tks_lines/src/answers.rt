@@ -1,7 +1,7 @@
 //! What a text widget tells: places as indices, characters, names, ranges.
 ghost use Rattle.std.specs.Prelude.{◌≡◌, ◌≤◌, ◌<◌, ◌^◌, ◌+◌, length, map, false, IfOk};
 ghost use Rattle.std.specs.Fmt.{decimal};
-ghost use Rattle.tks_lines.specs.Commands.{names_on, spelled, between, edges, flags_of};
+ghost use Rattle.tks_lines.specs.Commands.{gravity_name, names_on, spelled, between, edges, flags_of};
 ghost use Rattle.tks_lines.specs.Ranges.{ranges_of, ends_of};
 
 use crate::lined_text::LinedText;
@@ -48,6 +48,14 @@ pub(crate) fn between(
         return Ok(cut);
     }
     Ok(cut)
+}
+
+/// The word for a gravity.
+pub(crate) fn gravity_name(alloc: Global, left: bool) -> Result<Txt, AllocError>
+    ensures { IfOk result (λ t. t ≡ gravity_name left) }
+{
+    let name: &[u8] = if left { b"left" } else { b"right" };
+    Txt::from_text(alloc, name)
 }
 
 /// The names of all marks.

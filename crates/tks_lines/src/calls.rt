@@ -1,52 +1,75 @@
-//! The subcommands of a text widget.
-ghost use Rattle.std.specs.Prelude.{◌≡◌, IfSome, OnErr, [], length};
-ghost use Rattle.tks_opt.specs.declared.said.Said.TheVariants as said;
+//! What a text widget tells, and what changes it.
+ghost use Rattle.std.specs.Prelude.{◌≡◌, map, false, IfOk, OnErr};
 ghost use Rattle.tks_text.specs.Fault.{Gives};
+ghost use Rattle.tks_list.specs.Quoting.{joined};
 ghost use Rattle.tks_list.specs.Reading.{list_of};
-ghost use Rattle.tks_lines.specs.Commands.{get_does, index_does, insert_does, delete_does, or_no_list, lines_does, called};
+ghost use Rattle.tks_opt.specs.Options.{after};
+ghost use Rattle.tks_lines.specs.Commands.{answers, spelled, names_on, edges, flags_of, or_no_list, called};
+ghost use Rattle.tks_lines.specs.View.{told, changed};
 
-use crate::answers::{between, spelled};
+use crate::answers::{
+    all_spelled, between, edges, gravity_name, mark_names, spelled, tag_names, tags_on,
+};
 use crate::lines::TextWidget;
-use tks_list::{ListFault, split};
-use tks_opt::{Said, too_few_words, wrong_words};
+use crate::subcommand::{Change, Question, Subcommand};
+use std::alloc::AllocError;
+use tks_list::{ListFault, join, split};
+use tks_opt::Said;
 use tks_text::{ErrorNumber, Failure, ScriptFault, Seq, Txt};
 
 impl TextWidget {
-    // The answer of what changes something.
-    pub(crate) fn nothing(&self) -> Said
-        ensures { result ≡ said.Text [] }
+    // The list of the names of all marks.
+    fn told_marks(&self) -> Result<Txt, AllocError>
+        ensures { IfOk result (λ t. t ≡ joined (map (λ m. m.name) self.now.marks)) }
     {
-        Said::Text(Txt::new(self.alloc))
+        let names = mark_names(self.alloc, self.marks.as_slice())?;
+        let text = join(self.alloc, names.as_slice())?;
+        Ok(text)
     }
 
-    // `get index ?index?`.
-    fn get_words(&self, path: &Txt, words: &[Txt]) -> Result<Said, Failure>
-        ensures { Gives (λ said. (said, self.now)) result (get_does path.now words.now self.now) }
+    // The list of the names of all tags.
+    fn told_tags(&self) -> Result<Txt, AllocError>
+        ensures { IfOk result (λ t. t ≡ joined (map (λ g. g.name) self.now.tags)) }
     {
-        match words {
-            [index] => {
-                let first = self.place_in(index)?;
-                Ok(Said::Text(between(self.alloc, &self.text, first, first + 1)?))
-            }
-            [index, behind] => {
-                let first = self.place_in(index)?;
-                let last = self.place_in(behind)?;
-                Ok(Said::Text(between(self.alloc, &self.text, first, last)?))
-            }
-            _ => Err(wrong_words(path)),
-        }
+        let names = tag_names(self.alloc, self.tags.as_slice())?;
+        let text = join(self.alloc, names.as_slice())?;
+        Ok(text)
     }
 
-    // `index index`.
-    fn index_words(&self, path: &Txt, words: &[Txt]) -> Result<Said, Failure>
-        ensures { Gives (λ said. (said, self.now)) result (index_does path.now words.now self.now) }
+    // The list of the names of those on the character behind a place.
+    fn told_tags_on(&self, place: usize) -> Result<Txt, AllocError>
+        ensures { IfOk result (λ t. t ≡ joined (names_on place self.now.tags)) }
     {
-        match words {
-            [index] => {
-                let place = self.place_in(index)?;
-                Ok(Said::Text(spelled(self.alloc, &self.text, place)?))
+        let names = tags_on(self.alloc, self.tags.as_slice(), place)?;
+        let text = join(self.alloc, names.as_slice())?;
+        Ok(text)
+    }
+
+    // The list of the indices at which the tag of a name begins and ends, in turn.
+    fn told_ranges(&self, name: &Txt) -> Result<Txt, AllocError>
+        ensures { IfOk result (λ t. t ≡ joined (map (spelled self.now.text) (edges false 0 (flags_of name.now self.now.tags)))) }
+    {
+        let places = edges(self.alloc, name, self.tags.as_slice())?;
+        let all = all_spelled(self.alloc, &self.text, places.as_slice())?;
+        let text = join(self.alloc, all.as_slice())?;
+        Ok(text)
+    }
+
+    // The text that answers a question.
+    fn told(&self, question: Question<'_>) -> Result<Txt, Failure>
+        ensures { Gives (λ t. t) result (told question.entry self.now) }
+    {
+        match question {
+            Question::Characters(first, last) => {
+                Ok(between(self.alloc, &self.text, first, last)?)
             }
-            _ => Err(wrong_words(path)),
+            Question::Index(place) => Ok(spelled(self.alloc, &self.text, place)?),
+            Question::Marks => Ok(self.told_marks()?),
+            Question::Gravity(left) => Ok(gravity_name(self.alloc, left)?),
+            Question::Tags => Ok(self.told_tags()?),
+            Question::TagsOn(place) => Ok(self.told_tags_on(place)?),
+            Question::Ranges(name) => Ok(self.told_ranges(name)?),
+            Question::Value(name) => Ok(self.options.cget(name)?.try_clone()?),
         }
     }
 
@@ -64,106 +87,63 @@ impl TextWidget {
         }
     }
 
-    // `insert index text ?tags?`.
-    fn insert_words(&mut self, path: &Txt, words: &[Txt]) -> Result<Said, Failure>
-        ensures value { Gives (λ said. (said, self.new)) result (insert_does path.now words.now self.old) }
+    /// Makes a change. A disabled text widget passes over `insert` and `delete`.
+    pub fn change(&mut self, change: Change<'_>) -> Result<(), Failure>
+        ensures value { Gives (λ _. self.new) result (changed change.entry self.old) }
         ensures err { OnErr result (self.new ≡ self.old) }
         ensures class { self.new.options.class ≡ self.old.options.class }
     {
-        match words {
-            [index, more] => {
-                let place = self.place_in(index)?;
+        match change {
+            Change::Insert(place, more) => {
                 self.insert(place, more)?;
-                Ok(self.nothing())
+                Ok(())
             }
-            [index, more, tags] => {
-                let place = self.place_in(index)?;
+            Change::InsertWith(place, more, tags) => {
                 let names = self.list_in(tags)?;
                 self.insert_with(place, more, names.as_slice())?;
-                Ok(self.nothing())
+                Ok(())
             }
-            _ => Err(wrong_words(path)),
-        }
-    }
-
-    // `delete index ?index?`.
-    fn delete_words(&mut self, path: &Txt, words: &[Txt]) -> Result<Said, Failure>
-        ensures value { Gives (λ said. (said, self.new)) result (delete_does path.now words.now self.old) }
-        ensures err { OnErr result (self.new ≡ self.old) }
-        ensures class { self.new.options.class ≡ self.old.options.class }
-    {
-        match words {
-            [index] => {
-                let first = self.place_in(index)?;
-                self.delete(first, first + 1)?;
-                Ok(self.nothing())
-            }
-            [index, behind] => {
-                let first = self.place_in(index)?;
-                let last = self.place_in(behind)?;
+            Change::Delete(first, last) => {
                 self.delete(first, last)?;
-                Ok(self.nothing())
+                Ok(())
             }
-            _ => Err(wrong_words(path)),
+            Change::SetMark(name, place) => {
+                self.set_mark(name, place)?;
+                Ok(())
+            }
+            Change::UnsetMarks(names) => {
+                self.unset_marks(names)?;
+                Ok(())
+            }
+            Change::TurnMark(name, left) => {
+                self.turn_mark(name, left);
+                Ok(())
+            }
+            Change::SetTag(true, name, first, last) => {
+                self.put_tag_on(name, first, last)?;
+                Ok(())
+            }
+            Change::SetTag(false, name, first, last) => {
+                self.take_tag_off(name, first, last)?;
+                Ok(())
+            }
+            Change::DeleteTags(names) => {
+                self.delete_tags(names)?;
+                Ok(())
+            }
+            Change::Configure(pairs) => {
+                self.configure(pairs)?;
+                Ok(())
+            }
         }
     }
 
-    // A subcommand that only tells something, with the words behind it. The names come in the order of `lines_does`.
-    fn told(&self, path: &Txt, name: &Txt, words: &[Txt]) -> Option<Result<Said, Failure>>
-        ensures { IfSome result (λ r. Gives (λ said. (said, self.now)) r (lines_does path.now name.now words.now self.now)) }
+    /// The answer to a question.
+    pub fn answer(&self, question: Question<'_>) -> Result<Said, Failure>
+        ensures { Gives (λ said. (said, self.now)) result (after (told question.entry self.now) (λ text. answers text self.now)) }
     {
-        let subcommand = name.as_bytes();
-        if subcommand == b"get".as_slice() {
-            Some(self.get_words(path, words))
-        } else if subcommand == b"insert".as_slice() {
-            None
-        } else if subcommand == b"delete".as_slice() {
-            None
-        } else if subcommand == b"index".as_slice() {
-            Some(self.index_words(path, words))
-        } else if subcommand == b"mark".as_slice() {
-            self.told_mark(path, words)
-        } else if subcommand == b"tag".as_slice() {
-            self.told_tag(path, words)
-        } else {
-            None
-        }
-    }
-
-    /// What the words of a whole command come to where it changes nothing, the text widget's path first: `get`, `index`,
-    /// `mark names`, `tag names` and `tag ranges`, each what `call` answers. None for other subcommands.
-    pub fn tell(&self, words: &[Txt]) -> Option<Result<Said, Failure>>
-        ensures { IfSome result (λ r. Gives (λ said. (said, self.now)) r (called self.now words.now)) }
-    {
-        let [path, name, rest @ ..] = words else {
-            return None;
-        };
-        self.told(path, name, rest)
-    }
-
-    // A subcommand with the words behind it.
-    fn subcommand(&mut self, path: &Txt, name: &Txt, words: &[Txt]) -> Result<Said, Failure>
-        ensures value { Gives (λ said. (said, self.new)) result (lines_does path.now name.now words.now self.old) }
-        ensures err { OnErr result (self.new ≡ self.old) }
-        ensures class { self.new.options.class ≡ self.old.options.class }
-    {
-        let subcommand = name.as_bytes();
-        let said = if subcommand == b"get".as_slice() {
-            self.get_words(path, words)?
-        } else if subcommand == b"insert".as_slice() {
-            self.insert_words(path, words)?
-        } else if subcommand == b"delete".as_slice() {
-            self.delete_words(path, words)?
-        } else if subcommand == b"index".as_slice() {
-            self.index_words(path, words)?
-        } else if subcommand == b"mark".as_slice() {
-            self.mark_words(path, words)?
-        } else if subcommand == b"tag".as_slice() {
-            self.tag_words(path, words)?
-        } else {
-            self.options.subcommand(path, name, words)?
-        };
-        Ok(said)
+        let text = self.told(question)?;
+        Ok(Said::Text(text))
     }
 
     /// What the words of a whole command come to, the text widget's path first: `get`, `insert`, `delete`, `index`,
@@ -174,10 +154,16 @@ impl TextWidget {
         ensures err { OnErr result (self.new ≡ self.old) }
         ensures class { self.new.options.class ≡ self.old.options.class }
     {
-        let [path, name, rest @ ..] = words else {
-            return Err(too_few_words(words));
-        };
-        let said = self.subcommand(path, name, rest)?;
-        Ok(said)
+        match self.read(words) {
+            Ok(Subcommand::Asks(question)) => {
+                let said = self.answer(question)?;
+                Ok(said)
+            }
+            Ok(Subcommand::Changes(change)) => {
+                self.change(change)?;
+                Ok(Said::Text(Txt::new(self.alloc)))
+            }
+            Err(failure) => Err(failure),
+        }
     }
 }

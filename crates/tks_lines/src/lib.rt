@@ -11,7 +11,6 @@ mod index;
 mod laws;
 mod lined_text;
 mod lines;
-mod mark_calls;
 mod marks;
 mod modifier;
 mod numbers;
@@ -19,9 +18,10 @@ mod parts;
 mod places;
 mod range;
 mod range_list;
+mod reading;
 mod restoring;
 mod shown;
-mod tag_calls;
+mod subcommand;
 mod tags;
 
 pub use flag_list::Flags;
@@ -33,3 +33,4 @@ pub use laws::{
 pub use lines::TextWidget;
 pub use parts::{Mark, Tag};
 pub use range::Range;
+pub use subcommand::{Change, Question, Subcommand};

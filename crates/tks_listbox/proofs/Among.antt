@@ -23,7 +23,7 @@ module _ {X : Type 0} where
   got_inside (y ∷ xs) zero x e = omega arith
   got_inside (y ∷ xs) (suc n) x e = let h = got_inside xs n x e in omega arith
 
-  some_got : (xs : List X) (n : ℕ) → n < length xs → (x : X) × (Some x ≡ slice_get xs n)
+  pub some_got : (xs : List X) (n : ℕ) → n < length xs → (x : X) × (Some x ≡ slice_get xs n)
   some_got [] n h = absurd (omega arith)
   some_got (x ∷ xs) zero h = (x, refl)
   some_got (x ∷ xs) (suc n) h = some_got xs n (omega arith)
@@ -142,7 +142,7 @@ turned_more on front place xs x le e =
 pub turned_next : (on : Bool) (front place : ℕ) (xs : List Item) → front ≤ place → place < length xs → turned_in on place (place + 1) (turned_in on front place xs) ≡ turned_in on front (place + 1) xs
 turned_next on front place xs le inside = let got = some_got xs place inside in turned_more on front place xs got.0 le got.1
 
-none_turned : (on : Bool) (front behind : ℕ) (xs : List Item) → behind ≤ front → turned_in on front behind xs ≡ xs
+pub none_turned : (on : Bool) (front behind : ℕ) (xs : List Item) → behind ≤ front → turned_in on front behind xs ≡ xs
 none_turned on front behind xs le =
     let same : max front behind ≡ front = omega arith in
     ap (λ ys. take front xs ++ (map (turned on) ys ++ drop (max front behind) xs)) (none_among front behind xs le)

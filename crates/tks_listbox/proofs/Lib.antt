@@ -4,3 +4,5 @@ mod Staying
 mod Round
 mod Rising
 pub mod Whole
+pub mod Called
+pub mod Enclosing

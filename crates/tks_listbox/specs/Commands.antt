@@ -45,10 +45,14 @@ row_read word (Err range) = Err (record { number = OutOfRange; subject = None })
 
 -- ---- items
 
+-- texts before the item that an index names
+abbrev pub inserted_at : ℤ → List (List ℕ) → Listbox → Listbox
+inserted_at z texts l = inserted (rounded z (length l.items)) texts l
+
 abbrev pub insert_does : List ℕ → List (List ℕ) → Listbox → Called
 insert_does path [] l = wrong_words path
 insert_does path (index ∷ []) l = wrong_words path
-insert_does path (index ∷ text ∷ texts) l = after (behind_index l index) (λ z. becomes (inserted (rounded z (length l.items)) (text ∷ texts) l))
+insert_does path (index ∷ text ∷ texts) l = after (behind_index l index) (λ z. becomes (inserted_at z (text ∷ texts) l))
 
 -- the items from one index to another
 abbrev pub deleted_between : ℤ → ℤ → Listbox → Listbox

@@ -1,4 +1,6 @@
 pub mod Listbox
+pub mod Bounds
 pub mod Commands
 pub mod Shown
+pub mod View
 pub mod Laws

@@ -1,12 +1,15 @@
 //! Listboxes: items, one of which is active, and each of which is selected or not.
 #![tactic(auto)]
 
+mod bounds;
 mod calls;
 mod item;
 mod items;
 mod laws;
 mod listbox;
+mod reading;
 mod shown;
+mod subcommand;
 
 pub use item::Item;
 pub use laws::{
@@ -14,3 +17,4 @@ pub use laws::{
     deletion_undoes_insertion, listboxes_are_restored, selected_places_rise,
 };
 pub use listbox::ListWidget;
+pub use subcommand::{Change, Question, Subcommand};

@@ -7,6 +7,7 @@ ghost use Rattle.tks_opt.specs.Options.{configured};
 ghost use Rattle.tks_listbox.specs.Listbox.{first_listbox, HasActive, has_active, restored, index_in, last_of, rounded, front_of, behind_of, moved_on, moved_back, inserted, deleted, activated, selected};
 ghost use Rattle.tks_listbox.specs.Commands.{behind_index, item_index};
 
+use crate::bounds::Bounds;
 use crate::item::Item;
 use crate::items::{insert_new, remove_among, turn_among};
 use std::alloc::{AllocError, Global};
@@ -21,6 +22,8 @@ pub struct ListWidget {
     pub(crate) options: Options,
     pub(crate) items: SharedList<Item>,
     active: usize,
+    /// Between which places the selected items stand.
+    pub(crate) bounds: Bounds,
 }
 
 // Written out, so that to let go of it is one step for whoever owns it.
@@ -31,6 +34,7 @@ impl Drop for ListWidget {
             options: _,
             items: _,
             active: _,
+            bounds: _,
         } = self;
     }
 }
@@ -39,12 +43,13 @@ impl Model for ListWidget {
     ghost use Rattle.std.specs.Prelude.{◌≡◌};
     ghost use Rattle.tks_text.specs.declared.class.Class.TheVariants as class;
     ghost use Rattle.tks_listbox.specs.Listbox.{Listbox, HasActive};
+    ghost use Rattle.tks_listbox.specs.Bounds.{Encloses};
 
     ghost Value = { Listbox };
 
     ghost view = { λ l. record { options = l.options; items = l.items; active = l.active } };
 
-    ghost invariant = { λ l. (l.options.class ≡ class.Listbox) × HasActive l.items l.active };
+    ghost invariant = { λ l. (l.options.class ≡ class.Listbox) × HasActive l.items l.active × Encloses l.bounds l.items };
 }
 
 // Whether the active item may be the one in a place.
@@ -131,6 +136,7 @@ impl ListWidget {
             options,
             items: SharedList::new(alloc),
             active: 0,
+            bounds: Bounds::nowhere(),
         })
     }
 
@@ -148,12 +154,14 @@ impl ListWidget {
         if !has_active(&items, active) {
             return None;
         }
+        let bounds = Bounds::around(&items);
         match options.class() {
             Class::Listbox => Some(ListWidget {
                 alloc,
                 options,
                 items,
                 active,
+                bounds,
             }),
             _ => None,
         }
@@ -245,6 +253,7 @@ impl ListWidget {
         let mut items = self.items.share()?;
         insert_new(&mut items, place, texts)?;
         self.active = moved_on(len, place, texts.len(), self.active());
+        self.bounds = self.bounds.come_in(place, texts.len());
         self.items = items;
         Ok(())
     }
@@ -263,6 +272,7 @@ impl ListWidget {
         let mut items = self.items.share()?;
         remove_among(self.alloc, &mut items, front, behind)?;
         self.active = moved_back(front, behind, len, self.active);
+        self.bounds = self.bounds.go_out(front, behind);
         self.items = items;
         Ok(())
     }
@@ -285,7 +295,8 @@ impl ListWidget {
             return Ok(());
         }
         let mut items = self.items.share()?;
-        turn_among(&mut items, on, front, behind)?;
+        turn_among(&mut items, on, front, behind, self.bounds)?;
+        self.bounds = self.bounds.turned_range(on, front, behind);
         self.items = items;
         Ok(())
     }
@@ -311,6 +322,7 @@ impl ListWidget {
             options: self.options.try_clone()?,
             items: self.items.share()?,
             active: self.active,
+            bounds: self.bounds,
         })
     }
 }

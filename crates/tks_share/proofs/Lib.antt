@@ -4,3 +4,4 @@ pub mod Mapped
 pub mod Going
 pub mod AtPlace
 pub mod Alike
+pub mod Members

@@ -2,7 +2,7 @@
 ghost use Rattle.std.specs.Prelude.{◌≡◌, T};
 ghost use Rattle.std.specs.Iterator.{YieldsFirstBy, item_count};
 ghost use Rattle.std.specs.FinMap.Entries.{is_sorted};
-ghost use Rattle.tks_share.specs.Names.{order};
+ghost use Rattle.tks_share.specs.Names.{order, behind};
 ghost use Rattle.tks_share.specs.Maps.{entry_seen};
 
 use crate::names::{self, Entry};
@@ -41,6 +41,17 @@ impl<'a, V: Drop> Iter<'a, V> {
         Iter {
             tree,
             next: tree.first(),
+        }
+    }
+
+    // Those of them whose names come behind this one.
+    pub(crate) fn behind(tree: &'a Tree<Entry<V>>, name: &[u8]) -> Iter<'a, V>
+        requires { T (is_sorted order tree.now) }
+        ensures { result ≡ behind name.now tree.now }
+    {
+        Iter {
+            tree,
+            next: names::after(tree, name),
         }
     }
 }

@@ -1,6 +1,7 @@
 //! Maps from names, whose copies share what they have in common.
 ghost use Rattle.std.specs.Prelude.{◌≡◌, ◌<◌, ◌^◌, true, IfOk, IfSome, IfNone, None, OnOk, OnErr, option_copied};
 ghost use Rattle.std.specs.FinMap as map;
+ghost use Rattle.tks_share.specs.Names.{behind};
 
 use crate::change::Change;
 use crate::copied::Copied;
@@ -135,6 +136,13 @@ impl<V: Drop> SharedMap<V> {
         ensures { result ≡ map.entries self.now }
     {
         Iter::of(&self.tree)
+    }
+
+    /// The names that come behind this one, with what is under each, in the names' order.
+    pub fn iter_behind(&self, name: &[u8]) -> Iter<'_, V>
+        ensures { result ≡ behind name.now (map.entries self.now) }
+    {
+        Iter::behind(&self.tree, name)
     }
 }
 

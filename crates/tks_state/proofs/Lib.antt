@@ -7,6 +7,7 @@ mod Unmoved
 mod Marks
 pub mod Children
 mod Linked
+pub mod Distinct
 pub mod Restored
 pub mod Possible
 mod Looping

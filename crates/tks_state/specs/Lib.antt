@@ -6,6 +6,7 @@ pub mod ClassBindings
 pub mod FirstTable
 pub mod EventLoop
 pub mod Windows
+pub mod Asking
 pub mod Calling
 pub mod Rules
 pub mod World

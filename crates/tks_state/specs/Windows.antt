@@ -59,10 +59,14 @@ new_kept number w = record { window = number; widget = w; tags = None; packing =
 abbrev pub with_widget_at : List Kept → ℕ → Widget → List Kept
 with_widget_at kept number v = on_kept (kept_of kept number) kept (λ k. replaced number (with_widget k v) kept)
 
--- what the widget of a window answers to the words of a whole command, and what is kept then; where no window has the number,
--- nothing is said
+-- what is said of what is done to the widget of a window, and what is kept then; where no window has the number, nothing is
+-- said
+abbrev pub done_at : List Kept → ℕ → (Widget → Result (Said × Widget) ScriptFault) → Result (Said × List Kept) ScriptFault
+done_at kept number does = on_kept (kept_of kept number) (Ok (Text [], kept)) (λ k. after (does k.widget) (λ x. Ok (x.0, with_widget_at kept number x.1)))
+
+-- what it answers to the words of a whole command
 abbrev pub called_at : List Kept → ℕ → List (List ℕ) → Result (Said × List Kept) ScriptFault
-called_at kept number words = on_kept (kept_of kept number) (Ok (Text [], kept)) (λ k. after (widgets.called k.widget words) (λ x. Ok (x.0, with_widget_at kept number x.1)))
+called_at kept number words = done_at kept number (λ w. widgets.called w words)
 
 -- other tags of a window
 abbrev pub with_tags_at : List Kept → ℕ → Option (List (List ℕ)) → List Kept
@@ -125,9 +129,13 @@ destroyed x number = after (tree.destroyed x.tree number) (λ _. Ok (without x n
 abbrev pub changed : Windows → ℕ → Widget → Windows
 changed x number v = record x { kept = with_widget_at x.kept number v }
 
--- the widget of a window, called with the words of a whole command
+-- the widget of a window, to which something is done
+abbrev pub done : Windows → ℕ → (Widget → Result (Said × Widget) ScriptFault) → Result (Said × Windows) ScriptFault
+done x number does = after (done_at x.kept number does) (λ y. Ok (y.0, record x { kept = y.1 }))
+
+-- one that is called with the words of a whole command
 abbrev pub called : Windows → ℕ → List (List ℕ) → Result (Said × Windows) ScriptFault
-called x number words = after (called_at x.kept number words) (λ y. Ok (y.0, record x { kept = y.1 }))
+called x number words = done x number (λ w. widgets.called w words)
 
 -- a window with other tags (bindtags(n))
 abbrev pub tagged : Windows → ℕ → Option (List (List ℕ)) → Windows

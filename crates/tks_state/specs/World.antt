@@ -173,6 +173,10 @@ with_fault text w = record w { faults = events.with_fault text w.faults }
 abbrev pub scene : World → List ℕ → Event → Scene
 scene w tag e = record { bindings = w.bindings.bindings; tag = tag; event = e; history = w.history; virtuals = w.virtuals }
 
+-- scripts are run by other rules
+abbrev pub with_rules : Rules → World → World
+with_rules rules w = record w { rules = rules }
+
 -- ---- turns
 
 abbrev pub loop_of : World → EventLoop

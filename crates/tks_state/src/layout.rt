@@ -1,5 +1,5 @@
 //! Where the windows lie on the grid.
-ghost use Rattle.std.specs.Prelude.{◌≡◌, ◌+◌, ◌≤◌, ◌<◌, ◌^◌, ◌++◌, [], ◌∷◌, true, Some, IfOk, IfSome, OnOk};
+ghost use Rattle.std.specs.Prelude.{◌≡◌, ◌+◌, ◌≤◌, ◌<◌, ◌^◌, ◌++◌, [], ◌∷◌, map, true, Some, IfOk, IfSome, OnOk};
 ghost use Rattle.std.specs.List.{AllByRecursion};
 ghost use Rattle.tks_pack.specs.Laws.{LiesInside};
 ghost use Rattle.tks_state.specs.Layout.{size_of, sizes, on_grid, with_content, with_contents, with_contents_of, placed_in, with_area, extent_of, grid_area, shown_of, shown_windows, covers, last_over, topmost, LiesOn, IsShownOn, AllInside, AllShownOn};
@@ -58,6 +58,17 @@ fn size_of(
     }
 }
 
+// All that is kept, in a row: a list that copies share is walked from the front alone.
+fn in_a_row(alloc: Global, kept: &SharedList<Kept>) -> Result<Vec<&Kept>, AllocError>
+    ensures { IfOk result (λ row. map (λ k. k.now) row.items ≡ kept.now) }
+{
+    let mut row = Vec::with_capacity(alloc, kept.len())?;
+    for one in kept.iter() {
+        row.push(one)?;
+    }
+    Ok(row)
+}
+
 // How large windows ask to be.
 fn sizes_of(
     alloc: Global,
@@ -66,13 +77,12 @@ fn sizes_of(
 ) -> Result<ByWindow<Extent>, AllocError>
     ensures { IfOk result (λ s. s ≡ sizes variables.now kept.now) }
 {
+    let row = in_a_row(alloc, kept)?;
     let mut sizes = ByWindow::new(alloc);
-    let mut left = kept.len();
+    let mut left = row.len();
     while left > 0 {
         left -= 1;
-        let Some(one) = kept.get(left) else {
-            unreachable!()
-        };
+        let one = row[left];
         let size = size_of(alloc, variables, one, &sizes)?;
         sizes.insert(one.window, size)?;
     }

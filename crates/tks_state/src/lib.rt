@@ -1,6 +1,7 @@
 //! The world: what is kept between inputs, and where its windows lie on the grid.
 #![tactic(auto)]
 
+mod asking;
 mod by_window;
 mod calling;
 mod class_bindings;

@@ -1,10 +1,12 @@
 //! What a world is made again of, and which parts are those of a world.
-ghost use Rattle.std.specs.Prelude.{◌≡◌, ◌<◌, ◌^◌, nat_le, length, map, Some, None, IfOk, if◌then◌else◌};
+ghost use Rattle.std.specs.Prelude.{◌≡◌, ℕ, ◌<◌, ◌^◌, ◌==◌, ◌||◌, nat_le, not, length, map, Some, None, IfOk, OnOk, if◌then◌else◌};
+ghost use Rattle.std.specs.BTreeSet.{contains};
 ghost use Rattle.std.specs.List.{list_all};
+ghost use Rattle.std.specs.Ordering.{nat_cmp};
 ghost use Rattle.tks_tree.specs.View.{window_seen};
 ghost use Rattle.tks_tree.specs.Windows.{parent};
 ghost use Rattle.tks_state.specs.Events.{max_faults};
-ghost use Rattle.tks_state.specs.Restoring.{kept_of_parts, is_kept_of, are_in_step, is_among, are_distinct, is_number, packs_children};
+ghost use Rattle.tks_state.specs.Restoring.{kept_of_parts, is_kept_of, are_in_step, are_distinct, is_number, packs_children};
 
 use crate::event_loop::EventLoop;
 use crate::events::Events;
@@ -12,6 +14,7 @@ use crate::kept::{Kept, held_tags};
 use crate::rules::Rules;
 use crate::widget::Widget;
 use std::alloc::{AllocError, Global};
+use std::collections::BTreeSet;
 use tks_app::Memories;
 use tks_bind::{Bindings, History, Virtuals};
 use tks_event::Held;
@@ -206,29 +209,26 @@ pub fn are_in_step(tree: &Tree, kept: &SharedList<Kept>) -> bool
     true
 }
 
-// Whether a window is one of those that are packed.
-fn is_among(window: WindowId, contents: Items<'_, Content>) -> bool
-    ensures { result ≡ is_among window (map (λ c. c.window) contents.entry) }
+// Keeps that a window was seen, and says whether it was the first time.
+fn add_seen(seen: &mut BTreeSet<u64>, window: WindowId) -> Result<bool, AllocError>
+    ensures is_new { IfOk result (λ is_new. is_new ≡ not (contains nat_cmp seen.old window)) }
+    ensures kept { OnOk result ((n : ℕ) → contains nat_cmp seen.new n ≡ (window == n || contains nat_cmp seen.old n)) }
 {
-    for content in contents {
-        if window == content.window {
-            return true;
-        }
-    }
-    false
+    let is_new = seen.insert(window.number())?;
+    Ok(is_new)
 }
 
 // Whether packed windows differ.
-fn are_distinct(contents: Items<'_, Content>) -> bool
-    ensures { result ≡ are_distinct (map (λ c. c.window) contents.entry) }
+fn are_distinct(alloc: Global, contents: Items<'_, Content>) -> Result<bool, AllocError>
+    ensures { IfOk result (λ b. b ≡ are_distinct (map (λ c. c.window) contents.entry)) }
 {
-    let mut rest = contents;
-    while let Some(first) = rest.next() {
-        if is_among(first.window, rest.again()) {
-            return false;
+    let mut seen = BTreeSet::new(alloc);
+    for content in contents {
+        if !add_seen(&mut seen, content.window)? {
+            return Ok(false);
         }
     }
-    true
+    Ok(true)
 }
 
 // Whether windows stand right in one.
@@ -244,16 +244,20 @@ fn are_children(tree: &Tree, container: WindowId, contents: Items<'_, Content>) 
 }
 
 /// Whether the windows that are packed in each differ, and stand right in it.
-pub fn all_pack_children(tree: &Tree, kept: &SharedList<Kept>) -> bool
-    ensures { result ≡ list_all (packs_children tree.now) kept.now }
+pub fn all_pack_children(
+    alloc: Global,
+    tree: &Tree,
+    kept: &SharedList<Kept>,
+) -> Result<bool, AllocError>
+    ensures { IfOk result (λ b. b ≡ list_all (packs_children tree.now) kept.now) }
 {
     for one in kept.iter() {
         let packing = &one.packing;
-        if !are_distinct(packing.contents())
+        if !are_distinct(alloc, packing.contents())?
             || !are_children(tree, one.window, packing.contents())
         {
-            return false;
+            return Ok(false);
         }
     }
-    true
+    Ok(true)
 }

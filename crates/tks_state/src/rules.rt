@@ -2,7 +2,7 @@
 ghost use Rattle.std.specs.Prelude.{◌≡◌};
 ghost use Rattle.tks_state.specs.Rules.{number_of, numbered};
 
-/// The rules by which the scripts of a world are run. No input leads to the second ones yet.
+/// The rules by which the scripts of a world are run.
 #[derive(Clone, Copy, Debug, PartialEq, Eq)]
 pub enum Rules {
     /// Those under which every world begins.

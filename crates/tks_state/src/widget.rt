@@ -1,5 +1,5 @@
 //! What a window is, by its class.
-ghost use Rattle.std.specs.Prelude.{◌≡◌, IfOk, IfSome, OnErr};
+ghost use Rattle.std.specs.Prelude.{◌≡◌, IfOk, OnErr};
 ghost use Rattle.tks_text.specs.Fault.{Gives};
 ghost use Rattle.tks_pack.specs.Packing.{capped};
 ghost use Rattle.tks_state.specs.WellFormed.{WellFormedWidget};
@@ -152,18 +152,6 @@ impl Widget {
                 let said = text.call(words)?;
                 Ok(said)
             }
-        }
-    }
-
-    /// What the words of a whole command come to where they change nothing, the window's path first, as `call` answers; none where
-    /// they may change something.
-    pub fn tell(&self, words: &[Txt]) -> Option<Result<Said, Failure>>
-        ensures { IfSome result (λ r. Gives (λ said. (said, self.now)) r (called self.now words.now)) }
-    {
-        match self {
-            Widget::Listbox(listbox) => listbox.tell(words),
-            Widget::Text(text) => text.tell(words),
-            Widget::Frame(_) | Widget::Caption(_) | Widget::Entry(_) => None,
         }
     }
 

@@ -6,11 +6,13 @@ ghost use Rattle.tks_tree.specs.Meets.{MakesSo};
 ghost use Rattle.tks_share.specs.Lists.{Rises};
 ghost use Rattle.tks_state.specs.Widget.{class_of};
 ghost use Rattle.tks_state.specs.Windows.{kept_of, replaced, with_widget_at, with_tags_at, called_at, called, packed_at, forgotten_at, propagating, still_there, first_windows, created, destroyed, changed, tagged, packed, unpacked, with_propagation};
+ghost use Rattle.tks_state.specs.Asking.{AsksSo, changed_at, changed_in};
 ghost use Rattle.tks_state.specs.EventLoop.{Stay};
 ghost use Rattle.tks_state.specs.WellFormed.{WellFormedWindows, mark_of};
 ghost use Rattle.tks_tree.specs.WellFormed.{is_widget_class};
 ghost use Rattle.tks_state.specs.Restoring.{are_windows};
 
+use crate::asking::{Asked, WidgetChange};
 use crate::calling::Calling;
 use crate::kept::{Kept, held_tags};
 use crate::restoring::{all_pack_children, are_in_step};
@@ -102,35 +104,38 @@ fn set_widget_at(
     Ok(())
 }
 
-// What the widget of a window answers to the words of a whole command, where they change nothing.
-fn tell_at(
+// What the widget of a window answers to the words of a whole command, or the change that they say.
+fn ask_at<'w>(
+    alloc: Global,
     kept: &SharedList<Kept>,
     window: WindowId,
-    words: &[Txt],
-) -> Option<Result<Said, Failure>>
+    words: &'w [Txt],
+) -> Result<Asked<'w>, Failure>
     requires { Rises (λ k. k.window) 0 kept.now }
-    ensures { IfSome result (λ r. Gives (λ said. (said, kept.now)) r (called_at kept.now window words.now)) }
+    ensures { AsksSo (changed_at kept.now window) result (called_at kept.now window words.now) kept.now }
 {
-    let one = find(kept, window)?;
-    one.widget.get().tell(words)
+    match find(kept, window) {
+        Some(one) => one.widget.get().ask(words),
+        None => Ok(Asked::Said(Said::Text(Txt::new(alloc)))),
+    }
 }
 
-// Calls the widget of a window with the words of a whole command.
-fn call_at(
+// Makes a change of the widget of a window.
+fn change_at(
     alloc: Global,
     kept: &mut SharedList<Kept>,
     window: WindowId,
-    words: &[Txt],
+    change: WidgetChange<'_>,
 ) -> Result<Said, Failure>
     requires { Rises (λ k. k.window) 0 kept.old }
-    ensures value { Gives (λ said. (said, kept.new)) result (called_at kept.old window words.now) }
+    ensures value { Gives (λ said. (said, kept.new)) result (changed_at kept.old window change.entry) }
     ensures marks { map mark_of kept.new ≡ map mark_of kept.old }
     ensures err { OnErr result (kept.new ≡ kept.old) }
 {
     let Some(place) = kept.place_of(window.number()) else {
         return Ok(Said::Text(Txt::new(alloc)));
     };
-    match kept.change(place, &mut Calling { alloc, words })? {
+    match kept.change(place, &mut Calling { alloc, change })? {
         Some(answer) => answer,
         None => unreachable!(),
     }
@@ -252,13 +257,17 @@ impl Windows {
     }
 
     /// Those with this tree, where this is what is kept of each of its windows.
-    pub fn restore(alloc: Global, tree: Tree, kept: SharedList<Kept>) -> Option<Windows>
-        ensures { result ≡ (if are_windows (record { tree = tree; kept = kept }) then Some (record { tree = tree; kept = kept }) else None) }
+    pub fn restore(
+        alloc: Global,
+        tree: Tree,
+        kept: SharedList<Kept>,
+    ) -> Result<Option<Windows>, AllocError>
+        ensures { IfOk result (λ windows. windows ≡ (if are_windows (record { tree = tree; kept = kept }) then Some (record { tree = tree; kept = kept }) else None)) }
     {
-        if are_in_step(&tree, &kept) && all_pack_children(&tree, &kept) {
-            Some(Windows { alloc, tree, kept })
+        if are_in_step(&tree, &kept) && all_pack_children(alloc, &tree, &kept)? {
+            Ok(Some(Windows { alloc, tree, kept }))
         } else {
-            None
+            Ok(None)
         }
     }
 
@@ -329,22 +338,25 @@ impl Windows {
         Ok(())
     }
 
-    /// What the widget of a window answers to the words of a whole command, the window's path first, where they change nothing;
-    /// none where they may change something.
-    pub fn tell(&self, window: WindowId, words: &[Txt]) -> Option<Result<Said, Failure>>
-        ensures { IfSome result (λ r. Gives (λ said. (said, self.now)) r (called self.now window words.now)) }
+    /// What the widget of a window answers to the words of a whole command, the window's path first, or the change that they
+    /// say. Where no window has the number, the answer is empty.
+    pub(crate) fn ask<'w>(&self, window: WindowId, words: &'w [Txt]) -> Result<Asked<'w>, Failure>
+        ensures { AsksSo (changed_in self.now window) result (called self.now window words.now) self.now }
     {
-        tell_at(&self.kept, window, words)
+        ask_at(self.alloc, &self.kept, window, words)
     }
 
-    /// What the widget of a window answers to the words of a whole command, the window's path first. Where no window has the
-    /// number, the answer is empty.
-    pub fn call(&mut self, window: WindowId, words: &[Txt]) -> Result<Said, Failure>
-        ensures value { Gives (λ said. (said, self.new)) result (called self.old window words.now) }
+    /// Makes a change of the widget of a window. Where no window has the number, nothing is done.
+    pub(crate) fn change(
+        &mut self,
+        window: WindowId,
+        change: WidgetChange<'_>,
+    ) -> Result<Said, Failure>
+        ensures value { Gives (λ said. (said, self.new)) result (changed_in self.old window change.entry) }
         ensures err { OnErr result (self.new ≡ self.old) }
         ensures tree { self.new.tree ≡ self.old.tree }
     {
-        let said = call_at(self.alloc, &mut self.kept, window, words)?;
+        let said = change_at(self.alloc, &mut self.kept, window, change)?;
         Ok(said)
     }
 

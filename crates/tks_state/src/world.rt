@@ -15,9 +15,10 @@ ghost use Rattle.tks_state.specs.WellFormed.{WellFormed};
 ghost use Rattle.tks_state.specs.Restoring.{counts_fit, restored};
 ghost use Rattle.tks_queue.specs.EventQueue.{first};
 ghost use Rattle.tks_timer.specs.After.{script_in, kept_under};
-ghost use Rattle.tks_state.specs.World.{with_virtual, without_virtual, without_virtual_sequence, with_clock, queued, without_event, with_timer, with_idle, without_id, without_script, focused, holding, pressed_in};
+ghost use Rattle.tks_state.specs.World.{with_virtual, without_virtual, without_virtual_sequence, with_rules, with_clock, queued, without_event, with_timer, with_idle, without_id, without_script, focused, holding, pressed_in};
 ghost use Rattle.tks_state.specs.World.{world_with, first_world, with_window, with_widget, called, unpacked, destroyed, tagged, packed, with_propagation, bound_to, with_event, with_fault, scene, windows_of};
 
+use crate::asking::Asked;
 use crate::event_loop::{EventLoop, is_there, left_pressed};
 use crate::events::Events;
 use crate::kept::Kept;
@@ -206,7 +207,7 @@ impl World {
         if variables.depth() > 0 || !event_loop.is_in(&tree) {
             return Ok(None);
         }
-        let Some(windows) = Windows::restore(alloc, tree, kept) else {
+        let Some(windows) = Windows::restore(alloc, tree, kept)? else {
             return Ok(None);
         };
         let Some(events) = events.made(alloc)? else {
@@ -276,6 +277,13 @@ impl World {
         ensures { result ≡ self.now.rules }
     {
         self.rules
+    }
+
+    /// Has scripts run by other rules from here on.
+    pub fn set_rules(&mut self, rules: Rules)
+        ensures { self.new ≡ with_rules rules self.old }
+    {
+        self.rules = rules;
     }
 
     /// The grid's size.
@@ -401,12 +409,15 @@ impl World {
         ensures value { Gives (λ said. (said, self.new)) result (called self.old window words.now) }
         ensures err { OnErr result (self.new ≡ self.old) }
     {
-        if let Some(told) = self.windows.tell(window, words) {
-            return told;
+        match self.windows.ask(window, words) {
+            Ok(Asked::Said(said)) => Ok(said),
+            Ok(Asked::Changes(change)) => {
+                self.places = Places::unknown();
+                let said = self.windows.change(window, change)?;
+                Ok(said)
+            }
+            Err(failure) => Err(failure),
         }
-        self.places = Places::unknown();
-        let said = self.windows.call(window, words)?;
-        Ok(said)
     }
 
     /// Sets the tags of a window, or takes away those that were set. Where no window has the number, nothing is done.

@@ -1,5 +1,5 @@
 -- Windows by their numbers, and by their paths.
-use Rattle.std.proofs.Common.{◌≡◌, ℕ, ◌+◌, ◌≤◌, Bool, true, false, cond, ◌||◌, ◌&&◌, not, List, [], ◌∷◌, ◌++◌, length, Option, Some, None, is_some, refl, sym, ap, ◌∙◌, true≢false, arith}
+use Rattle.std.proofs.Common.{◌≡◌, ℕ, ◌+◌, ◌≤◌, Bool, true, false, cond, not, List, [], ◌∷◌, ◌++◌, length, Option, Some, None, is_some, refl, sym, ap, ◌∙◌, true≢false, arith}
 use Rattle.std.specs.Prelude.{◌==◌, nat_lt}
 use Rattle.std.specs.List.{find, position, position_or_len}
 use Rattle.std.specs.Option.{option_map}
@@ -11,9 +11,8 @@ use Rattle.tks_share.specs.Maps.{Map}
 use Rattle.tks_share.specs.Lists.{Rises}
 use Rattle.tks_share.proofs.Alike.{names_alike}
 use Rattle.tks_text.specs.Text.{same_text}
-use Rattle.tks_tree.specs.Path.{is_within}
 use Rattle.tks_tree.specs.Windows.{Window, of_path, of_number, has_path, number_at}
-use Rattle.tks_tree.specs.View.{Indexes, others}
+use Rattle.tks_tree.specs.View.{Indexes}
 use Rattle.tks_tree.specs.WellFormed.{Rise}
 use Rattle.tks_tree.proofs.Trees.{from_some, some_is_none}
 
@@ -131,75 +130,3 @@ one_more index ws w is new = λ q.
     at q true s (Some v) e = absurd (true≢false (sym (ap is_some e) ∙ ap (has_path ws) ((bytes_decides q w.path).0 s) ∙ new))
     at q false s None e = refl
     at q false s (Some v) e = refl
-
--- ---- the windows but for one and those in it
-
-module _ (path : List ℕ) where
-  -- whether a window that goes has this path
-  abbrev pub goes_with : List ℕ → List Window → Bool
-  goes_with q [] = false
-  goes_with q (w ∷ ws) = (is_within path w.path && same_text q w.path) || goes_with q ws
-
-  -- the index, once those that go of the rest are out, has those that stay of all
-  abbrev pub Leaves : List Window → List Window → Map ℕ → Type 0
-  Leaves all rest index = (q : List ℕ) → cond (goes_with q rest) None (fin.get index q) ≡ number_at (others path all) (Some q)
-
-  pub first : (index : Map ℕ) (ws : List Window) → Indexes index ws → Leaves ws ws index
-  first index ws is = λ q. ap (cond (goes_with q ws) None) (is q) ∙ left ws q
-    where
-      left : (ws : List Window) (q : List ℕ) → cond (goes_with q ws) None (number_at ws (Some q)) ≡ number_at (others path ws) (Some q)
-      left [] q = refl
-      left (w ∷ ws) q = by (is_within path w.path) refl (same_text q w.path) refl (left ws q)
-        where
-          -- those of its path go where it goes
-          all_go : is_within path w.path ≡ true → same_text q w.path ≡ true → (vs : List Window) → number_at (others path vs) (Some q) ≡ None
-          all_go k s [] = refl
-          all_go k s (v ∷ vs) = on (is_within path v.path) refl (same_text q v.path) refl (all_go k s vs)
-            where
-              on : (b : Bool) → is_within path v.path ≡ b → (c : Bool) → same_text q v.path ≡ c → number_at (others path vs) (Some q) ≡ None
-                  → number_at (cond (not b) (v ∷ others path vs) (others path vs)) (Some q) ≡ None
-              on true e c f rest = rest
-              on false e true f rest =
-                  absurd (true≢false (sym k ∙ ap (is_within path) (sym ((bytes_decides q w.path).0 s) ∙ (bytes_decides q v.path).0 f) ∙ e))
-              on false e false f rest = ap (λ b. option_map (λ (u : Window). u.number) (cond b (Some v) (of_path (others path vs) q))) f ∙ rest
-
-          -- those of its path stay where it stays
-          none_goes : is_within path w.path ≡ false → same_text q w.path ≡ true → (vs : List Window) → goes_with q vs ≡ false
-          none_goes k s [] = refl
-          none_goes k s (v ∷ vs) = on (is_within path v.path) refl (same_text q v.path) refl (none_goes k s vs)
-            where
-              on : (b : Bool) → is_within path v.path ≡ b → (c : Bool) → same_text q v.path ≡ c → goes_with q vs ≡ false → ((b && c) || goes_with q vs) ≡ false
-              on true e true f rest = absurd (true≢false (sym e ∙ ap (is_within path) (sym ((bytes_decides q v.path).0 f) ∙ (bytes_decides q w.path).0 s) ∙ k))
-              on true e false f rest = rest
-              on false e c f rest = rest
-
-          by : (b : Bool) → is_within path w.path ≡ b → (c : Bool) → same_text q w.path ≡ c → cond (goes_with q ws) None (number_at ws (Some q)) ≡ number_at (others path ws) (Some q)
-              → cond ((b && c) || goes_with q ws) None (option_map (λ (u : Window). u.number) (cond c (Some w) (of_path ws q)))
-              ≡ number_at (cond (not b) (w ∷ others path ws) (others path ws)) (Some q)
-          by true k true s rest = sym (all_go k s ws)
-          by true k false s rest = rest
-          by false k true s rest =
-              ap (λ b. cond b None (Some w.number)) (none_goes k s ws)
-              ∙ sym (ap (λ b. option_map (λ (u : Window). u.number) (cond b (Some w) (of_path (others path ws) q))) s)
-          by false k false s rest = rest ∙ sym (ap (λ b. option_map (λ (u : Window). u.number) (cond b (Some w) (of_path (others path ws) q))) s)
-
-  -- one that goes is taken out of the index
-  pub taken_out : (all rest : List Window) (w : Window) (index : Map ℕ) → is_within path w.path ≡ true → Leaves all (w ∷ rest) index → Leaves all rest (fin.remove index w.path)
-  taken_out all rest w index k leaves = λ q.
-      ap (cond (goes_with q rest) None) (fin.get-remove nat_list_cmp_total index w.path q ∙ ap (λ b. cond b None (fin.get index q)) (names_alike q w.path))
-      ∙ either (goes_with q rest) (same_text q w.path) (fin.get index q)
-      ∙ ap (λ b. cond ((b && same_text q w.path) || goes_with q rest) None (fin.get index q)) (sym k)
-      ∙ leaves q
-    where
-      either : (a b : Bool) (o : Option ℕ) → cond a None (cond b None o) ≡ cond (b || a) None o
-      either true true o = refl
-      either true false o = refl
-      either false true o = refl
-      either false false o = refl
-
-  -- one that stays is left in it
-  pub left_in : (all rest : List Window) (w : Window) (index : Map ℕ) → is_within path w.path ≡ false → Leaves all (w ∷ rest) index → Leaves all rest index
-  left_in all rest w index k leaves = λ q. ap (λ b. cond ((b && same_text q w.path) || goes_with q rest) None (fin.get index q)) (sym k) ∙ leaves q
-
-  pub last : (all : List Window) (index : Map ℕ) → Leaves all [] index → Indexes index (others path all)
-  last all index leaves = λ q. leaves q

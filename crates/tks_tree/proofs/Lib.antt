@@ -2,6 +2,9 @@ pub mod Paths
 pub mod Indexed
 pub mod Trees
 pub mod Removals
+pub mod Behind
+pub mod Within
+pub mod Leaving
 pub mod Preorders
 pub mod Families
 pub mod Once

@@ -121,7 +121,7 @@ either_false false b h = (refl, h)
 either_false true b h = absurd (true≢false h)
 
 -- a window has a path, which none before it has
-new_path : (before ws : List Window) (n : ℕ) (w : Window) → AllFollow before ws → of_number ws n ≡ Some w → (is_path w.path ≡ true) × (has_path before w.path ≡ false)
+pub new_path : (before ws : List Window) (n : ℕ) (w : Window) → AllFollow before ws → of_number ws n ≡ Some w → (is_path w.path ≡ true) × (has_path before w.path ≡ false)
 new_path before [] n w all e = absurd (some_is_none (sym e))
 new_path before (v ∷ ws) n w all e = by (v.number == n) e (new_path (before ++ v ∷ []) ws n w all.1)
   where
@@ -138,7 +138,7 @@ unlike v path h = by (same_text path v.path) h
     by true h = absurd (true≢false h)
 
 -- a window has its path alone
-own_path : (before ws : List Window) (n : ℕ) (w : Window) → AllFollow before ws → of_number ws n ≡ Some w → of_path ws w.path ≡ Some w
+pub own_path : (before ws : List Window) (n : ℕ) (w : Window) → AllFollow before ws → of_number ws n ≡ Some w → of_path ws w.path ≡ Some w
 own_path before [] n w all e = absurd (some_is_none (sym e))
 own_path before (v ∷ ws) n w all e = by (v.number == n) e (own_path (before ++ v ∷ []) ws n w all.1)
   where

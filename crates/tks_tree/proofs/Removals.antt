@@ -1,5 +1,5 @@
 -- What holds of the windows that are left where one was destroyed.
-use Rattle.std.proofs.Common.{◌≡◌, ℕ, Bool, true, false, cond, ◌||◌, ◌&&◌, not, List, [], ◌∷◌, ◌++◌, Option, Some, None, is_some, refl, sym, ap, subst, ◌∙◌, true≢false, if◌then◌else◌, Ok, Err}
+use Rattle.std.proofs.Common.{◌≡◌, ℕ, Bool, true, false, cond, ◌||◌, ◌&&◌, not, List, [], ◌∷◌, ◌++◌, Option, Some, None, is_some, refl, sym, ap, subst, ◌∙◌, true≢false}
 use Rattle.std.specs.Prelude.{◌==◌, slice_get, length, nat_lt}
 use Rattle.std.specs.List.{find, filter, position, position_or_len}
 use Rattle.std.specs.Cmp.Lexicographic.{bytes_decides}
@@ -11,8 +11,7 @@ use Rattle.std.proofs.lemmas.Option.{slice_get_past}
 use Rattle.std.proofs.lemmas.List.Folds.{find_at}
 use Rattle.std.proofs.lemmas.Bool.{ltb-false, eqb-true, eq-eqb}
 use Rattle.tks_tree.specs.View.{others}
-use Rattle.tks_tree.specs.Windows.{Window, Windows, root, on_window, of_path, of_number, has_path, without, destroyed}
-use Rattle.tks_text.specs.declared.fault.ErrorNumber.TheVariants.{NotAllowedOnRoot}
+use Rattle.tks_tree.specs.Windows.{Window, Windows, root, of_path, of_number, has_path}
 use Rattle.tks_tree.specs.WellFormed.{StandsIn, Follows, AllFollow, HaveOwnClasses, WellFormed}
 use Rattle.tks_tree.proofs.Trees.{rise_filter, within_child, true_or, has_more, from_some, some_is_none}
 
@@ -160,16 +159,3 @@ well_without t number w well other is =
     ∙ sym (ap (find (λ u. u.number == number)) well.first.1) ∙ is in
     let path = other_path (λ u. u.number == number) (root ∷ []) well.first.0 w (subst (AllFollow []) well.first.1 well.founded).1 refl later in
     well_left w.path t well path.0 path.1
-
--- what destroying does, where there is a window, and where there is none
-pub destroyed_one : (t : Windows) (number : ℕ) (w : Window) (left : List Window) → (number == 0) ≡ false → of_number t.windows number ≡ Some w → left ≡ others w.path t.windows
-    → destroyed t number ≡ Ok (record t { windows = left })
-destroyed_one t number w left other is l =
-    ap (λ (b : Bool). if b then Err (record { number = NotAllowedOnRoot; subject = None }) else Ok (without t number)) other
-    ∙ ap (λ o. Ok (on_window o t (λ w. record t { windows = filter (λ v. not (is_within w.path v.path)) t.windows }))) is
-    ∙ ap (λ ws. Ok (record t { windows = ws })) (sym l)
-
-pub destroyed_none : (t : Windows) (number : ℕ) → (number == 0) ≡ false → of_number t.windows number ≡ None → destroyed t number ≡ Ok t
-destroyed_none t number other is =
-    ap (λ (b : Bool). if b then Err (record { number = NotAllowedOnRoot; subject = None }) else Ok (without t number)) other
-    ∙ ap (λ o. Ok (on_window o t (λ w. record t { windows = filter (λ v. not (is_within w.path v.path)) t.windows }))) is

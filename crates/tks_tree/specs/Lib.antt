@@ -3,5 +3,6 @@ pub mod Windows
 pub mod Families
 pub mod WellFormed
 pub mod View
+pub mod Within
 pub mod Meets
 pub mod Laws

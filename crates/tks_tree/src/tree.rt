@@ -1,20 +1,23 @@
 //! The tree of windows, in the order in which they were made.
 ghost use Rattle.std.specs.Prelude.{◌≡◌, ◌↔◌, ◌≤◌, true, ◌==◌, ◌++◌, ℕ, Bool, Some, ◌<◌, not, position, length, reverse, slice_get, IfOk, IfSome, OnOk, OnErr, option_map};
-ghost use Rattle.tks_tree.specs.Path.{parent_of, is_child, is_within};
+ghost use Rattle.std.specs.List.{filter};
+ghost use Rattle.tks_tree.specs.Path.{parent_of, is_child};
 ghost use Rattle.tks_text.specs.Fault.{Gives};
 ghost use Rattle.tks_tree.specs.Windows.{max_number, first_windows, of_path, has_path, of_number, parent_found, free_path, created, may_skip, skipped, destroyed, resolved, number_at, parent, children, preorder, others_behind, Chooses};
 ghost use Rattle.tks_tree.specs.Families.{families, childless, with_child};
 ghost use Rattle.tks_tree.specs.WellFormed.{is_widget_class, WellFormed};
-ghost use Rattle.tks_tree.specs.View.{window_seen, others, Indexes};
+ghost use Rattle.tks_tree.specs.View.{window_seen, Indexes};
+ghost use Rattle.tks_tree.specs.Within.{is_one_of, AreThoseIn, front_within};
 ghost use Rattle.tks_tree.specs.Meets.{MakesSo};
 
 use crate::fault::{CreateFault, error_about};
 use crate::focus::{first_accepted, others_behind};
+use crate::gone::without_windows;
 use crate::path::{ROOT, is_child, is_path, is_within, parent_of};
 use crate::window::{Entry, Window, WindowId};
 use std::alloc::{AllocError, Global};
 use std::marker::Model;
-use tks_share::{Share, SharedList, SharedMap};
+use tks_share::{Iter, Share, SharedList, SharedMap};
 use tks_text::{Class, ErrorNumber, Failure, MAX_NUMBER, ScriptFault, Seq, Txt};
 
 /// The windows that there are, in the order in which they were made. There is always `.`, and each other
@@ -209,24 +212,28 @@ impl Tree {
         true
     }
 
-    // The windows but for one of this path and those that stand in it.
-    fn others(&self, path: &Txt) -> Result<SharedList<Entry>, AllocError>
-        ensures { IfOk result (λ ws. ws ≡ others path.now self.now.windows) }
+    /// The numbers of a window and of those that stand in it, however deep; none where no window has the number. To find
+    /// them costs as much as there are of them: in the order of their bytes, their paths come right behind the window's.
+    pub fn within(&self, id: WindowId) -> Result<Vec<WindowId>, AllocError>
+        ensures { IfOk result (λ ids. AreThoseIn self.now id ids.items) }
     {
-        self.windows.kept(
-            |other: &Entry| -> bool
-                ensures { result ≡ not (is_within path.entry.now other.now.path) }
-            { !is_within(path.as_bytes(), other.path.as_bytes()) },
-        )
+        let mut ids = Vec::new(self.alloc);
+        let Some(window) = self.window(id) else {
+            return Ok(ids);
+        };
+        let path = window.path.as_bytes();
+        ids.push(id)?;
+        push_within(&mut ids, path, self.index.iter_behind(path))?;
+        Ok(ids)
     }
 
-    // The index of those.
-    fn index_of_others(&self, path: &Txt) -> Result<SharedMap<WindowId>, AllocError>
-        ensures { IfOk result (λ index. Indexes index (others path.now self.now.windows)) }
+    // The index without the paths of these windows.
+    fn index_without(&self, ids: &[WindowId]) -> Result<SharedMap<WindowId>, AllocError>
+        ensures { IfOk result (λ index. Indexes index (filter (λ w. not (is_one_of w.number ids.now)) self.now.windows)) }
     {
         let mut index = self.index.share()?;
-        for window in self.windows.iter() {
-            if is_within(path.as_bytes(), window.path.as_bytes()) {
+        for id in ids {
+            if let Some(window) = self.window(*id) {
                 index.remove(window.path.as_bytes())?;
             }
         }
@@ -245,11 +252,9 @@ impl Tree {
                 subject: None,
             }));
         }
-        let Some(window) = self.window(id) else {
-            return Ok(());
-        };
-        let windows = self.others(window.path)?;
-        let index = self.index_of_others(window.path)?;
+        let ids = self.within(id)?;
+        let windows = without_windows(&self.windows, &ids)?;
+        let index = self.index_without(&ids)?;
         self.windows = windows;
         self.index = index;
         Ok(())
@@ -380,6 +385,23 @@ impl Share for Tree {
             next: self.next,
         })
     }
+}
+
+// Adds the numbers at the front of paths in order, up to the first path that isn't within one.
+fn push_within(
+    ids: &mut Vec<WindowId>,
+    path: &[u8],
+    others: Iter<'_, WindowId>,
+) -> Result<(), AllocError>
+    ensures { OnOk result (ids.new.items ≡ ids.old.items ++ front_within path.now others.entry) }
+{
+    for (other, id) in others {
+        if !is_within(path, other) {
+            return Ok(());
+        }
+        ids.push(*id)?;
+    }
+    Ok(())
 }
 
 // Adds a window to the children of the one at a place, if any.

@@ -9,12 +9,16 @@ use Rattle.tks_app.specs.Memories.{memory_of, remembering}
 use Rattle.tks_app.specs.declared.answer.AppAnswer.{AppAnswer}
 use Rattle.tks_vars.specs.Table.{Map}
 use Rattle.tks_state.specs.World.{World}
+use Rattle.tks_cmd.specs.Meets.{LimitsSo}
 use Rattle.tks_eval.specs.Outcome.{Answer, Comes, PassesLimit}
-use Rattle.tks_eval.specs.Meets.{AnswersSo}
+use Rattle.tks_eval.specs.Meets.{AnswersSo, TakesSo}
+use Rattle.tks_eval.specs.declared.host.Due.{Due}
 use Rattle.tks_eval.specs.declared.host.Plan.{Plan}
 use Rattle.tks_eval.specs.declared.host.Plan.TheVariants as plan
-use Rattle.tks_world.specs.Hosting.{Setting, code_of, in_setting, is_of_world, world_does, answered, application_does, command_does}
-use Rattle.tks_world.specs.Meets.{CallsSo}
+use Rattle.tks_world.specs.Hosting.{Setting, code_of, in_setting, is_of_world, world_does, taken_in, thing_taken, next_taken, answered, application_does, command_does}
+use Rattle.tks_world.specs.Things.{next_due, planned}
+use Rattle.tks_world.specs.Meets.{CallsSo, PlansSo}
+use Rattle.tks_world.specs.declared.things.Thing.{Thing}
 
 -- the same answer, in a setting
 pub in_setting_so : (s : Setting) (answer : Answer World) (result : Result (Option Plan) Stop) (new : World) (before after : Variables)
@@ -52,7 +56,7 @@ module _ (s : Setting) (variables : Variables) (name : List ℕ) (a : AppAnswer)
 
 module _ (m : app.Meaning) (s t : Setting) (variables : Variables) (name : List ℕ) (words : List (List ℕ)) where
   -- a name that the application has, and no built-in command
-  pub application_so : (result : Result Plan Stop) → is_of_world s.names name ≡ false → CallsSo s.limits name (m name (memory_of s.memories name) words) result s.memories t.memories
+  pub application_so : (result : Result Plan Stop) → is_of_world s.world.rules s.names name ≡ false → CallsSo s.limits name (m name (memory_of s.memories name) words) result s.memories t.memories
       → t ≡ record s { memories = t.memories } → AnswersSo (command_does m s variables (name ∷ words)) (with_plan result) s t variables variables
   application_so result there h others =
       subst (λ (b : Bool). AnswersSo (if b then world_does s variables (name ∷ words) else application_does m s variables name words) (with_plan result) s t variables variables) (sym there)
@@ -60,7 +64,27 @@ module _ (m : app.Meaning) (s t : Setting) (variables : Variables) (name : List 
       (call_so s variables name (m name (memory_of s.memories name) words) result t.memories h))
 
   -- another name
-  pub other_so : (result : Result (Option Plan) Stop) (after : Variables) → is_of_world s.names name ≡ true → AnswersSo (world_does s variables (name ∷ words)) result s t variables after
+  pub other_so : (result : Result (Option Plan) Stop) (after : Variables) → is_of_world s.world.rules s.names name ≡ true → AnswersSo (world_does s variables (name ∷ words)) result s t variables after
       → AnswersSo (command_does m s variables (name ∷ words)) result s t variables after
   other_so result after there h =
       subst (λ (b : Bool). AnswersSo (if b then world_does s variables (name ∷ words) else application_does m s variables name words) result s t variables after) (sym there) h
+
+-- ---- what waits
+
+-- what a thing wants done, in a setting
+pub plans_so : (s : Setting) (x : Thing) (result : Result Plan Stop) (new : World) → LimitsSo (λ p. (p, new)) result (planned s.limits x s.world)
+    → PlansSo (thing_taken s x) result (record s { world = new })
+plans_so s x (Ok p) new h = ap (taken_in s) h
+plans_so s x (Err stop.TooLarge) new h = ap (taken_in s) h
+plans_so s x (Err stop.NoMemory) new h = tt
+plans_so s x (Err stop.Budget) new h = absurd h
+plans_so s x (Err stop.Depth) new h = absurd h
+
+-- the next thing, taken out
+pub next_so : (s : Setting) (due : Due) (x : Thing) (left : World) (result : Result Plan Stop) (t : Setting) → next_due due s.world ≡ Some (x, left)
+    → PlansSo (thing_taken (record s { world = left }) x) result t → TakesSo (next_taken s (next_due due s.world)) (with_plan result) s t
+next_so s due x left (Ok p) t next h = ap (next_taken s) next ∙ h
+next_so s due x left (Err stop.TooLarge) t next h = ap (next_taken s) next ∙ h
+next_so s due x left (Err stop.NoMemory) t next h = tt
+next_so s due x left (Err stop.Budget) t next h = absurd h
+next_so s due x left (Err stop.Depth) t next h = absurd h

@@ -1,6 +1,6 @@
 -- The count of inputs.
 use Rattle.std.proofs.Common.{◌≡◌, ℕ, ◌+◌, ◌==◌, ◌<◌, ◌&&◌, Bool, true, false, if◌then◌else◌, List, [], length, Option, Some, None, refl, ◌∙◌, subst, arith}
-use Rattle.std.specs.Prelude.{nat_lt}
+use Rattle.std.specs.Prelude.{nat_le, nat_lt}
 use Rattle.std.proofs.lemmas.Bool.{eqb-true}
 use Rattle.tks_event.specs.Event.{Event}
 use Rattle.tks_queue.specs.EventQueue as queue
@@ -16,19 +16,22 @@ use Rattle.tks_event.specs.declared.kind.Kind.TheVariants as kind
 use Rattle.tks_vars.specs.Table.{Map}
 use Rattle.tks_vars.specs.Variables.{Variables}
 use Rattle.tks_app.specs.Applications.{Application, Meaning}
-use Rattle.tks_state.specs.World.{with_clock}
+use Rattle.tks_state.specs.Rules.{number_of, numbered}
+use Rattle.tks_state.specs.World.{with_clock, with_rules}
+use Rattle.tks_state.specs.declared.rules.Rules.{Rules as WorldRules}
 use Rattle.tks_eval.specs.Outcome.{Outcome, End, Stopped}
+use Rattle.tks_eval.specs.declared.host.Due.TheVariants as due
 use Rattle.tks_world.specs.Buttons.{is_button_number, on_grid, target_at, release_target, press_gesture, release_gesture}
 use Rattle.tks_world.specs.Gestures.{has_room, left_by, remembering, gesture_step}
 use Rattle.tks_world.specs.Hosting.{Setting}
 use Rattle.tks_world.specs.Keys.{key_gesture}
 use Rattle.tks_world.specs.Laws.{StepsCount}
 use Rattle.tks_world.specs.Scripts.{concluded, script_ends, lent}
-use Rattle.tks_world.specs.Step.{step, max_clock}
+use Rattle.tks_world.specs.Step.{step, by_rules, max_clock}
 use Rattle.tks_world.specs.Stepped.{Stepped, Accepts, Refuses, max_count, counted, kept}
 use Rattle.tks_world.specs.Telling.{told}
-use Rattle.tks_world.specs.Things.{Next, next_thing}
-use Rattle.tks_world.specs.Turns.{finished, thing_does, turned}
+use Rattle.tks_world.specs.Things.{Next, next_due}
+use Rattle.tks_world.specs.Turns.{finished, thing_runs, turned}
 use Rattle.tks_world.specs.declared.gestures.Gesture.{Gesture}
 use Rattle.tks_input.specs.declared.input.Input.{Input}
 use Rattle.tks_input.specs.declared.input.Input.TheVariants.{Script, KeyPress, KeyRelease, Press, Release, Clock, Turn, Rules}
@@ -86,11 +89,15 @@ concluded_counts before (End code text s v fuel) = counted_counts before s.world
 
 turned_counts : (m : Meaning) (limits : Limits) (next : Next) (s : Setting) (v : Variables) → CountsOne s.world.accepted (turned m limits next s v)
 turned_counts m limits None s v = tt
-turned_counts m limits (Some x) s v = by (thing_does m limits x.0 (record s { world = x.1 }) v)
+turned_counts m limits (Some x) s v = by (thing_runs m limits x.0 (record s { world = x.1 }) v)
   where
     by : (o : Outcome Setting) → CountsOne s.world.accepted (finished s.world.accepted (told x.1 x.0) o)
     by (Stopped why) = tt
     by (End code text t u fuel) = counted_counts s.world.accepted t.world t.memories 0 (told x.1 x.0) u
+
+by_rules_counts : (rules : Option WorldRules) (w : World) → CountsOne w.accepted (by_rules rules w)
+by_rules_counts None w = tt
+by_rules_counts (Some rules) w = either w.accepted (nat_le (number_of w.rules) (number_of rules)) _ _ (kept_counts w.accepted (with_rules rules w) refl) tt
 
 step_counts : (app : Application) (w : World) (input : Input) (limits : Limits) → CountsOne w.accepted (step app w input limits)
 unfolding step
@@ -104,8 +111,8 @@ step_counts app w (Release button x y) limits =
     either w.accepted (is_button_number button && on_grid w x y) _ _ (gesture_counts limits (release_gesture button x y (release_target w x y) w) w) tt
 step_counts app w (Clock time) limits =
     either w.accepted (nat_lt max_clock time) _ _ tt (either w.accepted (nat_lt time w.clock) _ _ tt (kept_counts w.accepted (with_clock time w) refl))
-step_counts app w Turn limits = turned_counts app.meaning limits (next_thing (lent app.names limits w).world) (lent app.names limits w) w.variables
-step_counts app w (Rules number) limits = either w.accepted (number == 1) _ _ (kept_counts w.accepted w refl) tt
+step_counts app w Turn limits = turned_counts app.meaning limits (next_due due.All (lent app.names limits w).world) (lent app.names limits w) w.variables
+step_counts app w (Rules number) limits = by_rules_counts (numbered number) w
 
 pub steps_count : (app : Application) (limits : Limits) → StepsCount app limits
 steps_count app limits w input w' reply e = subst (CountsOne w.accepted) e (step_counts app w input limits)

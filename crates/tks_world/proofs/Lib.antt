@@ -8,3 +8,4 @@ pub mod Words
 pub mod Resting
 pub mod Legal
 mod Quiet
+pub mod Updates

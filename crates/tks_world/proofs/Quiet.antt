@@ -23,7 +23,7 @@ use Rattle.tks_world.specs.Step.{Refuses, step}
 use Rattle.tks_world.specs.Stepped.{Accepts, counted, max_count}
 use Rattle.tks_world.specs.Things.{Next, script_taken, idle_or_none, timer_or_idle, event_or_script, next_thing}
 use Rattle.tks_world.specs.Telling.{told}
-use Rattle.tks_world.specs.Turns.{finished, thing_does, turned, turn_step}
+use Rattle.tks_world.specs.Turns.{finished, thing_runs, turned, turn_step}
 use Rattle.tks_world.specs.declared.things.Thing.{Thing}
 use Rattle.tks_world.specs.declared.things.Thing.TheVariants as thing
 use Rattle.tks_input.specs.declared.input.Input.TheVariants.{Turn}
@@ -46,15 +46,15 @@ none_taken kind id w h = by (script_in (kept_under id w.timers)) h
     by None h = refl
     by (Some script) h = absurd cc
 
-due_there : (w : World) (id : ℕ) → IsNextDue w.clock w.timers.timers id → script_taken thing.Timer id w ≡ None → ⊥
+pub due_there : (w : World) (id : ℕ) → IsNextDue w.clock w.timers.timers id → script_in (kept_under id w.timers) ≡ None → ⊥
 due_there w id due h =
-    by (timer_script id w.timers.timers) refl (none_taken thing.Timer id w h)
+    by (timer_script id w.timers.timers) refl h
   where
     by : (o : Option (List ℕ)) → timer_script id w.timers.timers ≡ o → script_in (timer_kept o (idle_kept (idle_script id w.timers.idles))) ≡ None → ⊥
     by None none k = timer_there id due.there.before due.there.behind due.timer due.named (ap (timer_script id) (sym due.there.there) ∙ none)
     by (Some script) some k = absurd cc
 
-idle_there : (w : World) (i : Idle) (rest : List Idle) → w.timers.idles ≡ i ∷ rest → script_taken thing.Idle i.id w ≡ None → ⊥
+pub idle_there : (w : World) (i : Idle) (rest : List Idle) → w.timers.idles ≡ i ∷ rest → script_taken thing.Idle i.id w ≡ None → ⊥
 idle_there w i rest is h =
     by (timer_script i.id w.timers.timers) (none_taken thing.Idle i.id w h)
   where
@@ -74,7 +74,7 @@ no_events w h = by w.queue h
     by [] h = refl
     by (q ∷ queue) h = absurd cc
 
-none_next : (w : World) → next_thing w ≡ None → NothingWaits w
+pub none_next : (w : World) → next_thing w ≡ None → NothingWaits w
 none_next w h = by_due (due_at w.clock w.timers) refl (runs_next w.clock w.timers) (subst (λ queue. event_or_script (first queue) w ≡ None) (no_events w h) h)
   where
     by_idle : (idles : List Idle) → w.timers.idles ≡ idles → idle_or_none (first_idle idles) w ≡ None → idles ≡ []
@@ -83,7 +83,7 @@ none_next w h = by_due (due_at w.clock w.timers) refl (runs_next w.clock w.timer
 
     by_due : (o : Option ℕ) → due_at w.clock w.timers ≡ o → RunsNext w.clock w.timers.timers o → timer_or_idle o w ≡ None → NothingWaits w
     by_due None is late k = record { events = no_events w h; timers = late; idles = by_idle w.timers.idles refl k }
-    by_due (Some id) is next k = absurd (due_there w id next k)
+    by_due (Some id) is next k = absurd (due_there w id next (none_taken thing.Timer id w k))
 
 none_due : (now : ℕ) (timers : List Timer) → AllByRecursion (λ t. now < t.due) timers → first_due now timers ≡ None
 none_due now [] h = refl
@@ -119,7 +119,7 @@ quiet_so app limits w = (to, from)
 
     by : (next : Next) → next_thing setting.world ≡ next → turned app.meaning limits next setting w.variables ≡ Refuses Quiet → next_thing setting.world ≡ None
     by None is h = is
-    by (Some x) is h = absurd (done setting.world.accepted (told x.1 x.0) (thing_does app.meaning limits x.0 (record setting { world = x.1 }) w.variables) h)
+    by (Some x) is h = absurd (done setting.world.accepted (told x.1 x.0) (thing_runs app.meaning limits x.0 (record setting { world = x.1 }) w.variables) h)
 
     to : turn_step app limits w ≡ Refuses Quiet → NothingWaits w
     to h =

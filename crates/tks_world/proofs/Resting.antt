@@ -1,6 +1,6 @@
 -- No frame of variables stands between inputs.
 use Rattle.std.proofs.Common.{◌≡◌, ℕ, ◌==◌, Bool, true, false, ◌&&◌, if◌then◌else◌, List, [], ◌∷◌, length, Option, Some, None, refl, subst, ap, ◌∙◌}
-use Rattle.std.specs.Prelude.{nat_lt}
+use Rattle.std.specs.Prelude.{nat_le, nat_lt}
 use Rattle.std.proofs.lemmas.List.{nil_from_length}
 use Rattle.tks_text.specs.declared.limits.Limits.{Limits}
 use Rattle.tks_parse.specs.Tree as parsed
@@ -18,36 +18,38 @@ use Rattle.tks_event.specs.Held.{pressed, released}
 use Rattle.tks_queue.specs.EventQueue as queue
 use Rattle.tks_queue.specs.declared.place.Place.TheVariants as place
 use Rattle.tks_state.specs.EventLoop.{is_there}
-use Rattle.tks_state.specs.World.{World, queued, holding, with_clock}
+use Rattle.tks_state.specs.Rules.{number_of, numbered}
+use Rattle.tks_state.specs.World.{World, queued, holding, with_clock, with_rules}
+use Rattle.tks_state.specs.declared.rules.Rules.{Rules as WorldRules}
 use Rattle.tks_eval.specs.Outcome.{Outcome, End, Stopped, Answer, Unknown, Comes, PassesLimit}
-use Rattle.tks_eval.specs.Evaluation.{evaluate}
+use Rattle.tks_eval.specs.Evaluation.{evaluate, thing_does}
+use Rattle.tks_eval.specs.declared.host.Due.TheVariants as due
 use Rattle.tks_eval.specs.Laws.{HostLeavesFrames}
 use Rattle.tks_eval.specs.declared.host.Plan.{Plan}
 use Rattle.tks_eval.specs.declared.host.Plan.TheVariants as plan
-use Rattle.tks_eval.proofs.Framing.{Leaves, ends, if_leaves, given_leaves, settled_leaves, plan_leaves, script_run_leaves}
+use Rattle.tks_eval.proofs.Framing.{Leaves, settled_leaves, taken_leaves, script_run_leaves}
+use Rattle.tks_eval.proofs.Framing.{thing_leaves as thing_done_leaves}
 use Rattle.tks_cmd.specs.Commands.{does}
-use Rattle.tks_cmd.specs.Dispatch.{begun}
 use Rattle.tks_cmd.proofs.Framing.{leaves_frames}
 use Rattle.tks_app.specs.Applications.{Application, Meaning}
 use Rattle.tks_app.specs.Memories.{memory_of, remembering}
 use Rattle.tks_app.specs.declared.answer.AppAnswer.{AppAnswer}
 use Rattle.tks_vars.specs.Table.{Map}
-use Rattle.tks_world.specs.Hosting.{Setting, hosting, in_setting, is_of_world, world_does, code_of, application_does, command_does}
+use Rattle.tks_world.specs.Hosting.{Setting, hosting, in_setting, is_of_world, world_does, code_of, thing_taken, application_does, command_does}
 use Rattle.tks_world.specs.Stepped.{Stepped, Accepts, Refuses, max_count, counted, kept}
 use Rattle.tks_world.specs.Scripts.{concluded, script_ends, lent}
 use Rattle.tks_world.specs.Gestures as gestures
 use Rattle.tks_world.specs.Gestures.{has_room, left_by, gesture_step}
 use Rattle.tks_world.specs.Keys.{key_gesture, key_step}
 use Rattle.tks_world.specs.Buttons.{is_button_number, on_grid, target_at, release_target, press_gesture, release_gesture}
-use Rattle.tks_world.specs.Things.{Next, next_thing}
+use Rattle.tks_world.specs.Things.{Next, next_due}
 use Rattle.tks_world.specs.Telling.{told}
-use Rattle.tks_world.specs.Turns.{noted, finished, event_runs, thing_does, turned}
-use Rattle.tks_world.specs.Step.{max_clock, step}
+use Rattle.tks_world.specs.Turns.{finished, thing_runs, turned}
+use Rattle.tks_world.specs.Step.{by_rules, max_clock, step}
 use Rattle.tks_world.specs.Run.{Ran, went, run_of}
 use Rattle.tks_world.specs.Laws.{AtRest, StepsRest, RunsRest}
 use Rattle.tks_world.specs.declared.gestures.Gesture.{Gesture}
 use Rattle.tks_world.specs.declared.things.Thing.{Thing}
-use Rattle.tks_world.specs.declared.things.Thing.TheVariants as thing
 use Rattle.tks_input.specs.declared.input.Input.{Input}
 use Rattle.tks_input.specs.declared.input.Input.TheVariants.{Script, KeyPress, KeyRelease, Press, Release, Clock, Turn, Rules}
 
@@ -122,7 +124,7 @@ module _ (m : Meaning) where
 
   command_leaves : (s : Setting) (v : Variables) (words : List (List ℕ)) (p : Plan) (s' : Setting) (v' : Variables) → command_does m s v words ≡ Comes p s' v' → FramesStay v v'
   command_leaves s v [] p s' v' e = world_leaves s v [] p s' v' e
-  command_leaves s v (name ∷ words) p s' v' e = named_leaves s v name words (is_of_world s.names name) p s' v' e
+  command_leaves s v (name ∷ words) p s' v' e = named_leaves s v name words (is_of_world s.world.rules s.names name) p s' v' e
 
   pub hosting_leaves : HostLeavesFrames (hosting m)
   hosting_leaves = record { commands = command_leaves }
@@ -131,19 +133,10 @@ module _ (m : Meaning) where
     script_leaves : (script : _) (s : Setting) (v : Variables) → Leaves v (script_ends m limits script s v)
     script_leaves script s v = settled_leaves limits v (script_run_leaves limits (hosting m) hosting_leaves limits.depth script s v limits.fuel)
 
-    noted_leaves : (v : Variables) (o : Outcome Setting) → Leaves v o → Leaves v (noted m o)
-    noted_leaves v (Stopped why) h = record { leaves = tt }
-    noted_leaves v (End code text s u fuel) h = if_leaves v (code == 0) (ends v 0 [] s u fuel h.leaves) (ends v 0 [] _ u fuel h.leaves)
-
-    event_leaves : (e : Event) (s : Setting) (v : Variables) → Leaves v (event_runs m limits e s v)
-    event_leaves e s v =
-        given_leaves limits s v limits.fuel (begun limits s.world e) (λ x.
-        plan_leaves (hosting m) (evaluate (hosting m) limits limits.depth) (script_run_leaves limits (hosting m) hosting_leaves limits.depth) x.0 (record s { world = x.1 }) v limits.fuel)
-
-    thing_leaves : (t : Thing) (s : Setting) (v : Variables) → Leaves v (thing_does m limits t s v)
-    thing_leaves (thing.Event e) s v = event_leaves e s v
-    thing_leaves (thing.Timer id script) s v = noted_leaves v _ (script_leaves (script_of script) s v)
-    thing_leaves (thing.Idle id script) s v = noted_leaves v _ (script_leaves (script_of script) s v)
+    thing_leaves : (x : Thing) (s : Setting) (v : Variables) → Leaves v (thing_runs m limits x s v)
+    thing_leaves x s v =
+        taken_leaves (thing_taken s x) s v limits.fuel (thing_does (hosting m) limits (evaluate (hosting m) limits limits.depth))
+        (thing_done_leaves limits (hosting m) (evaluate (hosting m) limits limits.depth) (script_run_leaves limits (hosting m) hosting_leaves limits.depth))
 
   module _ (limits : Limits) (s s' : Setting) (v u : Variables) (code : ℕ) (text : List ℕ) (fuel : ℕ) (none : v.locals ≡ []) where
     -- no frame stands behind a script
@@ -151,8 +144,8 @@ module _ (m : Meaning) where
     script_rests script e = none_left v u (subst (Leaves v) e (script_leaves limits script s v)).leaves none
 
     -- nor behind a turn's thing
-    pub thing_rests : (t : Thing) → thing_does m limits t s v ≡ End code text s' u fuel → u.locals ≡ []
-    thing_rests t e = none_left v u (subst (Leaves v) e (thing_leaves limits t s v)).leaves none
+    pub thing_rests : (x : Thing) → thing_runs m limits x s v ≡ End code text s' u fuel → u.locals ≡ []
+    thing_rests x e = none_left v u (subst (Leaves v) e (thing_leaves limits x s v)).leaves none
 
   concluded_rests : (before : ℕ) (v : Variables) (o : Outcome Setting) → v.locals ≡ [] → Leaves v o → RestsAfter (concluded before o)
   concluded_rests before v (Stopped why) none h = tt
@@ -165,6 +158,10 @@ module _ (m : Meaning) where
   turned_rests : (limits : Limits) (next : Next) (s : Setting) (v : Variables) → v.locals ≡ [] → RestsAfter (turned m limits next s v)
   turned_rests limits None s v none = tt
   turned_rests limits (Some x) s v none = finished_rests s.world.accepted (told x.1 x.0) v _ none (thing_leaves limits x.0 (record s { world = x.1 }) v)
+
+by_rules_rests : (rules : Option WorldRules) (w : World) → AtRest w → RestsAfter (by_rules rules w)
+by_rules_rests None w rest = tt
+by_rules_rests (Some rules) w rest = one_of (nat_le (number_of w.rules) (number_of rules)) _ _ (kept_rests (with_rules rules w) rest) tt
 
 -- ---- all inputs
 
@@ -180,8 +177,8 @@ step_rests app w (Release button x y) limits rest =
     one_of (is_button_number button && on_grid w x y) _ _ (gesture_rests limits (release_gesture button x y (release_target w x y) w) w rest) tt
 step_rests app w (Clock time) limits rest =
     one_of (nat_lt max_clock time) _ _ tt (one_of (nat_lt time w.clock) _ _ tt (kept_rests (with_clock time w) rest))
-step_rests app w Turn limits rest = turned_rests app.meaning limits (next_thing (lent app.names limits w).world) (lent app.names limits w) w.variables rest
-step_rests app w (Rules number) limits rest = one_of (number == 1) _ _ (kept_rests w rest) tt
+step_rests app w Turn limits rest = turned_rests app.meaning limits (next_due due.All (lent app.names limits w).world) (lent app.names limits w) w.variables rest
+step_rests app w (Rules number) limits rest = by_rules_rests (numbered number) w rest
 
 pub steps_rest : (app : Application) (limits : Limits) → StepsRest app limits
 steps_rest app limits w input w' reply rest e = subst RestsAfter e (step_rests app w input limits rest)

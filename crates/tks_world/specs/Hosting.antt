@@ -1,9 +1,10 @@
 -- What the world is to its scripts (this project's own rule): the host of the commands that the language
--- doesn't have. A command is found in this order: one that is built in, one of the application, a window.
-use Rattle.std.specs.Prelude.{ℕ, Bool, ◌&&◌, ◌||◌, not, if◌then◌else◌, List, [], ◌∷◌, is_some}
+-- doesn't have, and of what waits. A command is found in this order: one that is built in, one of the application, a window.
+use Rattle.std.specs.Prelude.{ℕ, Bool, ◌&&◌, ◌||◌, not, if◌then◌else◌, List, [], ◌∷◌, Some, None, is_some, Result, Ok, Err}
 use Rattle.tks_text.specs.declared.limits.Limits.{Limits}
 use Rattle.tks_vars.specs.Variables.{Variables, no_variables}
 use Rattle.tks_text.specs.Limits.{fits}
+use Rattle.tks_tcl.specs.Cause.{Cause}
 use Rattle.tks_tcl.specs.Names.{is_built_in}
 use Rattle.tks_app.specs.Applications as app
 use Rattle.tks_app.specs.Applications.{has}
@@ -14,10 +15,15 @@ use Rattle.tks_app.specs.declared.answer.AppCode.TheVariants as code
 use Rattle.std.specs.FinMap as map
 use Rattle.tks_vars.specs.Table.{Map}
 use Rattle.tks_state.specs.World.{World, with_fault}
+use Rattle.tks_state.specs.declared.rules.Rules.{Rules}
 use Rattle.tks_state.specs.Windows.{kept_of}
 use Rattle.tks_cmd.specs.Commands.{does}
-use Rattle.tks_eval.specs.Outcome.{Answer, Unknown, Comes, PassesLimit, Meaning}
+use Rattle.tks_cmd.specs.EventCommands.{is_built_in_by}
+use Rattle.tks_eval.specs.Outcome.{Answer, Unknown, Comes, PassesLimit, Taken, Nothing, Takes, TooMuch, Meaning}
+use Rattle.tks_eval.specs.declared.host.Plan.{Plan}
 use Rattle.tks_eval.specs.declared.host.Plan.TheVariants as plan
+use Rattle.tks_world.specs.Things.{Next, next_due, planned}
+use Rattle.tks_world.specs.declared.things.Thing.{Thing}
 
 -- what scripts change and look at beside variables
 pub record Setting : Type 0 where
@@ -61,9 +67,27 @@ answered s variables name a =
 
 -- ---- both
 
--- is the command built in, or no application's?
-abbrev pub is_of_world : List (List ℕ) → List ℕ → Bool
-is_of_world names name = is_built_in name || not (has names name)
+-- is the command built in, by the rules of the world, or no application's?
+abbrev pub is_of_world : Rules → List (List ℕ) → List ℕ → Bool
+is_of_world rules names name = is_built_in name || is_built_in_by rules name || not (has names name)
+
+-- ---- what waits
+
+-- what is to be done, in the setting in which it was taken out; only a script of an event can be more than may be
+abbrev pub taken_in : Setting → Result (Plan × World) Cause → Taken Setting
+taken_in s (Ok x) = Takes x.0 (record s { world = x.1 })
+taken_in s (Err why) = TooMuch
+
+-- a thing, in the setting without it
+abbrev pub thing_taken : Setting → Thing → Taken Setting
+thing_taken s x = taken_in s (planned s.limits x s.world)
+
+-- what is next, and the world without it
+abbrev pub next_taken : Setting → Next → Taken Setting
+next_taken s None = Nothing
+next_taken s (Some x) = thing_taken (record s { world = x.1 }) x.0
+
+-- ---- the host
 
 -- these are what the application's commands mean
 module _ (m : app.Meaning) where
@@ -72,12 +96,13 @@ module _ (m : app.Meaning) where
 
   abbrev pub command_does : Setting → Variables → List (List ℕ) → Answer Setting
   command_does s variables [] = world_does s variables []
-  command_does s variables (name ∷ words) = if is_of_world s.names name then world_does s variables (name ∷ words) else application_does s variables name words
+  command_does s variables (name ∷ words) = if is_of_world s.world.rules s.names name then world_does s variables (name ∷ words) else application_does s variables name words
 
   abbrev pub hosting : Meaning Setting
   hosting = record {
     commands = command_does;
-    owns = λ s name. has s.names name;
+    owns = λ s name. has s.names name || is_built_in_by s.world.rules name;
     alive = λ s window. is_some (kept_of s.world.kept window);
     faulted = λ s text. record s { world = with_fault text s.world };
+    next = λ due s. next_taken s (next_due due s.world);
   }

@@ -1,9 +1,14 @@
 -- What holds of all steps, and of all runs (this project's own rule).
-use Rattle.std.specs.Prelude.{◌≡◌, ◌↔◌, ◌<◌, ◌+◌, ◌++◌, List, [], ◌∷◌}
+use Rattle.std.specs.Prelude.{◌≡◌, ◌↔◌, ◌<◌, ◌+◌, ◌++◌, ℕ, codes, List, [], ◌∷◌}
 use Rattle.std.specs.List.{AllByRecursion}
 use Rattle.tks_text.specs.declared.limits.Limits.{Limits}
-use Rattle.tks_app.specs.Applications.{Application}
+use Rattle.tks_vars.specs.Variables.{Variables}
+use Rattle.tks_app.specs.Applications.{Application, Meaning}
 use Rattle.tks_state.specs.World.{World}
+use Rattle.tks_state.specs.declared.rules.Rules.TheVariants.{Two}
+use Rattle.tks_eval.specs.Outcome.{Level, End}
+use Rattle.tks_eval.specs.Evaluation.{call}
+use Rattle.tks_world.specs.Hosting.{Setting, hosting}
 use Rattle.tks_world.specs.Step.{step, Accepts, Refuses}
 use Rattle.tks_world.specs.Run.{run_of, then_run, accepted_among}
 use Rattle.tks_input.specs.declared.input.Input.{Input}
@@ -46,6 +51,17 @@ pub record NothingWaits (w : World) : Type 0 where
 -- a turn is quiet just there
 abbrev pub QuietSo : Application → Limits → Type 0
 QuietSo app limits = (world : World) → (step app world Turn limits ≡ Refuses Quiet) ↔ NothingWaits world
+
+-- by the second rules, behind an `update` that ended, in whatever script, nothing waits that a turn would do; it ended well, and
+-- has nothing to say, whatever the scripts ended with that it ran (update(n))
+abbrev pub UpdatesLeaveNothing : Meaning → Limits → Type 0
+UpdatesLeaveNothing m limits = (inner : Level Setting) (s s' : Setting) (v v' : Variables) (fuel left : ℕ) (code : ℕ) (text : List ℕ) → s.world.rules ≡ Two
+    → call (hosting m) limits inner (codes "update" ∷ []) s v fuel ≡ End code text s' v' left → (code ≡ 0) × (text ≡ []) × NothingWaits s'.world
+
+-- behind an `update idletasks` no idle script stands
+abbrev pub UpdatesLeaveNoIdle : Meaning → Limits → Type 0
+UpdatesLeaveNoIdle m limits = (inner : Level Setting) (s s' : Setting) (v v' : Variables) (fuel left : ℕ) (code : ℕ) (text : List ℕ) → s.world.rules ≡ Two
+    → call (hosting m) limits inner (codes "update" ∷ codes "idletasks" ∷ []) s v fuel ≡ End code text s' v' left → (code ≡ 0) × (text ≡ []) × (s'.world.timers.idles ≡ [])
 
 -- an accepted input adds one to the count of the world, and its reply tells that count
 abbrev pub StepsCount : Application → Limits → Type 0

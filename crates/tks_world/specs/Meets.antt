@@ -9,6 +9,7 @@ use Rattle.tks_tcl.specs.declared.stop.Stop.TheVariants as stop
 use Rattle.tks_app.specs.Memories.{remembering}
 use Rattle.tks_app.specs.declared.answer.AppAnswer.{AppAnswer}
 use Rattle.tks_vars.specs.Table.{Map}
+use Rattle.tks_eval.specs.Outcome.{Taken, Takes, TooMuch}
 use Rattle.tks_eval.specs.declared.ended.Ended.{Ended}
 use Rattle.tks_eval.specs.declared.host.Plan.{Plan}
 use Rattle.tks_eval.specs.declared.host.Plan.TheVariants as plan
@@ -61,10 +62,17 @@ JoinsSo limits e (Err refused.TooLarge) old new = (has_room limits e old ≡ fal
 JoinsSo limits e (Err refused.NoMemory) old new = Unit {0}
 JoinsSo limits e (Err why) old new = ⊥
 
--- what was taken out to be done, and the world that is left, are the definition's
-abbrev pub TakenSo : Option (Thing × World) → Option Thing → World → Type 0
-TakenSo given None new = given ≡ None
-TakenSo given (Some thing) new = given ≡ Some (thing, new)
+-- what was taken out to be done, and the world that is left, are the definition's; with nothing to do the world is as it was
+abbrev pub TakenSo : Option (Thing × World) → Option Thing → World → World → Type 0
+TakenSo given None old new = (given ≡ None) × (new ≡ old)
+TakenSo given (Some thing) old new = given ≡ Some (thing, new)
+
+-- what a thing wants done is the definition's; what is more than may be, or want of memory, stops it
+abbrev pub PlansSo : {S : Type 0} → Taken S → Result Plan Stop → S → Type 0
+PlansSo taken (Ok p) new = taken ≡ Takes p new
+PlansSo taken (Err stop.TooLarge) new = taken ≡ TooMuch
+PlansSo taken (Err stop.NoMemory) new = Unit {0}
+PlansSo taken (Err why) new = ⊥
 
 -- A command of the application answered this, and its memory is kept; or its text or its memory would pass the limit.
 abbrev pub CallsSo : Limits → List ℕ → AppAnswer → Result Plan Stop → Map (List ℕ) → Map (List ℕ) → Type 0

@@ -1,10 +1,10 @@
 -- One step: what an input does to the world (this project's own rule).
-use Rattle.std.specs.Prelude.{ℕ, ◌-◌, ◌^◌, ◌==◌, nat_lt, if◌then◌else◌}
+use Rattle.std.specs.Prelude.{ℕ, ◌-◌, ◌^◌, nat_le, nat_lt, if◌then◌else◌, Option, Some, None}
 use Rattle.tks_text.specs.declared.limits.Limits.{Limits}
 use Rattle.tks_app.specs.Applications.{Application}
-use Rattle.tks_state.specs.Rules.{number_of}
-use Rattle.tks_state.specs.World.{World, with_clock}
-use Rattle.tks_state.specs.declared.rules.Rules.TheVariants.{One}
+use Rattle.tks_state.specs.Rules.{number_of, numbered}
+use Rattle.tks_state.specs.World.{World, with_rules, with_clock}
+use Rattle.tks_state.specs.declared.rules.Rules.{Rules as WorldRules}
 pub use Rattle.tks_world.specs.Stepped.{Stepped, Accepts, Refuses}
 use Rattle.tks_world.specs.Stepped.{kept}
 use Rattle.tks_world.specs.Scripts.{script_step}
@@ -23,9 +23,14 @@ max_clock = 2 ^ 62 - 1
 abbrev pub clock_step : ℕ → World → Stepped
 clock_step time w = if nat_lt max_clock time then Refuses BadInput else (if nat_lt time w.clock then Refuses ClockBack else kept (with_clock time w))
 
--- the rules of a number: scripts are run by the first anyway, and no others can be asked for
+-- scripts are run by these rules from here on, where there are such; their number doesn't go back
+abbrev pub by_rules : Option WorldRules → World → Stepped
+by_rules None w = Refuses BadInput
+by_rules (Some rules) w = if nat_le (number_of w.rules) (number_of rules) then kept (with_rules rules w) else Refuses BadInput
+
+-- the rules of a number
 abbrev pub rules_step : ℕ → World → Stepped
-rules_step number w = if number == number_of One then kept w else Refuses BadInput
+rules_step number w = by_rules (numbered number) w
 
 unfoldable pub step : Application → World → Input → Limits → Stepped
 step app w (Script text) limits = script_step app w text limits

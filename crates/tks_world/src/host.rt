@@ -2,17 +2,18 @@
 ghost use Rattle.std.specs.Prelude.{◌≡◌, true, false};
 ghost use Rattle.tks_app.specs.Applications.{has};
 ghost use Rattle.tks_app.specs.Memories.{memory_of};
-ghost use Rattle.tks_eval.specs.Meets.{AnswersSo};
-ghost use Rattle.tks_world.specs.Hosting.{hosting, is_of_world, world_does};
+ghost use Rattle.tks_eval.specs.Meets.{AnswersSo, TakesSo};
+ghost use Rattle.tks_world.specs.Hosting.{hosting, is_of_world, world_does, thing_taken};
 ghost use Rattle.tks_world.specs.Hosts.{setting_of};
-ghost use Rattle.tks_world.specs.Meets.{CallsSo};
+ghost use Rattle.tks_world.specs.Meets.{CallsSo, PlansSo};
 
 use crate::applications::call_application;
+use crate::things::{Thing, planned, take_due};
 use std::alloc::Global;
 use std::marker::Model;
 use tks_app::{AppBody, AppMeaning, Apps, Memories};
-use tks_cmd::command;
-use tks_eval::{Host, Plan};
+use tks_cmd::{command, is_built_in_by};
+use tks_eval::{Due, Host, Plan};
 use tks_state::World;
 use tks_tcl::{Stop, is_built_in};
 use tks_text::{Limits, Seq, Txt};
@@ -53,12 +54,12 @@ pub struct WorldHost<'a, T: AppMeaning, B: AppBody> {
 }
 
 impl<'a, T: AppMeaning, B: AppBody> WorldHost<'a, T, B> {
-    // Whether a command is built in, or none of the application.
+    // Whether a command is built in by the rules of the world, or none of the application.
     fn is_of_world(&self, name: &Txt) -> bool
-        ensures value { result ≡ is_of_world self.now.apps.now name.now }
+        ensures value { result ≡ is_of_world self.now.world.now.rules self.now.apps.now name.now }
         ensures there { result ≡ false → has self.now.apps.now name.now ≡ true }
     {
-        is_built_in(name) || !self.apps.has(name)
+        is_built_in(name) || is_built_in_by(self.world.rules(), name) || !self.apps.has(name)
     }
 
     // Runs a command on windows, bindings or events.
@@ -85,6 +86,15 @@ impl<'a, T: AppMeaning, B: AppBody> WorldHost<'a, T, B> {
             words,
             &self.limits,
         )
+    }
+
+    /// What a thing wants done that was taken out.
+    #[tactic(auto, using(crate::proofs::Answers::plans_so))]
+    pub fn plan_thing(&mut self, thing: Thing) -> Result<Plan, Stop>
+        ensures same_place { self.new.world.ghost_name ≡ self.old.world.ghost_name }
+        ensures plans { PlansSo (thing_taken (setting_of self.old) thing) result (setting_of self.new) }
+    {
+        planned(self.alloc, self.world, thing, &self.limits)
     }
 }
 
@@ -114,7 +124,7 @@ impl<'a, T: AppMeaning, B: AppBody> Host for WorldHost<'a, T, B> {
     }
 
     fn owns(&self, name: &Txt) -> bool {
-        self.apps.has(name)
+        self.apps.has(name) || is_built_in_by(self.world.rules(), name)
     }
 
     fn alive(&self, window: u64) -> bool {
@@ -124,5 +134,13 @@ impl<'a, T: AppMeaning, B: AppBody> Host for WorldHost<'a, T, B> {
     fn fault(&mut self, text: &Txt) -> Result<(), Stop> {
         self.world.add_fault(text.try_clone()?)?;
         Ok(())
+    }
+
+    fn next(&mut self, due: Due) -> Result<Option<Plan>, Stop> {
+        let Some(thing) = take_due(self.world, due)? else {
+            return Ok(None);
+        };
+        let plan = self.plan_thing(thing)?;
+        Ok(Some(plan))
     }
 }

@@ -3,12 +3,12 @@ ghost use Rattle.std.specs.Prelude.{◌≡◌, ℕ, List, true};
 ghost use Rattle.tks_text.specs.Limits.{Wider};
 ghost use Rattle.tks_text.specs.declared.limits.Limits.{Limits};
 ghost use Rattle.tks_text.specs.Size.{Extent};
-ghost use Rattle.tks_app.specs.Applications.{Application};
+ghost use Rattle.tks_app.specs.Applications.{Application, Meaning};
 ghost use Rattle.tks_state.specs.World.{first_world};
 ghost use Rattle.tks_event.specs.Event.{Event};
 ghost use Rattle.tks_bind.specs.Percents.{has_field, field_text, value};
 ghost use Rattle.tks_bind.specs.declared.field.Field.{Field};
-ghost use Rattle.tks_world.specs.Laws.{AcceptsStay, AtRest, QuietSo, RunsJoin, RunsStay, RefusedLeaveOut, RunsRest, StepsCount, StepsRest};
+ghost use Rattle.tks_world.specs.Laws.{AcceptsStay, AtRest, QuietSo, RunsJoin, RunsStay, RefusedLeaveOut, RunsRest, StepsCount, StepsRest, UpdatesLeaveNoIdle, UpdatesLeaveNothing};
 ghost use Rattle.tks_world.specs.OneWord.{IsOneWord, SpellsOneWord};
 
 /// What is accepted within limits is accepted within wider ones, with the same world and reply.
@@ -46,6 +46,14 @@ pub fn no_frame_stands_between_inputs()
 #[tactic(auto, using(crate::proofs::Quiet::quiet_so))]
 pub fn a_turn_is_quiet_where_nothing_waits()
     ensures { (app : Application) (limits : Limits) → QuietSo app limits }
+{}
+
+/// In a world that goes by the second rules nothing waits behind an `update` that ended, in whatever script, that a turn would
+/// do: no event, no timer that is due, no idle script. Behind `update idletasks` no idle script stands. Both ended well and with
+/// the empty text, whatever the scripts ended with that they ran.
+pub fn updates_leave_nothing_waiting()
+    ensures all { (m : Meaning) (limits : Limits) → UpdatesLeaveNothing m limits }
+    ensures idle { (m : Meaning) (limits : Limits) → UpdatesLeaveNoIdle m limits }
 {}
 
 /// An accepted input adds one to the count of the world, and its reply tells that count.

@@ -157,8 +157,8 @@ pub fn step_script<T: AppMeaning, B: AppBody>(
     answer
 }
 
-/// Runs a script at top level. `return` ends it well; `break` and `continue` are errors.
-pub fn run_script<T: AppMeaning, B: AppBody>(
+// Runs a script at top level. `return` ends it well; `break` and `continue` are errors.
+fn run_script<T: AppMeaning, B: AppBody>(
     alloc: Global,
     host: &mut WorldHost<T, B>,
     variables: &mut Vars,

@@ -1,6 +1,6 @@
 //! The step: what an input does to the world.
-ghost use Rattle.std.specs.Prelude.{◌≡◌, IfOk, IfErr, OnErr};
-ghost use Rattle.tks_world.specs.Step.{clock_step, rules_step, step, Accepts};
+ghost use Rattle.std.specs.Prelude.{◌≡◌, Some, IfOk, IfErr, OnErr};
+ghost use Rattle.tks_world.specs.Step.{clock_step, by_rules, rules_step, step, Accepts};
 ghost use Rattle.tks_world.specs.Meets.{RefusedSo};
 
 use crate::buttons::{press_button, release_button};
@@ -17,7 +17,7 @@ use tks_text::{Limits, MAX_TIME};
 /// What an input does to the world: it is accepted as a whole, with a reply, or refused, and then the world is as it was.
 /// A script runs at once. A key or a button is put behind the events that wait, with what is held down just before it. A
 /// turn does one thing that waits: it delivers an event, or else runs a script that is due, or else an idle one. Scripts
-/// know the commands of the application.
+/// know the commands of the application, and go by the rules of the world, of which later ones may be chosen.
 #[tactic(auto, unfolding(crate::specs::Step::step))]
 pub fn step<T: AppMeaning, B: AppBody>(
     alloc: Global,
@@ -38,7 +38,7 @@ pub fn step<T: AppMeaning, B: AppBody>(
         Input::Release { button, x, y } => release_button(alloc, world, *button, *x, *y, limits),
         Input::Clock(time) => set_clock(alloc, world, *time),
         Input::Turn => step_turn(alloc, world, apps, limits),
-        Input::Rules(number) => keep_rules(alloc, world, *number),
+        Input::Rules(number) => set_rules(alloc, world, *number),
     }
 }
 
@@ -61,17 +61,30 @@ fn set_clock(alloc: Global, world: &mut World, time: u64) -> Result<Reply, Refus
     Ok(keep(alloc, world))
 }
 
-// Scripts are run by the rules of a number: the first, which they are run by anyway.
-fn keep_rules(alloc: Global, world: &mut World, number: u8) -> Result<Reply, Refused>
-    ensures accepted { IfOk result (λ reply. rules_step number world.old ≡ Accepts world.new reply) }
-    ensures refused { IfErr result (λ why. RefusedSo why (rules_step number world.old)) }
+// Scripts are run by these rules from here on; their number doesn't go back.
+fn go_by(alloc: Global, world: &mut World, rules: Rules) -> Result<Reply, Refused>
+    ensures accepted { IfOk result (λ reply. by_rules (Some rules) world.old ≡ Accepts world.new reply) }
+    ensures refused { IfErr result (λ why. RefusedSo why (by_rules (Some rules) world.old)) }
     ensures unchanged { OnErr result (world.new ≡ world.old) }
 {
-    if number != Rules::One.number() {
+    if rules.number() < world.rules().number() {
         return Err(Refused::BadInput);
     }
     if is_full(world) {
         return Err(Refused::TooLarge);
     }
+    world.set_rules(rules);
     Ok(keep(alloc, world))
+}
+
+// Scripts are run by the rules of a number from here on, where there are such.
+fn set_rules(alloc: Global, world: &mut World, number: u8) -> Result<Reply, Refused>
+    ensures accepted { IfOk result (λ reply. rules_step number world.old ≡ Accepts world.new reply) }
+    ensures refused { IfErr result (λ why. RefusedSo why (rules_step number world.old)) }
+    ensures unchanged { OnErr result (world.new ≡ world.old) }
+{
+    match Rules::numbered(number) {
+        Some(rules) => go_by(alloc, world, rules),
+        None => Err(Refused::BadInput),
+    }
 }

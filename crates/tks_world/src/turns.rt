@@ -3,19 +3,17 @@ ghost use Rattle.std.specs.Prelude.{◌≡◌, ◌≤◌, [], IfOk, IfErr, OnErr
 ghost use Rattle.tks_eval.specs.Meets.{EndsSo};
 ghost use Rattle.tks_world.specs.Hosts.{setting_of};
 ghost use Rattle.tks_world.specs.Stepped.{Accepts, max_count};
-ghost use Rattle.tks_world.specs.Turns.{script_runs, event_runs, thing_does, finished, turn_does, turn_step};
+ghost use Rattle.tks_world.specs.Turns.{thing_runs, finished, turn_does, turn_step};
 ghost use Rattle.tks_world.specs.Meets.{RefusedSo, ReachesSo};
 
 use crate::host::WorldHost;
 use crate::refusal::refused_by;
-use crate::scripts::{conclude, run_script, settle};
+use crate::scripts::{conclude, settle};
 use crate::telling::told;
-use crate::things::{Thing, is_quiet, take_thing};
+use crate::things::{Thing, is_quiet, take_due};
 use std::alloc::Global;
 use tks_app::{AppBody, AppMeaning, Apps, Memories};
-use tks_cmd::begin;
-use tks_eval::{Ended, Host, eval_plan};
-use tks_event::Event;
+use tks_eval::{Due, Ended, eval_plan};
 use tks_input::{Refused, Reply};
 use tks_parse_table::ParseTable;
 use tks_share::Marked;
@@ -24,48 +22,8 @@ use tks_tcl::Stop;
 use tks_text::{Limits, Txt};
 use tks_vars::Vars;
 
-// Runs a script that was kept for later. Its error joins the faults.
-fn run_later<T: AppMeaning, B: AppBody>(
-    alloc: Global,
-    host: &mut WorldHost<T, B>,
-    variables: &mut Vars,
-    parsed: &mut ParseTable,
-    script: &Txt,
-    limits: &Limits,
-) -> Result<Ended, Stop>
-    ensures same_place { host.new.world.ghost_name ≡ host.old.world.ghost_name }
-    ensures ends { EndsSo (script_runs T.meaning limits.now script.now (setting_of host.old) variables.old) result (setting_of host.new) variables.new }
-{
-    let script = parsed.script(alloc, script)?;
-    let ended = run_script(alloc, host, variables, parsed, script, limits)?;
-    if ended.code != 0 {
-        host.fault(&ended.text)?;
-    }
-    Ok(Ended {
-        code: 0,
-        text: Txt::new(alloc),
-        fuel: ended.fuel,
-    })
-}
-
-// Delivers an event, and runs its scripts.
-fn run_event<T: AppMeaning, B: AppBody>(
-    alloc: Global,
-    host: &mut WorldHost<T, B>,
-    variables: &mut Vars,
-    parsed: &mut ParseTable,
-    event: Event,
-    limits: &Limits,
-) -> Result<Ended, Stop>
-    ensures same_place { host.new.world.ghost_name ≡ host.old.world.ghost_name }
-    ensures ends { EndsSo (event_runs T.meaning limits.now event (setting_of host.old) variables.old) result (setting_of host.new) variables.new }
-{
-    let plan = begin(alloc, host.world, event, limits)?;
-    let ended = eval_plan(alloc, host, variables, parsed, plan, limits)?;
-    Ok(ended)
-}
-
-// Does one thing.
+// Does one thing that was taken out, with all the steps that an input has.
+#[tactic(auto, using(crate::proofs::Stepping::plan_ends, crate::proofs::Stepping::plan_stops))]
 fn run_thing<T: AppMeaning, B: AppBody>(
     alloc: Global,
     host: &mut WorldHost<T, B>,
@@ -75,18 +33,11 @@ fn run_thing<T: AppMeaning, B: AppBody>(
     limits: &Limits,
 ) -> Result<Ended, Stop>
     ensures same_place { host.new.world.ghost_name ≡ host.old.world.ghost_name }
-    ensures ends { EndsSo (thing_does T.meaning limits.now thing (setting_of host.old) variables.old) result (setting_of host.new) variables.new }
+    ensures ends { EndsSo (thing_runs T.meaning limits.now thing (setting_of host.old) variables.old) result (setting_of host.new) variables.new }
 {
-    match thing {
-        Thing::Event(event) => {
-            let ended = run_event(alloc, host, variables, parsed, event, limits)?;
-            Ok(ended)
-        }
-        Thing::Timer(_, script) | Thing::Idle(_, script) => {
-            let ended = run_later(alloc, host, variables, parsed, &script, limits)?;
-            Ok(ended)
-        }
-    }
+    let plan = host.plan_thing(thing)?;
+    let ended = eval_plan(alloc, host, variables, parsed, plan, limits)?;
+    Ok(ended)
 }
 
 // Does one thing behind so many inputs, and tells of it what is to be told.
@@ -103,7 +54,7 @@ fn finish<T: AppMeaning, B: AppBody>(
     requires rests { variables.locals ≡ [] }
     requires bound { before ≤ max_count }
     ensures same_place { host.new.world.ghost_name ≡ host.old.world.ghost_name }
-    ensures reaches { ReachesSo (finished before text (thing_does T.meaning limits.now thing (setting_of host.old) variables)) result host.new.world.now }
+    ensures reaches { ReachesSo (finished before text (thing_runs T.meaning limits.now thing (setting_of host.old) variables)) result host.new.world.now }
 {
     let mut variables = variables;
     match run_thing(alloc, host, &mut variables, parsed, thing, limits) {
@@ -129,7 +80,7 @@ fn turn_lent<T: AppMeaning, B: AppBody>(
     ensures reaches { ReachesSo (turn_does T.meaning limits.now (setting_of host.old) variables) result host.new.world.now }
 {
     let before = host.world.accepted();
-    let Some(thing) = take_thing(host.world)? else {
+    let Some(thing) = take_due(host.world, Due::All)? else {
         return Err(Refused::Quiet);
     };
     let text = told(alloc, host.world, &thing)?;

@@ -1,5 +1,4 @@
-use Rattle.std.proofs.Common.{rules, ◌≤◌, length}
-use Rattle.tks_bind.specs.Indexes.{index_of}
+use Rattle.std.proofs.Common.{rules, ◌≤◌, length, subst}
 use Rattle.tks_bind.proofs.Placing.{placed_there, there_last}
 use Rattle.tks_bind.proofs.bindings.place.Goals as goal
 
@@ -10,5 +9,5 @@ returns-in_ok-set-clause-ok c =
 
 pub returns-in_ok-push-clause-there : goal.returns-in_ok-push-clause-there
 returns-in_ok-push-clause-there c =
-    let past : length c.args.bindings.now ≤ index_of c.args.binding.tag c.args.binding.sequence c.args.bindings.now = search rules in
-    rw (c.in_ok-push.ensures.ok, c.index_of-index.ensures) (there_last c.args.binding c.args.bindings.now past)
+    let past : length c.args.bindings.now ≤ c.args.index = search rules in
+    rw (c.in_ok-push.ensures.ok, c.requires) (there_last c.args.binding c.args.bindings.now (subst (λ n. length c.args.bindings.now ≤ n) c.requires past))

@@ -11,8 +11,8 @@ loop-place-preserved c =
     record {
       made =
           c.in_ok-push.ensures.ok
-          ∙ ap (λ (ts : List (List ℕ)). ts ++ c.in_ok-try_clone.field-0 ∷ []) c.loop-place.invariant.made
-          ∙ ap (λ (t : List ℕ). map (λ (item : Item). item.text) before ++ t ∷ []) c.in_ok-try_clone.ensures
+          ∙ ap (λ (ts : List (List ℕ)). ts ++ c.as_bytes.result.now ∷ []) c.loop-place.invariant.made
+          ∙ ap (λ (t : List ℕ). map (λ (item : Item). item.text) before ++ t ∷ []) c.as_bytes.ensures.value
           ∙ sym (map-append (λ (item : Item). item.text) before (c.in-Some.item.now ∷ []))
           ∙ ap (map (λ (item : Item). item.text)) (sym (among_more c.args.front c.loop-place.place c.args.items.now c.in-Some.item.now c.loop-place.auto.place c.in-Some.ensures));
       none = λ h. omega arith;

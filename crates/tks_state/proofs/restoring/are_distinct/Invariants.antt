@@ -1,11 +1,10 @@
-use Rattle.std.proofs.Common.{◌≡◌, map, length}
+use Rattle.std.proofs.Common.{◌≡◌, map}
+use Rattle.std.specs.BTreeSet.{contains}
+use Rattle.std.specs.Ordering.{nat_cmp}
 use Rattle.tks_state.specs.Restoring.{are_distinct}
+use Rattle.tks_state.proofs.Distinct.{are_new}
 use Rattle.tks_state.proofs.restoring.are_distinct.Given as goal
 
--- those behind
-abbrev pub decreases-loop-first : goal.decreases-loop-first
-decreases-loop-first l = length l.rest
-
--- the others decide
-abbrev pub invariant-loop-first : goal.invariant-loop-first
-invariant-loop-first l = are_distinct (map (λ c. c.window) l.rest) ≡ are_distinct (map (λ c. c.window) l.fn.contents)
+-- the others decide, by those that were seen
+abbrev pub invariant-loop-content : goal.invariant-loop-content
+invariant-loop-content l = are_new (contains nat_cmp l.seen) (map (λ c. c.window) l.content-iterator) ≡ are_distinct (map (λ c. c.window) l.fn.contents)

@@ -10,6 +10,6 @@ invariant_of-result c =
     let t = c.args.tree in
     let ks = c.args.kept in
     let step : are_in_step t.windows ks ≡ true = sym c.if-are_in_step.ensures in
-    let packs : list_all (packs_children t) ks ≡ true = sym c.if-all_pack_children.ensures in
+    let packs : list_all (packs_children t) ks ≡ true = search rules in
     let tree : trees.WellFormed t = search rules in
     well_formed (record { tree = t; kept = ks }) tree step packs
