@@ -87,7 +87,7 @@ taken_under t e tag q (c ∷ bs) = by (is_for tag q c) refl (taken_under t e tag
 -- ---- one of several that differ
 
 -- none that differs from a binding is of its tag and sequence
-other_one : (c b : Binding) → differ c b ≡ true → is_for b.tag b.sequence c ≡ false
+pub other_one : (c b : Binding) → differ c b ≡ true → is_for b.tag b.sequence c ≡ false
 other_one c b h = by (is_for b.tag b.sequence c) refl
   where
     by : (v : Bool) → is_for b.tag b.sequence c ≡ v → v ≡ false
@@ -100,7 +100,7 @@ other_one c b h = by (is_for b.tag b.sequence c) refl
         absurd (let g : false ≡ true = rw same at apart in cc)
     by false k = refl
 
-itself : (b : Binding) → is_for b.tag b.sequence b ≡ true
+pub itself : (b : Binding) → is_for b.tag b.sequence b ≡ true
 itself b = and_from (same_text b.tag b.tag) (equal_patterns b.sequence b.sequence) ((bytes_decides b.tag b.tag).1 refl) ((equal_so b.sequence b.sequence).1 refl)
 
 differs_at : (c : Binding) (bs : List Binding) (i : ℕ) (b : Binding) → list_all (differ c) bs ≡ true → slice_get bs i ≡ Some b → differ c b ≡ true
@@ -117,26 +117,24 @@ placed_next (c ∷ bs) (suc i) b h e =
     let more : suc i + 1 ≡ suc (i + 1) = omega arith in
     rw (more, other_one c b (differs_at c bs i b two.0 e)) (ap (λ l. c ∷ l) (placed_next bs i b two.1 e))
 
-pub kept_next : (p : Binding → Bool) (done : List Binding) (b : Binding) (rest : List Binding) → p b ≡ true → filter p (done ++ b ∷ []) ++ rest ≡ filter p done ++ b ∷ rest
-kept_next p [] b rest h = rw h refl
-kept_next p (c ∷ done) b rest h = by (p c) (kept_next p done b rest h)
+kept_all : (test p : Binding → Bool) (bs : List Binding) → list_all test bs ≡ true → list_all test (filter p bs) ≡ true
+kept_all test p [] h = refl
+kept_all test p (c ∷ cs) h = by (p c) (both (test c) (list_all test cs) h) (kept_all test p cs)
   where
-    by : (v : Bool) → filter p (done ++ b ∷ []) ++ rest ≡ filter p done ++ b ∷ rest
-        → cond v (c ∷ filter p (done ++ b ∷ [])) (filter p (done ++ b ∷ [])) ++ rest ≡ cond v (c ∷ filter p done) (filter p done) ++ b ∷ rest
-    by true e = ap (λ l. c ∷ l) e
-    by false e = e
+    by : (t : Bool) → (test c ≡ true) × (list_all test cs ≡ true) → (list_all test cs ≡ true → list_all test (filter p cs) ≡ true)
+        → list_all test (cond t (c ∷ filter p cs) (filter p cs)) ≡ true
+    by true h rest = and_from (test c) (list_all test (filter p cs)) h.0 (rest h.1)
+    by false h rest = rest h.1
 
-pub gone_next : (p : Binding → Bool) (done : List Binding) (b : Binding) (rest : List Binding) → p b ≡ false → all_differ differ (done ++ b ∷ rest) ≡ true
-    → filter p (done ++ b ∷ []) ++ rest ≡ without b.tag b.sequence (filter p done ++ b ∷ rest)
-gone_next p [] b rest h apart = rw (h, itself b) refl
-gone_next p (c ∷ done) b rest h apart =
-    let two = both (list_all (differ c) (done ++ b ∷ rest)) (all_differ differ (done ++ b ∷ rest)) apart in
-    by (p c) (other_one c b (all_at (differ c) done b rest two.0)) (gone_next p done b rest h two.1)
+-- those that are left differ
+pub differ_left : (p : Binding → Bool) (bs : List Binding) → all_differ differ bs ≡ true → all_differ differ (filter p bs) ≡ true
+differ_left p [] h = refl
+differ_left p (c ∷ cs) h = by (p c) (both (list_all (differ c) cs) (all_differ differ cs) h) (differ_left p cs)
   where
-    by : (v : Bool) → is_for b.tag b.sequence c ≡ false → filter p (done ++ b ∷ []) ++ rest ≡ without b.tag b.sequence (filter p done ++ b ∷ rest)
-        → cond v (c ∷ filter p (done ++ b ∷ [])) (filter p (done ++ b ∷ [])) ++ rest ≡ without b.tag b.sequence (cond v (c ∷ filter p done) (filter p done) ++ b ∷ rest)
-    by true k e = rw k (ap (λ l. c ∷ l) e)
-    by false k e = e
+    by : (t : Bool) → (list_all (differ c) cs ≡ true) × (all_differ differ cs ≡ true) → (all_differ differ cs ≡ true → all_differ differ (filter p cs) ≡ true)
+        → all_differ differ (cond t (c ∷ filter p cs) (filter p cs)) ≡ true
+    by true h rest = and_from (list_all (differ c) (filter p cs)) (all_differ differ (filter p cs)) (kept_all (differ c) p cs h.0) (rest h.1)
+    by false h rest = rest h.1
 
 -- ---- the groups
 

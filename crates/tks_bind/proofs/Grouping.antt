@@ -7,7 +7,7 @@ use Rattle.tks_share.specs.Maps.{Map}
 use Rattle.tks_share.proofs.Alike.{names_alike}
 use Rattle.tks_text.specs.Text.{same_text}
 use Rattle.tks_bind.specs.Endings.{Key, same_ending}
-use Rattle.tks_bind.specs.Groups.{listed, items_in, mapped, map_in, group_in, group_of}
+use Rattle.tks_bind.specs.Groups.{listed, items_in, mapped, map_in, group_in, group_of, Spot, same_spot, list_at}
 use Rattle.tks_bind.proofs.Members.{empty_list}
 
 -- what is seen of what stands under a name, where one is put in or taken out
@@ -75,3 +75,17 @@ module _ {X : Type 0} where
       by : (b : Bool) → same_text other tag ≡ b → group_in (if b then groups else map_in m other) e ≡ (if b && same_ending e k then xs else group_of m other e)
       by true t = inner e ∙ ap (λ l. if same_ending e k then xs else group_in (map_in m l) e) (sym ((bytes_decides other tag).0 t))
       by false t = refl
+
+  -- by an ending, and by a name behind it
+  pub spot_put : (m made : Map (Map (Map (List X)))) (details : Map (Map (List X))) (lists : Map (List X)) (k : Spot) (xs : List X)
+      → ((other : List ℕ) → items_in lists other ≡ (if same_text other k.name then xs else items_in (map_in (map_in m k.ending.kind) k.ending.detail) other))
+      → ((other : List ℕ) → map_in details other ≡ (if same_text other k.ending.detail then lists else map_in (map_in m k.ending.kind) other))
+      → ((other : List ℕ) → map_in made other ≡ (if same_text other k.ending.kind then details else map_in m other))
+      → (s : Spot) → list_at made s ≡ (if same_spot s k then xs else list_at m s)
+  spot_put m made details lists k xs inner middle outer s =
+      let behind : Key = record { kind = k.ending.detail; detail = k.name } in
+      group_put_of m made details k.ending.kind behind xs (group_put (map_in m k.ending.kind) details lists behind xs inner middle) outer
+      s.ending.kind (record { kind = s.ending.detail; detail = s.name })
+
+  pub no_list : (s : Spot) → list_at (map.empty {X = Map (Map (List X))} {R = order}) s ≡ []
+  no_list s = no_groups map.empty s.ending.kind (record { kind = s.ending.detail; detail = s.name }) (map.get-empty order s.ending.kind)

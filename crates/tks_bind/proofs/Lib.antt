@@ -27,3 +27,5 @@ mod Pieces
 mod Others
 mod Counting
 mod Numbering
+mod Tagged
+mod Naming

@@ -1,7 +1,7 @@
 -- Bindings by their index and by their numbers.
 use Rattle.std.specs.List.{filter, find, list_all}
 use Rattle.std.specs.Cmp.Lexicographic.{bytes_decides}
-use Rattle.std.proofs.Common.{◌≡◌, ℕ, zero, suc, ◌+◌, ◌<◌, ◌==◌, Bool, true, false, cond, ◌&&◌, not, List, [], ◌∷◌, ◌++◌, length, slice_get, Option, Some, None, refl, sym, ap, ◌∙◌, arith}
+use Rattle.std.proofs.Common.{◌≡◌, ℕ, zero, suc, ◌==◌, Bool, true, false, cond, not, List, [], ◌∷◌, ◌++◌, length, slice_get, Option, Some, None, refl, sym, ap, ◌∙◌, arith}
 use Rattle.std.specs.Prelude.{nat_lt, option_map, option_copied}
 use Rattle.std.specs.Borrow.{Bor}
 use Rattle.std.specs.Slice.{IsItemAt}
@@ -14,7 +14,7 @@ use Rattle.tks_event.specs.declared.pattern.Pattern.{Pattern}
 use Rattle.tks_bind.specs.declared.binding.Binding.{Binding}
 use Rattle.tks_bind.specs.Binding.{is_for, placed, script_for}
 use Rattle.tks_bind.specs.Distinct.{all_differ}
-use Rattle.tks_bind.specs.Endings.{Key, same_ending, ending_of, is_under}
+use Rattle.tks_bind.specs.Endings.{same_ending, ending_of, is_under}
 use Rattle.tks_bind.specs.Indexes.{index_of}
 use Rattle.tks_bind.specs.Places.{numbers_of, put_at}
 use Rattle.tks_bind.specs.WellFormed.{differ, are_bindings}

@@ -1,12 +1,15 @@
 -- What the two passes find is the chosen binding.
+use Rattle.std.specs.List.{filter}
 use Rattle.std.proofs.Common.{◌≡◌, ◌⊎◌, inl, inr, ◌≤◌, ◌&&◌, not, nat_lt, if◌then◌else◌, Bool, true, false, List, [], ◌∷◌, ◌++◌, Option, Some, None, refl, ap, sym, subst, ◌∙◌, arith}
 use Rattle.std.proofs.lemmas.Bool.Decides.{nat_tests}
 use Rattle.tks_bind.specs.declared.binding.Binding.{Binding}
+use Rattle.tks_bind.specs.declared.through.Through.{Through}
 use Rattle.tks_bind.specs.Choice.{Way, Beats}
 use Rattle.tks_bind.specs.Beating.{beats}
 use Rattle.tks_bind.specs.Chosen.{Scene, IsOneOf, Candidate, Wins, ChosenSo}
 use Rattle.tks_bind.specs.Choosing.{meets}
-use Rattle.tks_bind.specs.Passes.{Trial, beats_top, is_higher, highest, isnt_beaten_by, is_unbeaten, is_later, latest, latest_from, found}
+use Rattle.tks_bind.specs.Endings.{named, is_under}
+use Rattle.tks_bind.specs.Passes.{Trial, trials_by, trials_through, beats_top, is_higher, highest, isnt_beaten_by, is_unbeaten, is_later, latest, latest_from, found}
 use Rattle.tks_bind.proofs.Deciding.{beats_so}
 use Rattle.tks_bind.proofs.Order.{never_itself, beats_along}
 
@@ -19,6 +22,25 @@ highest_append s top (t ∷ ts) us = highest_append s (if is_higher s top t then
 pub latest_append : (s : Scene) (all : List Trial) (top best : Trial) (ts us : List Trial) → latest s all top best (ts ++ us) ≡ latest s all top (latest s all top best ts) us
 latest_append s all top best [] us = refl
 latest_append s all top best (t ∷ ts) us = latest_append s all top (if is_later s all top best t then t else best) ts us
+
+-- sequences behind others
+pub highest_behind : (s : Scene) (top : Option Trial) (ts us : List Through)
+    → highest s top (trials_through s (ts ++ us)) ≡ highest s (highest s top (trials_through s ts)) (trials_through s us)
+highest_behind s top [] us = refl
+highest_behind s top (t ∷ ts) us =
+    let by = trials_by (Some t.sequence) (filter (is_under s.tag (named t.name)) s.bindings) in
+    highest_append s top by (trials_through s (ts ++ us))
+    ∙ highest_behind s (highest s top by) ts us
+    ∙ ap (λ o. highest s o (trials_through s us)) (sym (highest_append s top by (trials_through s ts)))
+
+pub latest_behind : (s : Scene) (all : List Trial) (top best : Trial) (ts us : List Through)
+    → latest s all top best (trials_through s (ts ++ us)) ≡ latest s all top (latest s all top best (trials_through s ts)) (trials_through s us)
+latest_behind s all top best [] us = refl
+latest_behind s all top best (t ∷ ts) us =
+    let by = trials_by (Some t.sequence) (filter (is_under s.tag (named t.name)) s.bindings) in
+    latest_append s all top best by (trials_through s (ts ++ us))
+    ∙ latest_behind s all top (latest s all top best by) ts us
+    ∙ ap (λ o. latest s all top o (trials_through s us)) (sym (latest_append s all top best by (trials_through s ts)))
 
 -- ---- what a test that takes several says
 

@@ -167,7 +167,7 @@ module _ (name : List ℕ) where
       by false k two rest = rest two.1
 
 -- those before one differ from it
-differ_before : (vs : List VirtualEvent) (v : VirtualEvent) (rest : List VirtualEvent) → are_virtuals (vs ++ v ∷ rest) ≡ true → list_all (λ u. names_differ u v) vs ≡ true
+pub differ_before : (vs : List VirtualEvent) (v : VirtualEvent) (rest : List VirtualEvent) → are_virtuals (vs ++ v ∷ rest) ≡ true → list_all (λ u. names_differ u v) vs ≡ true
 differ_before [] v rest h = refl
 differ_before (u ∷ vs) v rest h =
     let two = both (list_all (names_differ u) (vs ++ v ∷ rest)) (all_differ names_differ (vs ++ v ∷ rest)) h in
@@ -189,7 +189,7 @@ at_name t name vs e i = subst (λ n. IsOneOf t.sequence (sequences_of n vs)) e i
 from_name : (t : Through) (name : List ℕ) (vs : List VirtualEvent) → t.name ≡ name → IsOneOf t.sequence (sequences_of name vs) → IsMetBy t vs
 from_name t name vs e i = subst (λ n. IsOneOf t.sequence (sequences_of n vs)) (sym e) i
 
-module _ (name : List ℕ) (m made : Map (Map (List Through))) (vs : List VirtualEvent) where
+module _ (name : List ℕ) (m made : Map (Map (Map (List Through)))) (vs : List VirtualEvent) where
   -- some sequences join behind those of a name
   joined : (qs : List (List Pattern)) (ws : List VirtualEvent) → ((n : List ℕ) → ¬ (n ≡ name) → sequences_of n ws ≡ sequences_of n vs)
       → sequences_of name ws ≡ sequences_of name vs ++ qs → Leads m vs → Gains name qs m made → Leads made ws

@@ -1,5 +1,6 @@
 -- The bindings (bind(n)).
-use Rattle.std.specs.Prelude.{ℕ, ◌+◌, ◌==◌, ◌&&◌, Bool, if◌then◌else◌, List, [], ◌∷◌, ◌++◌, Option, Some, None}
+use Rattle.std.specs.Prelude.{ℕ, ◌+◌, ◌==◌, ◌&&◌, not, Bool, if◌then◌else◌, List, [], ◌∷◌, ◌++◌, Option, Some, None}
+use Rattle.std.specs.List.{filter}
 use Rattle.tks_text.specs.Text.{same_text}
 use Rattle.tks_event.specs.Canonical.{canonical}
 use Rattle.tks_event.specs.Equality.{equal_patterns}
@@ -40,6 +41,10 @@ set tag sequence script c =
 
 abbrev pub unset : List ℕ → List Pattern → Content → Content
 unset tag sequence c = record c { bindings = without tag sequence c.bindings }
+
+-- without the bindings of a tag
+abbrev pub without_tag : List ℕ → Content → Content
+without_tag tag c = record c { bindings = filter (λ b. not (same_text b.tag tag)) c.bindings }
 
 -- a script behind the one that is there, on a line of its own
 abbrev pub appended : Option (List ℕ) → List ℕ → List ℕ

@@ -1,6 +1,8 @@
 -- What ends in the event that is looked at.
-use Rattle.std.specs.Prelude.{ℕ, ◌≡◌, ◌-◌, Bool, true, false, List, [], ◌∷◌, length, slice_get, Option, Some, None}
+use Rattle.std.specs.Prelude.{ℕ, ◌≡◌, ◌-◌, Bool, true, false, List, [], ◌∷◌, length, slice_get, Option, Some, None, option_copied}
 use Rattle.std.specs.List.{filter}
+use Rattle.std.specs.FinMap as map
+use Rattle.tks_share.specs.Maps.{Map}
 use Rattle.tks_event.specs.Event.{Event}
 use Rattle.tks_bind.specs.declared.binding.Binding.{Binding}
 use Rattle.tks_bind.specs.declared.through.Through.{Through}
@@ -8,15 +10,21 @@ use Rattle.tks_bind.specs.declared.ends.Ends.{Ends as Held}
 use Rattle.tks_bind.specs.Chosen.{Scene}
 use Rattle.tks_bind.specs.Endings.{Key, named, of_event, bare, is_under}
 use Rattle.tks_bind.specs.Groups.{Tells}
+use Rattle.tks_bind.specs.Tagged.{all_listed}
 
 -- bindings, and sequences by which virtual events are met
 pub record Ends : Type 0 where
   pub bindings : List Binding
   pub sequences : List Through
 
+-- all items of lists by names, where there are some
+abbrev pub sequences_in : {X : Type 0} → Option (Map (List X)) → List X
+sequences_in None = []
+sequences_in (Some m) = all_listed (map.entries m)
+
 -- what contracts see of the code's ends
 abbrev pub ends_of : Held → Ends
-ends_of e = record { bindings = e.bindings.now; sequences = e.sequences.now }
+ends_of e = record { bindings = e.bindings.now; sequences = sequences_in (option_copied e.sequences) }
 
 abbrev pub nothing : Ends
 nothing = record { bindings = []; sequences = [] }

@@ -36,6 +36,22 @@ group_in m e = items_in (map_in m e.kind) e.detail
 abbrev pub group_of : {X : Type 0} → Map (Map (Map (List X))) → List ℕ → Key → List X
 group_of m tag e = group_in (map_in m tag) e
 
+-- the lists by an ending, by the names of virtual events
+abbrev pub names_in : {X : Type 0} → Map (Map (Map (List X))) → Key → Map (List X)
+names_in m e = map_in (map_in m e.kind) e.detail
+
+-- an ending and the name of a virtual event
+pub record Spot : Type 0 where
+  pub ending : Key
+  pub name : List ℕ
+
+abbrev pub same_spot : Spot → Spot → Bool
+same_spot s t = same_text s.ending.kind t.ending.kind && (same_text s.ending.detail t.ending.detail && same_text s.name t.name)
+
+-- the list by an ending and a name
+abbrev pub list_at : {X : Type 0} → Map (Map (Map (List X))) → Spot → List X
+list_at m s = items_in (names_in m s.ending) s.name
+
 -- ---- what they tell
 
 -- each binding is in the group of its tag and its ending, and in no other; in a group they are in the order in which they
@@ -52,9 +68,18 @@ pub record Tells (vs : List VirtualEvent) (e : Key) (ts : List Through) : Type 0
   pub met : (t : Through) → IsOneOf t ts → IsMetBy t vs × (last_ending t.sequence ≡ e)
   pub all : (t : Through) → IsMetBy t vs → last_ending t.sequence ≡ e → IsOneOf t ts
 
--- each sequence by which a virtual event is met is in the group of its ending
-abbrev pub Leads : Map (Map (List Through)) → List VirtualEvent → Type 0
-Leads m vs = (e : Key) → Tells vs e (group_in m e)
+-- where a sequence by which a virtual event is met is found
+abbrev pub spot_of : Through → Spot
+spot_of t = record { ending = last_ending t.sequence; name = t.name }
+
+-- these are those that are found there
+pub record TellsAt (vs : List VirtualEvent) (s : Spot) (ts : List Through) : Type 0 where
+  pub met : (t : Through) → IsOneOf t ts → IsMetBy t vs × (spot_of t ≡ s)
+  pub all : (t : Through) → IsMetBy t vs → spot_of t ≡ s → IsOneOf t ts
+
+-- each sequence by which a virtual event is met is in the list of its ending and the event's name
+abbrev pub Leads : Map (Map (Map (List Through))) → List VirtualEvent → Type 0
+Leads m vs = (s : Spot) → TellsAt vs s (list_at m s)
 
 -- whether it is another one than that of a name and a sequence
 abbrev pub is_other : List ℕ → List Pattern → Through → Bool

@@ -18,6 +18,7 @@ pub mod Endings
 pub mod Groups
 pub mod Places
 pub mod Throughs
+pub mod Tagged
 pub mod Ends
 pub mod Passes
 pub mod Tried

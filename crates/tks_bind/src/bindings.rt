@@ -1,10 +1,9 @@
 //! The bindings.
-ghost use Rattle.std.specs.Prelude.{◌≡◌, ◌≢◌, ◌↔◌, ◌≤◌, ◌<◌, ◌^◌, Bool, true, [], ◌∷◌, ◌++◌, length, map, slice_get, Some, None, Err, IfOk, OnOk, OnErr, option_copied};
+ghost use Rattle.std.specs.Prelude.{◌≡◌, ◌≢◌, ◌↔◌, ◌≤◌, ◌<◌, ◌^◌, true, [], ◌∷◌, ◌++◌, length, map, slice_get, Some, None, Err, IfOk, OnOk, OnErr, option_copied};
 ghost use Rattle.std.specs.List.{filter};
-ghost use Rattle.tks_share.specs.Lists.{Says, Decides};
 ghost use Rattle.tks_text.specs.Text.{IsText};
 ghost use Rattle.tks_event.specs.Canonical.{canonical};
-ghost use Rattle.tks_bind.specs.Binding.{Content, nothing, script_for, placed, without, set, unset, made, appended, bound, spelled};
+ghost use Rattle.tks_bind.specs.Binding.{Content, nothing, script_for, placed, without, without_tag, set, unset, made, appended, bound, spelled};
 ghost use Rattle.tks_bind.specs.Chosen.{ChosenSo};
 ghost use Rattle.tks_bind.specs.Choosing.{chosen};
 ghost use Rattle.tks_bind.specs.Distinct.{all_differ};
@@ -12,6 +11,7 @@ ghost use Rattle.tks_bind.specs.Endings.{ending_seen, is_under};
 ghost use Rattle.tks_bind.specs.Groups.{Groups};
 ghost use Rattle.tks_bind.specs.Indexes.{index_of};
 ghost use Rattle.tks_bind.specs.Places.{numbers_of};
+ghost use Rattle.tks_bind.specs.Tagged.{without_each};
 ghost use Rattle.tks_bind.specs.declared.binding.Binding.{Binding};
 ghost use Rattle.tks_bind.specs.WellFormed.{differ, are_bindings, others_are_below, AreBindings};
 
@@ -22,7 +22,9 @@ use crate::history::History;
 use crate::passes::Passes;
 use crate::places::Places;
 use crate::scene::Scene;
-use crate::tag_groups::{TagGroups, group_of, held_for, with_binding, without_binding};
+use crate::tag_groups::{
+    TagGroups, bindings_of, group_of, held_for, with_binding, without_binding,
+};
 use crate::virtuals::Virtuals;
 use std::alloc::{AllocError, Global};
 use std::marker::Model;
@@ -209,27 +211,31 @@ impl Bindings {
         made_len(self.script(tag, sequence), script)
     }
 
-    /// Takes away the bindings that the closure doesn't accept.
-    pub fn retain<F: Fn(&Binding) -> bool>(&mut self, keep: F) -> Result<(), AllocError>
-        requires callable { F.IsAlwaysCallable keep }
-        requires decided { Decides (F.post keep) }
-        ensures ok { OnOk result ((p : Binding → Bool) → Says (F.post keep) p → self.new ≡ record self.old { bindings = filter p self.old.bindings }) }
+    /// Takes away the bindings of a tag. It costs as much as there are of them, whatever others there are.
+    pub fn drop_tag(&mut self, tag: &Txt) -> Result<(), AllocError>
+        ensures ok { OnOk result (self.new ≡ without_tag tag.now self.old) }
         ensures err { OnErr result (self.new ≡ self.old) }
     {
-        *self = self.kept(&keep)?;
+        *self = self.without_tag(tag)?;
         Ok(())
     }
 
-    // The same without the bindings that the closure doesn't accept.
-    fn kept<F: Fn(&Binding) -> bool>(&self, keep: &F) -> Result<Bindings, AllocError>
-        requires callable { F.IsAlwaysCallable keep.now }
-        ensures { IfOk result (λ left. (p : Binding → Bool) → Says (F.post keep.now) p → left ≡ record self.now { bindings = filter p self.now.bindings }) }
+    // The same without the bindings of a tag.
+    fn without_tag(&self, tag: &Txt) -> Result<Bindings, AllocError>
+        ensures { IfOk result (λ left. left ≡ without_tag tag.now self.now) }
+    {
+        let gone = bindings_of(self.alloc, &self.tags, tag)?;
+        let left = self.without_each(gone.as_slice())?;
+        Ok(left)
+    }
+
+    // The same without these bindings.
+    fn without_each(&self, gone: &[Shared<Binding>]) -> Result<Bindings, AllocError>
+        ensures { IfOk result (λ left. left ≡ without_each gone.now self.now) }
     {
         let mut left = self.share()?;
-        for binding in self.bindings.iter() {
-            if !keep(binding) {
-                left.unset(&binding.tag, &binding.sequence)?;
-            }
+        for binding in gone {
+            left.unset(&binding.get().tag, &binding.get().sequence)?;
         }
         Ok(left)
     }

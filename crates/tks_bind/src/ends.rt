@@ -7,16 +7,17 @@ ghost use Rattle.tks_bind.specs.Ends.{ends_of, nothing, EndSo, last_event, EndFu
 
 use crate::binding::Binding;
 use crate::ending::Ending;
+use crate::groups::Lists;
 use crate::scene::Scene;
 use crate::through::Through;
 use tks_event::is_virtual;
 use tks_share::Shared;
 
-/// Bindings of a tag, and sequences by which virtual events are met.
+/// Bindings of a tag, and sequences by which virtual events are met, by the events' names.
 #[derive(Clone, Copy)]
 pub struct Ends<'a> {
     pub bindings: &'a [Shared<Binding>],
-    pub sequences: &'a [Shared<Through>],
+    pub sequences: Option<&'a Lists<Through>>,
 }
 
 impl<'a> Ends<'a> {
@@ -26,7 +27,7 @@ impl<'a> Ends<'a> {
     {
         Ends {
             bindings: &[],
-            sequences: &[],
+            sequences: None,
         }
     }
 }
@@ -51,7 +52,7 @@ impl<'a> Scene<'a> {
                 bindings: self
                     .bindings
                     .group(self.tag, Ending::named(&self.event.detail)),
-                sequences: &[],
+                sequences: None,
             };
         }
         match self.history.last() {

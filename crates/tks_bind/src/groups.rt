@@ -1,16 +1,17 @@
 //! Lists of shared items by endings. Copies share what they have in common.
-ghost use Rattle.std.specs.Prelude.{ℕ, ◌≡◌, List, ◌&&◌, if◌then◌else◌, IfOk};
+ghost use Rattle.std.specs.Prelude.{ℕ, ◌≡◌, List, ◌++◌, ◌&&◌, if◌then◌else◌, IfOk, OnOk};
 ghost use Rattle.tks_text.specs.Text.{same_text};
 ghost use Rattle.tks_bind.specs.Endings.{Key, ending_seen, same_ending};
 ghost use Rattle.tks_bind.specs.Groups.{items_in, map_in, group_in};
+ghost use Rattle.tks_bind.specs.Tagged.{all_listed, all_in};
 
 use crate::ending::Ending;
 use std::alloc::{AllocError, Global};
-use tks_share::{Shared, SharedMap};
+use tks_share::{Iter, Shared, SharedMap};
 use tks_text::Seq;
 
-/// Lists by details.
-type Lists<T> = SharedMap<Seq<Shared<T>>>;
+/// Lists by details, or by the names of virtual events.
+pub type Lists<T> = SharedMap<Seq<Shared<T>>>;
 
 /// Lists by kinds, and then by details. None of them is empty.
 pub type Groups<T> = SharedMap<Lists<T>>;
@@ -29,31 +30,63 @@ pub fn group<'a, T: Drop>(groups: &'a Groups<T>, ending: Ending<'_>) -> &'a [Sha
     }
 }
 
+// Adds items, each held once more.
+fn push_held<T: Drop>(found: &mut Seq<Shared<T>>, items: &[Shared<T>]) -> Result<(), AllocError>
+    ensures { OnOk result (found.new ≡ found.old ++ items.now) }
+{
+    for item in items {
+        found.push(item.share()?)?;
+    }
+    Ok(())
+}
+
 /// Items, each held once more.
 pub fn held<T: Drop>(alloc: Global, items: &[Shared<T>]) -> Result<Seq<Shared<T>>, AllocError>
     ensures { IfOk result (λ copy. copy ≡ items.now) }
 {
     let mut copy = Seq::new(alloc);
-    for item in items {
-        copy.push(item.share()?)?;
-    }
+    push_held(&mut copy, items)?;
     Ok(copy)
 }
 
-// With this list under a detail.
+// Adds the items of lists.
+fn push_lists<T: Drop>(
+    found: &mut Seq<Shared<T>>,
+    lists: Iter<'_, Seq<Shared<T>>>,
+) -> Result<(), AllocError>
+    ensures { OnOk result (found.new ≡ found.old ++ all_listed lists.entry) }
+{
+    for (_detail, list) in lists {
+        push_held(found, list.as_slice())?;
+    }
+    Ok(())
+}
+
+/// All items, each held once more.
+pub fn all_of<T: Drop>(alloc: Global, groups: &Groups<T>) -> Result<Seq<Shared<T>>, AllocError>
+    ensures { IfOk result (λ found. found ≡ all_in groups.now) }
+{
+    let mut found = Seq::new(alloc);
+    for (_kind, lists) in groups.iter() {
+        push_lists(&mut found, lists.iter())?;
+    }
+    Ok(found)
+}
+
+/// With this list under a detail or a name.
 #[tactic(auto, using(crate::proofs::Grouping::item_put, crate::proofs::Grouping::item_taken))]
-fn with_list<T: Drop>(
+pub fn with_list<T: Drop>(
     lists: &Lists<T>,
-    detail: &[u8],
+    name: &[u8],
     list: Seq<Shared<T>>,
 ) -> Result<Lists<T>, AllocError>
-    ensures { IfOk result (λ made. (other : List ℕ) → items_in made other ≡ (if same_text other detail.now then list else items_in lists.now other)) }
+    ensures { IfOk result (λ made. (other : List ℕ) → items_in made other ≡ (if same_text other name.now then list else items_in lists.now other)) }
 {
     let mut made = lists.share()?;
     if list.is_empty() {
-        made.remove(detail)?;
+        made.remove(name)?;
     } else {
-        made.insert(detail, list)?;
+        made.insert(name, list)?;
     }
     Ok(made)
 }

@@ -11,6 +11,7 @@ mod groups;
 mod history;
 mod laws;
 mod matching;
+mod name_places;
 mod passes;
 mod past;
 mod physical;

@@ -1,15 +1,18 @@
 //! The two passes over what is tried.
 ghost use Rattle.std.specs.Prelude.{◌≡◌, option_copied};
 ghost use Rattle.std.specs.List.{filter};
+ghost use Rattle.std.specs.FinMap as map;
 ghost use Rattle.tks_bind.specs.Choosing.{scene_of};
 ghost use Rattle.tks_bind.specs.Endings.{named, is_under};
-ghost use Rattle.tks_bind.specs.Ends.{ends_of};
+ghost use Rattle.tks_bind.specs.Ends.{ends_of, sequences_in};
 ghost use Rattle.tks_bind.specs.Passes.{trial_of, trial_in, trials_by, trials_through, trials_at, is_higher, highest, is_unbeaten, is_later, latest, found};
+ghost use Rattle.tks_bind.specs.Tagged.{all_listed};
 ghost use Rattle.tks_bind.specs.Tried.{all_tried};
 
 use crate::binding::Binding;
 use crate::ending::Ending;
 use crate::ends::Ends;
+use crate::groups::Lists;
 use crate::scene::Scene;
 use crate::through::Through;
 use crate::trial::Trial;
@@ -84,13 +87,38 @@ impl<'a> Passes<'a> {
         highest
     }
 
+    // The same, of lists of sequences by the names of their virtual events.
+    fn highest_named(&self, top: Option<Trial<'a>>, lists: &'a Lists<Through>) -> Option<Trial<'a>>
+        ensures { trial_in result ≡ highest (scene_of self.now.scene) (trial_in top.entry) (trials_through (scene_of self.now.scene) (all_listed (map.entries lists.now))) }
+    {
+        let mut highest = top;
+        for (_name, sequences) in lists.iter() {
+            highest = self.highest_through(highest, sequences.as_slice());
+        }
+        highest
+    }
+
+    // The same, where there are such lists.
+    fn highest_in(
+        &self,
+        top: Option<Trial<'a>>,
+        lists: Option<&'a Lists<Through>>,
+    ) -> Option<Trial<'a>>
+        ensures { trial_in result ≡ highest (scene_of self.now.scene) (trial_in top.entry) (trials_through (scene_of self.now.scene) (sequences_in (option_copied lists.entry))) }
+    {
+        match lists {
+            Some(lists) => self.highest_named(top, lists),
+            None => top,
+        }
+    }
+
     // One that none beats, of all that ends so, and of one more.
     #[tactic(auto, using(crate::proofs::Passing::highest_append))]
     fn highest_at(&self, top: Option<Trial<'a>>, ends: Ends<'a>) -> Option<Trial<'a>>
         ensures { trial_in result ≡ highest (scene_of self.now.scene) (trial_in top.entry) (trials_at (scene_of self.now.scene) (ends_of ends.entry)) }
     {
         let top = self.highest_by(top, ends.bindings, None);
-        self.highest_through(top, ends.sequences)
+        self.highest_in(top, ends.sequences)
     }
 
     // One that none beats, of all that is tried, and of one more.
@@ -162,13 +190,39 @@ impl<'a> Passes<'a> {
         latest
     }
 
+    // The same, of lists of sequences by the names of their virtual events.
+    fn latest_named(&self, top: Trial<'a>, best: Trial<'a>, lists: &'a Lists<Through>) -> Trial<'a>
+        ensures { trial_of result ≡ latest (scene_of self.now.scene) (all_tried self.now) (trial_of top.entry) (trial_of best.entry) (trials_through (scene_of self.now.scene) (all_listed (map.entries lists.now))) }
+    {
+        let mut latest = best;
+        for (_name, sequences) in lists.iter() {
+            latest = self.latest_through(top, latest, sequences.as_slice());
+        }
+        latest
+    }
+
+    // The same, where there are such lists.
+    fn latest_in(
+        &self,
+        top: Trial<'a>,
+        best: Trial<'a>,
+        lists: Option<&'a Lists<Through>>,
+    ) -> Trial<'a>
+        ensures { trial_of result ≡ latest (scene_of self.now.scene) (all_tried self.now) (trial_of top.entry) (trial_of best.entry) (trials_through (scene_of self.now.scene) (sequences_in (option_copied lists.entry))) }
+    {
+        match lists {
+            Some(lists) => self.latest_named(top, best, lists),
+            None => best,
+        }
+    }
+
     // The latest that none beats, of all that ends so, and of the best so far.
     #[tactic(auto, using(crate::proofs::Passing::latest_append))]
     fn latest_at(&self, top: Trial<'a>, best: Trial<'a>, ends: Ends<'a>) -> Trial<'a>
         ensures { trial_of result ≡ latest (scene_of self.now.scene) (all_tried self.now) (trial_of top.entry) (trial_of best.entry) (trials_at (scene_of self.now.scene) (ends_of ends.entry)) }
     {
         let best = self.latest_by(top, best, ends.bindings, None);
-        self.latest_through(top, best, ends.sequences)
+        self.latest_in(top, best, ends.sequences)
     }
 
     /// Of the bindings that are met by a way that none beats, the one that was set last.

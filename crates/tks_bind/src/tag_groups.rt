@@ -7,10 +7,11 @@ ghost use Rattle.tks_bind.specs.Binding.{is_for, placed, without};
 ghost use Rattle.tks_bind.specs.Indexes.{index_of};
 ghost use Rattle.tks_bind.specs.Endings.{Key, ending_seen, same_ending};
 ghost use Rattle.tks_bind.specs.Groups.{group_of, Groups};
+ghost use Rattle.tks_bind.specs.Tagged.{AreOf};
 
 use crate::binding::Binding;
 use crate::ending::Ending;
-use crate::groups::{Groups, group, held, map_in, with_group, with_map};
+use crate::groups::{Groups, all_of, group, held, map_in, with_group, with_map};
 use std::alloc::{AllocError, Global};
 use tks_event::Sequence;
 use tks_share::{Shared, SharedMap};
@@ -28,6 +29,21 @@ pub fn group_of<'a>(tags: &'a TagGroups, tag: &Txt, ending: Ending<'_>) -> &'a [
         Some(groups) => group(groups, ending),
         None => &[],
     }
+}
+
+/// The bindings of a tag, each held once more.
+pub fn bindings_of(
+    alloc: Global,
+    tags: &TagGroups,
+    tag: &Txt,
+) -> Result<Seq<Shared<Binding>>, AllocError>
+    ensures { IfOk result (λ found. (bs : List Binding) → Groups tags.now bs → AreOf tag.now bs found) }
+{
+    let Some(groups) = tags.get(tag.as_bytes()) else {
+        return Ok(Seq::new(alloc));
+    };
+    let found = all_of(alloc, groups)?;
+    Ok(found)
 }
 
 // With this list by a tag and an ending.

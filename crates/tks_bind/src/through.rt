@@ -1,14 +1,15 @@
-//! The sequences by which virtual events are met, by their endings.
-ghost use Rattle.std.specs.Prelude.{◌≡◌, [], ◌∷◌, IfOk};
+//! The sequences by which virtual events are met, by their endings, and then by the events' names.
+ghost use Rattle.std.specs.Prelude.{◌≡◌, [], ◌∷◌, if◌then◌else◌, IfOk, option_copied};
 ghost use Rattle.std.specs.List.{filter};
-ghost use Rattle.tks_bind.specs.Groups.{is_other};
+ghost use Rattle.tks_bind.specs.Endings.{ending_seen};
+ghost use Rattle.tks_bind.specs.Groups.{mapped, names_in, Spot, same_spot, list_at, is_other};
 ghost use Rattle.tks_bind.specs.Throughs.{Gains, Drops, ArePlaced};
 
 use crate::ending::Ending;
-use crate::groups::{Groups, group, held, with_group};
+use crate::groups::{Lists, held, map_in, with_list, with_map};
 use std::alloc::{AllocError, Global};
 use tks_event::{Sequence, are_equal};
-use tks_share::Shared;
+use tks_share::{Shared, SharedMap};
 use tks_text::{Seq, Txt};
 
 /// A sequence by which a virtual event is met.
@@ -19,14 +20,58 @@ pub struct Through {
     pub sequence: Sequence,
 }
 
-// With a sequence of a virtual event, which goes behind those that end so.
+/// Sequences by kinds, by details, and then by names. What a name has is short, however many virtual events end alike.
+pub type Throughs = SharedMap<SharedMap<Lists<Through>>>;
+
+/// The sequences that end so, by the names of their virtual events.
+pub fn names<'a>(groups: &'a Throughs, ending: Ending<'_>) -> Option<&'a Lists<Through>>
+    ensures { mapped (option_copied result) ≡ names_in groups.now (ending_seen ending.entry) }
+{
+    match groups.get(ending.kind) {
+        Some(details) => details.get(ending.detail),
+        None => None,
+    }
+}
+
+// The sequences of a virtual event that end so.
+fn list<'a>(groups: &'a Throughs, ending: Ending<'_>, name: &Txt) -> &'a [Shared<Through>]
+    ensures { result.now ≡ list_at groups.now (record { ending = ending_seen ending.entry; name = name.now }) }
+{
+    let Some(lists) = names(groups, ending) else {
+        return &[];
+    };
+    match lists.get(name.as_bytes()) {
+        Some(list) => list.as_slice(),
+        None => &[],
+    }
+}
+
+// With this list of a virtual event by an ending.
+fn with_list_at(
+    alloc: Global,
+    groups: &Throughs,
+    ending: Ending<'_>,
+    name: &Txt,
+    list: Seq<Shared<Through>>,
+) -> Result<Throughs, AllocError>
+    ensures { IfOk result (λ made. (s : Spot) → list_at made s ≡ (if same_spot s (record { ending = ending_seen ending.entry; name = name.now }) then list else list_at groups.now s)) }
+{
+    let details = map_in(alloc, groups, ending.kind)?;
+    let lists = map_in(alloc, &details, ending.detail)?;
+    let lists = with_list(&lists, name.as_bytes(), list)?;
+    let details = with_map(&details, ending.detail, lists)?;
+    let groups = with_map(groups, ending.kind, details)?;
+    Ok(groups)
+}
+
+// With a sequence of a virtual event, which goes behind those of it that end so.
 #[tactic(auto, using(crate::proofs::Leading::gains_one))]
 fn with_one(
     alloc: Global,
-    groups: &Groups<Through>,
+    groups: &Throughs,
     name: &Txt,
     sequence: &Sequence,
-) -> Result<Groups<Through>, AllocError>
+) -> Result<Throughs, AllocError>
     ensures { IfOk result (λ made. Gains name.now (sequence.now ∷ []) groups.now made) }
 {
     let through = Through {
@@ -34,18 +79,18 @@ fn with_one(
         sequence: sequence.try_clone(alloc)?,
     };
     let ending = Ending::of_last(sequence);
-    let mut list = held(alloc, group(groups, ending))?;
+    let mut list = held(alloc, list(groups, ending, name))?;
     list.push(Shared::new(alloc, through)?)?;
-    with_group(alloc, groups, ending, list)
+    with_list_at(alloc, groups, ending, name, list)
 }
 
 /// With sequences of a virtual event.
 pub fn with_sequences(
     alloc: Global,
-    groups: &Groups<Through>,
+    groups: &Throughs,
     name: &Txt,
     sequences: &[Sequence],
-) -> Result<Groups<Through>, AllocError>
+) -> Result<Throughs, AllocError>
     ensures { IfOk result (λ made. Gains name.now sequences.now groups.now made) }
 {
     let mut made = groups.share()?;
@@ -80,24 +125,24 @@ fn others(
 #[tactic(auto, using(crate::proofs::Leading::drops_one))]
 fn without_one(
     alloc: Global,
-    groups: &Groups<Through>,
+    groups: &Throughs,
     name: &Txt,
     sequence: &Sequence,
-) -> Result<Groups<Through>, AllocError>
+) -> Result<Throughs, AllocError>
     ensures { IfOk result (λ made. ArePlaced groups.now → Drops name.now (sequence.now ∷ []) groups.now made) }
 {
     let ending = Ending::of_last(sequence);
-    let list = others(alloc, group(groups, ending), name, sequence)?;
-    with_group(alloc, groups, ending, list)
+    let list = others(alloc, list(groups, ending, name), name, sequence)?;
+    with_list_at(alloc, groups, ending, name, list)
 }
 
 /// Without sequences of a virtual event.
 pub fn without_sequences(
     alloc: Global,
-    groups: &Groups<Through>,
+    groups: &Throughs,
     name: &Txt,
     sequences: &[Sequence],
-) -> Result<Groups<Through>, AllocError>
+) -> Result<Throughs, AllocError>
     ensures { IfOk result (λ made. ArePlaced groups.now → Drops name.now sequences.now groups.now made) }
 {
     let mut made = groups.share()?;

@@ -1,23 +1,25 @@
 //! The virtual events.
 ghost use Rattle.std.specs.Prelude.{◌≡◌, ◌<◌, ◌^◌, true, false, [], ◌∷◌, length, Some, None, IfOk, OnOk, OnErr, option_copied, slice_get};
 ghost use Rattle.tks_bind.specs.VirtualEvents.{is_of_name, sequences_of, added, deleted, deleted_sequence};
-ghost use Rattle.tks_bind.specs.VirtualIndexes.{index_of, found};
+ghost use Rattle.tks_bind.specs.VirtualIndexes.{index_of, ArePlaced};
 ghost use Rattle.std.specs.List.{AllByRecursion};
 ghost use Rattle.tks_event.specs.Sequences.{is_name};
 ghost use Rattle.tks_bind.specs.WellFormed.{is_virtual_event, are_virtuals, AreVirtuals};
 ghost use Rattle.tks_bind.specs.Endings.{ending_seen};
+ghost use Rattle.tks_bind.specs.Ends.{sequences_in};
 ghost use Rattle.tks_bind.specs.Groups.{Tells, Leads};
 
 use crate::ending::Ending;
-use crate::groups::{Groups, group};
+use crate::groups::Lists;
+use crate::name_places::NamePlaces;
 use crate::physical::PhysicalSequence;
-use crate::through::{Through, with_sequences, without_sequences};
+use crate::through::{Through, Throughs, names, with_sequences, without_sequences};
 use crate::virtual_event::{VirtualEvent, has_sequence, others, with_one_more};
 use std::alloc::{AllocError, Global};
 use std::marker::Model;
 use std::slice::from_ref;
 use tks_event::{Sequence, VirtualName};
-use tks_share::{Items, Share, Shared, SharedList, SharedMap};
+use tks_share::{Items, Share, SharedList, SharedMap};
 use tks_text::{Seq, Txt};
 
 /// The virtual events that have sequences, in the order in which they were added. Copies share what they have in common.
@@ -25,7 +27,9 @@ pub struct Virtuals {
     alloc: Global,
     events: SharedList<VirtualEvent>,
     // Their sequences, by their endings.
-    groups: Groups<Through>,
+    groups: Throughs,
+    // Their places, by their names.
+    names: NamePlaces,
 }
 
 // Written out, so that to let go of it is one step for whoever owns it.
@@ -35,6 +39,7 @@ impl Drop for Virtuals {
             alloc: _,
             events: _,
             groups: _,
+            names: _,
         } = self;
     }
 }
@@ -47,10 +52,9 @@ impl Model for Virtuals {
 
     ghost view = { λ v. v.events };
 
-    ghost use Rattle.tks_bind.specs.WellFormed.{AreVirtuals};
-    ghost use Rattle.tks_bind.specs.Groups.{Leads};
+    ghost use Rattle.tks_bind.specs.VirtualIndexes.{AreIndexed};
 
-    ghost invariant = { λ v. AreVirtuals v.events × Leads v.groups v.events };
+    ghost invariant = { λ v. AreIndexed v.events v.groups v.names };
 }
 
 impl Virtuals {
@@ -62,6 +66,7 @@ impl Virtuals {
             alloc,
             events: SharedList::new(alloc),
             groups: SharedMap::new(alloc),
+            names: NamePlaces::new(alloc),
         }
     }
 
@@ -74,10 +79,12 @@ impl Virtuals {
     {
         let events = SharedList::of(alloc, events)?;
         let groups = grouped(alloc, &events)?;
+        let names = placed(alloc, &events)?;
         Ok(Virtuals {
             alloc,
             events,
             groups,
+            names,
         })
     }
 
@@ -98,21 +105,31 @@ impl Virtuals {
     }
 
     /// The sequences by which a virtual event is met, in the order in which they were added.
-    #[tactic(auto, using(crate::proofs::Virtually::sequences_found, crate::proofs::Virtually::sequences_none))]
     pub fn sequences(&self, name: &Txt) -> &[Sequence]
         ensures { result.now ≡ sequences_of name.now self.now }
     {
-        match found(&self.events, name) {
+        let index = self.index_of(name);
+        match self.events.get(index) {
             Some(event) => event.sequences.as_slice(),
             None => &[],
         }
     }
 
-    // The sequences by which virtual events are met, and whose last pattern ends so.
-    pub(crate) fn group(&self, ending: Ending<'_>) -> &[Shared<Through>]
-        ensures { Tells self.now (ending_seen ending.entry) result.now }
+    // The sequences by which virtual events are met, and whose last pattern ends so, by the events' names.
+    pub(crate) fn group(&self, ending: Ending<'_>) -> Option<&Lists<Through>>
+        ensures { Tells self.now (ending_seen ending.entry) (sequences_in (option_copied result)) }
     {
-        group(&self.groups, ending)
+        names(&self.groups, ending)
+    }
+
+    // The index of the virtual event of a name, or the end.
+    fn index_of(&self, name: &Txt) -> usize
+        ensures { result ≡ index_of name.now self.now }
+    {
+        match self.names.place_of(name) {
+            Some(index) => index,
+            None => self.events.len(),
+        }
     }
 
     /// Adds a sequence of physical events to a virtual event. One that is there stays where it is.
@@ -128,19 +145,20 @@ impl Virtuals {
     }
 
     // The same, of a text that may be a name and a sequence that isn't one of a name.
-    #[tactic(auto, using(crate::proofs::Virtually::added_new, crate::proofs::Virtually::added_same, crate::proofs::Virtually::added_more, crate::proofs::Virtually::found_inside))]
     fn add(&mut self, name: &Txt, sequence: &Sequence) -> Result<(), AllocError>
         requires name { is_name name.now ≡ true }
         requires physical { is_of_name sequence.now ≡ false }
         ensures ok { OnOk result (self.new ≡ added name.now sequence.now self.old) }
         ensures err { OnErr result (self.new ≡ self.old) }
     {
-        let index = index_of(&self.events, name);
-        let Some(event) = found(&self.events, name) else {
+        let index = self.index_of(name);
+        let Some(event) = self.events.get(index) else {
             let event = first(self.alloc, name, sequence)?;
             let groups = with_sequences(self.alloc, &self.groups, name, from_ref(sequence))?;
+            let names = self.names.with(name)?;
             self.events.push(event)?;
             self.groups = groups;
+            self.names = names;
             return Ok(());
         };
         if has_sequence(event.sequences.as_slice(), sequence) {
@@ -157,24 +175,24 @@ impl Virtuals {
     }
 
     /// Takes a virtual event's sequences away.
-    #[tactic(auto, using(crate::proofs::Virtually::deleted_none, crate::proofs::Virtually::found_inside))]
     pub fn event_delete(&mut self, name: &Txt) -> Result<(), AllocError>
         ensures ok { OnOk result (self.new ≡ deleted name.now self.old) }
         ensures err { OnErr result (self.new ≡ self.old) }
     {
-        let index = index_of(&self.events, name);
-        let Some(event) = found(&self.events, name) else {
+        let index = self.index_of(name);
+        let Some(event) = self.events.get(index) else {
             return Ok(());
         };
         let sequences = event.sequences.as_slice();
         let groups = without_sequences(self.alloc, &self.groups, name, sequences)?;
+        let names = self.names.without(index, name)?;
         self.events.remove(index)?;
         self.groups = groups;
+        self.names = names;
         Ok(())
     }
 
     /// Takes a sequence of a virtual event away. Where none is left, the name goes too.
-    #[tactic(auto, using(crate::proofs::Virtually::none_deleted, crate::proofs::Virtually::last_deleted, crate::proofs::Virtually::one_deleted, crate::proofs::Virtually::found_inside, crate::proofs::Members::empty_list))]
     pub fn event_delete_sequence(
         &mut self,
         name: &Txt,
@@ -183,15 +201,17 @@ impl Virtuals {
         ensures ok { OnOk result (self.new ≡ deleted_sequence name.now sequence.now self.old) }
         ensures err { OnErr result (self.new ≡ self.old) }
     {
-        let index = index_of(&self.events, name);
-        let Some(event) = found(&self.events, name) else {
+        let index = self.index_of(name);
+        let Some(event) = self.events.get(index) else {
             return Ok(());
         };
         let left = others(self.alloc, event.sequences.as_slice(), sequence)?;
         let groups = without_sequences(self.alloc, &self.groups, name, from_ref(sequence))?;
         if left.is_empty() {
+            let names = self.names.without(index, name)?;
             self.events.remove(index)?;
             self.groups = groups;
+            self.names = names;
             return Ok(());
         }
         let event = VirtualEvent {
@@ -210,6 +230,7 @@ impl Share for Virtuals {
             alloc: self.alloc,
             events: self.events.share()?,
             groups: self.groups.share()?,
+            names: self.names.share()?,
         })
     }
 }
@@ -227,7 +248,7 @@ fn first(alloc: Global, name: &Txt, sequence: &Sequence) -> Result<VirtualEvent,
 }
 
 // The sequences of these virtual events, by their endings.
-fn grouped(alloc: Global, events: &SharedList<VirtualEvent>) -> Result<Groups<Through>, AllocError>
+fn grouped(alloc: Global, events: &SharedList<VirtualEvent>) -> Result<Throughs, AllocError>
     ensures { IfOk result (λ groups. are_virtuals events.now ≡ true → Leads groups events.now) }
 {
     let mut groups = SharedMap::new(alloc);
@@ -237,28 +258,14 @@ fn grouped(alloc: Global, events: &SharedList<VirtualEvent>) -> Result<Groups<Th
     Ok(groups)
 }
 
-// The index of the virtual event of a name, or the end.
-fn index_of(events: &SharedList<VirtualEvent>, name: &Txt) -> usize
-    ensures { result ≡ index_of name.now events.now }
+// The places of these virtual events, by their names.
+fn placed(alloc: Global, events: &SharedList<VirtualEvent>) -> Result<NamePlaces, AllocError>
+    requires { are_virtuals events.now ≡ true }
+    ensures { IfOk result (λ names. ArePlaced events.now names) }
 {
-    let len = events.len();
-    let mut left = len;
+    let mut names = NamePlaces::new(alloc);
     for event in events.iter() {
-        if event.name == *name {
-            return len - left;
-        }
-        left -= 1;
+        names = names.with(&event.name)?;
     }
-    len
-}
-
-fn found<'a>(events: &'a SharedList<VirtualEvent>, name: &Txt) -> Option<&'a VirtualEvent>
-    ensures { option_copied result ≡ found name.now events.now }
-{
-    for event in events.iter() {
-        if event.name == *name {
-            return Some(event);
-        }
-    }
-    None
+    Ok(names)
 }

@@ -1,6 +1,7 @@
 -- How events, bindings and what waits are spelled.
 pub mod Kind
 pub mod Sequence
+pub mod Keys
 pub mod Event
 pub mod Bindings
 pub mod Virtuals

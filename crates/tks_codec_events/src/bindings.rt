@@ -1,18 +1,18 @@
 //! Bindings.
 ghost use Rattle.std.specs.Prelude.{◌≡◌, ◌≤◌, ◌^◌, length, nat_lt, None, IfOk, OnOk};
 ghost use Rattle.std.specs.List.{list_all};
-ghost use Rattle.tks_bind.specs.WellFormed.{are_bindings};
+ghost use Rattle.tks_bind.specs.Distinct.{all_differ};
+ghost use Rattle.tks_bind.specs.WellFormed.{differ, are_bindings};
 ghost use Rattle.tks_spelling.specs.Reading.{Gives};
 ghost use Rattle.tks_spelling.specs.Writing.{PutsSo, flattened};
 ghost use Rattle.tks_spelling.specs.Lengths.{counted};
 ghost use Rattle.tks_codec_events.specs.Bindings as tables;
 ghost use Rattle.tks_codec_events.specs.Bindings.{binding_at, binding_parts, bindings_at};
 
-use crate::distinct::{Distinct, all_differ};
+use crate::distinct::{Key, all_differ};
 use crate::sequence::{put_sequence, sequence_length, sequence_of};
 use std::alloc::{AllocError, Global};
 use tks_bind::{Binding, Bindings};
-use tks_event::are_equal;
 use tks_spelling::reading::{text_of, u64_of};
 use tks_spelling::writing::{put_text, put_u64};
 use tks_spelling::{Members, Unread, items_length, list_of, put_items, text_length};
@@ -77,15 +77,40 @@ impl Members<Binding> for BindingMembers {
     }
 }
 
-impl Distinct for Binding {
-    ghost use Rattle.tks_bind.specs.WellFormed.{differ};
+// Bindings by their numbers.
+struct ByNumber;
 
-    ghost differs = { differ };
+impl Key<Binding> for ByNumber {
+    ghost use Rattle.std.specs.Int.{w64};
+    ghost use Rattle.tks_spelling.specs.Spelling.{number};
+    ghost use Rattle.tks_codec_events.specs.Bindings.{numbers_differ};
 
-    fn differs(&self, other: &Binding) -> bool {
-        self.number != other.number
-            && !(other.tag == self.tag
-                && are_equal(other.sequence.as_slice(), self.sequence.as_slice()))
+    ghost differ = { λ key. numbers_differ };
+
+    ghost bytes = { λ key b. (number w64).write b.number };
+
+    ghost IsTold = { λ key b. (number w64).Legal b.number };
+
+    fn put(&self, out: &mut Vec<u8>, binding: &Binding) -> Result<(), AllocError> {
+        put_u64(out, binding.number)
+    }
+}
+
+// Bindings by their tags and sequences.
+struct ByTagAndSequence;
+
+impl Key<Binding> for ByTagAndSequence {
+    ghost use Rattle.tks_codec_events.specs.Bindings.{tag_and_sequence, tags_or_sequences_differ};
+
+    ghost differ = { λ key. tags_or_sequences_differ };
+
+    ghost bytes = { λ key b. tag_and_sequence.write (b.tag, b.sequence) };
+
+    ghost IsTold = { λ key b. tag_and_sequence.Legal (b.tag, b.sequence) };
+
+    fn put(&self, out: &mut Vec<u8>, binding: &Binding) -> Result<(), AllocError> {
+        put_text(out, &binding.tag)?;
+        put_sequence(out, &binding.sequence)
     }
 }
 
@@ -96,11 +121,18 @@ fn are_below(bindings: &[Binding], next: u64) -> bool
     bindings.iter().all(|binding| binding.number < next)
 }
 
-// Whether numbers are below the next one, and bindings differ in their numbers, and in their tags or their sequences.
-fn are_bindings(bindings: &[Binding], next: u64) -> bool
-    ensures { result ≡ are_bindings next bindings.now }
+// Whether bindings differ in their numbers, and in their tags or their sequences.
+fn bindings_differ(alloc: Global, bindings: &[Binding]) -> Result<bool, AllocError>
+    ensures { IfOk result (λ b. b ≡ all_differ differ bindings.now) }
 {
-    are_below(bindings, next) && all_differ(bindings)
+    Ok(all_differ(alloc, &ByNumber, bindings)? && all_differ(alloc, &ByTagAndSequence, bindings)?)
+}
+
+// Whether numbers are below the next one, and bindings differ.
+fn are_bindings(alloc: Global, bindings: &[Binding], next: u64) -> Result<bool, AllocError>
+    ensures { IfOk result (λ b. b ≡ are_bindings next bindings.now) }
+{
+    Ok(are_below(bindings, next) && bindings_differ(alloc, bindings)?)
 }
 
 /// Bindings with this next number.
@@ -111,7 +143,7 @@ pub fn bindings_of(alloc: Global, next: u64, bytes: &[u8]) -> Result<(Bindings, 
     ensures next { IfOk result (λ x. x.0.next ≡ next) }
 {
     let (bindings, rest) = list_of(alloc, BindingMembers, bytes)?;
-    if !are_bindings(bindings.as_slice(), next) {
+    if !are_bindings(alloc, bindings.as_slice(), next)? {
         return Err(Unread::Left(rest.len() + 1));
     }
     let bindings = Bindings::restore(alloc, bindings.into_items(), next)?;

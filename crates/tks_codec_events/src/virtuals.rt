@@ -8,11 +8,11 @@ ghost use Rattle.tks_codec_events.specs.Virtuals as tables;
 ghost use Rattle.tks_bind.specs.WellFormed.{are_physical, is_virtual_event};
 ghost use Rattle.tks_codec_events.specs.Virtuals.{named_parts, virtual_event_at, virtuals_at};
 
-use crate::distinct::{Distinct, all_differ};
-use crate::sequence::Sequences;
+use crate::distinct::{Key, all_differ};
+use crate::sequence::{Sequences, put_sequence};
 use std::alloc::{AllocError, Global};
 use tks_bind::{VirtualEvent, Virtuals, is_of_name};
-use tks_event::{Sequence, are_equal, is_name};
+use tks_event::{Sequence, is_name};
 use tks_spelling::reading::text_of;
 use tks_spelling::writing::put_text;
 use tks_spelling::{
@@ -20,13 +20,21 @@ use tks_spelling::{
 };
 use tks_text::Txt;
 
-impl Distinct for Sequence {
+// Sequences by themselves.
+struct BySequence;
+
+impl Key<Sequence> for BySequence {
     ghost use Rattle.tks_bind.specs.WellFormed.{sequences_differ};
+    ghost use Rattle.tks_codec_events.specs.Sequence.{sequence};
 
-    ghost differs = { sequences_differ };
+    ghost differ = { λ key. sequences_differ };
 
-    fn differs(&self, other: &Sequence) -> bool {
-        !are_equal(self.as_slice(), other.as_slice())
+    ghost bytes = { λ key. sequence.write };
+
+    ghost IsTold = { λ key. sequence.Legal };
+
+    fn put(&self, out: &mut Vec<u8>, sequence: &Sequence) -> Result<(), AllocError> {
+        put_sequence(out, sequence)
     }
 }
 
@@ -48,20 +56,15 @@ fn are_physical(sequences: &[Sequence]) -> bool
 }
 
 // Whether a virtual event may have this name and these sequences.
-fn is_virtual_event(name: &Txt, sequences: &[Sequence]) -> bool
-    ensures { result ≡ is_virtual_event (record { name = name.now; sequences = sequences.now }) }
+fn is_virtual_event(alloc: Global, name: &Txt, sequences: &[Sequence]) -> Result<bool, AllocError>
+    ensures { IfOk result (λ b. b ≡ is_virtual_event (record { name = name.now; sequences = sequences.now })) }
 {
-    is_name(name.as_bytes())
-        && are_physical(sequences)
-        && is_some(sequences)
-        && all_differ(sequences)
-}
-
-// Whether names differ.
-fn are_virtuals(events: &[VirtualEvent]) -> bool
-    ensures { result ≡ are_virtuals events.now }
-{
-    all_differ(events)
+    Ok(
+        is_name(name.as_bytes())
+            && are_physical(sequences)
+            && is_some(sequences)
+            && all_differ(alloc, &BySequence, sequences)?,
+    )
 }
 
 // A virtual event.
@@ -71,7 +74,7 @@ fn virtual_event_of(alloc: Global, bytes: &[u8]) -> Result<(VirtualEvent, &[u8])
 {
     let (name, rest) = text_of(alloc, bytes)?;
     let (sequences, rest) = list_of(alloc, Sequences, rest)?;
-    if !is_virtual_event(&name, sequences.as_slice()) {
+    if !is_virtual_event(alloc, &name, sequences.as_slice())? {
         return Err(Unread::Left(rest.len() + 1));
     }
     let event = VirtualEvent::restore(alloc, name, sequences.into_items())?;
@@ -117,14 +120,29 @@ impl Members<VirtualEvent> for VirtualMembers {
     }
 }
 
-impl Distinct for VirtualEvent {
+// Virtual events by their names.
+struct ByName;
+
+impl Key<VirtualEvent> for ByName {
     ghost use Rattle.tks_bind.specs.WellFormed.{names_differ};
+    ghost use Rattle.tks_spelling.specs.Spelling.{text};
 
-    ghost differs = { names_differ };
+    ghost differ = { λ key. names_differ };
 
-    fn differs(&self, other: &VirtualEvent) -> bool {
-        self.name != other.name
+    ghost bytes = { λ key v. text.write v.name };
+
+    ghost IsTold = { λ key v. text.Legal v.name };
+
+    fn put(&self, out: &mut Vec<u8>, event: &VirtualEvent) -> Result<(), AllocError> {
+        put_text(out, &event.name)
     }
+}
+
+// Whether names differ.
+fn are_virtuals(alloc: Global, events: &[VirtualEvent]) -> Result<bool, AllocError>
+    ensures { IfOk result (λ b. b ≡ are_virtuals events.now) }
+{
+    all_differ(alloc, &ByName, events)
 }
 
 /// Virtual events.
@@ -133,7 +151,7 @@ pub fn virtuals_of(alloc: Global, bytes: &[u8]) -> Result<(Virtuals, &[u8]), Unr
     ensures { Gives (λ x. (x.0, x.1.now)) result (virtuals_at bytes.now) }
 {
     let (events, rest) = list_of(alloc, VirtualMembers, bytes)?;
-    if !are_virtuals(events.as_slice()) {
+    if !are_virtuals(alloc, events.as_slice())? {
         return Err(Unread::Left(rest.len() + 1));
     }
     let virtuals = Virtuals::restore(alloc, events.into_items())?;

@@ -217,7 +217,7 @@ module _ (limits : Limits) (grid : Extent) where
       let ws = x.tree.windows in
       events_closed limits (with_left w x)
       (record {
-        bindings = filtered_fit limits (binding_fits limits) (is_held ws) w.bindings.bindings e.bindings;
+        bindings = filtered_fit limits (binding_fits limits) (is_held w.tree.windows ws) w.bindings.bindings e.bindings;
         virtuals = e.virtuals;
         history = e.history;
         queue = filtered_fit limits (λ (q : Queued). event_fits limits q.event) (is_for ws) w.queue e.queue;

@@ -130,36 +130,30 @@ fn areas(
     Ok(areas)
 }
 
-// What contents ask for from left to right.
-fn horizontals<R: Requests>(
-    alloc: Global,
-    contents: Items<'_, Content>,
-    requests: &R,
-) -> Result<Vec<Stretch>, AllocError>
-    ensures { IfOk result (λ v. v.items ≡ horizontals (R.size requests.now) contents.entry) }
-{
-    let mut stretches = Vec::new(alloc);
-    for content in contents {
-        let size = requests.requested(content.window);
-        stretches.push(Stretch::horizontal(&content.settings, size))?;
-    }
-    Ok(stretches)
+// What contents ask for, from left to right and from top to bottom.
+#[derive(Drop)]
+struct Asked {
+    across: Vec<Stretch>,
+    down: Vec<Stretch>,
 }
 
-// What contents ask for from top to bottom.
-fn verticals<R: Requests>(
+// What these contents ask for. Each is asked once.
+fn asked_by<R: Requests>(
     alloc: Global,
-    contents: Items<'_, Content>,
+    contents: &SharedList<Content>,
     requests: &R,
-) -> Result<Vec<Stretch>, AllocError>
-    ensures { IfOk result (λ v. v.items ≡ verticals (R.size requests.now) contents.entry) }
+) -> Result<Asked, AllocError>
+    ensures across { IfOk result (λ s. s.across.items ≡ horizontals (R.size requests.now) contents.now) }
+    ensures down { IfOk result (λ s. s.down.items ≡ verticals (R.size requests.now) contents.now) }
 {
-    let mut stretches = Vec::new(alloc);
-    for content in contents {
+    let mut across = Vec::with_capacity(alloc, contents.len())?;
+    let mut down = Vec::with_capacity(alloc, contents.len())?;
+    for content in contents.iter() {
         let size = requests.requested(content.window);
-        stretches.push(Stretch::vertical(&content.settings, size))?;
+        across.push(Stretch::horizontal(&content.settings, size))?;
+        down.push(Stretch::vertical(&content.settings, size))?;
     }
-    Ok(stretches)
+    Ok(Asked { across, down })
 }
 
 impl Packing {
@@ -333,10 +327,9 @@ impl Packing {
     ) -> Result<Vec<Option<Area>>, AllocError>
         ensures { IfOk result (λ v. v.items ≡ places (R.size requests.now) container self.now.contents) }
     {
-        let across = horizontals(self.alloc, self.contents.iter(), requests)?;
-        let down = verticals(self.alloc, self.contents.iter(), requests)?;
-        let across = spans(self.alloc, &across, container.width)?;
-        let down = spans(self.alloc, &down, container.height)?;
+        let asked = asked_by(self.alloc, &self.contents, requests)?;
+        let across = spans(self.alloc, &asked.across, container.width)?;
+        let down = spans(self.alloc, &asked.down, container.height)?;
         let areas = areas(self.alloc, &across, &down)?;
         Ok(areas)
     }

@@ -14,3 +14,4 @@ mod Looping
 mod Standing
 mod Tagging
 pub mod FirstTable
+mod Gone

@@ -1,18 +1,22 @@
 -- What is kept of the windows stays in step with the tree.
-use Rattle.std.proofs.Common.{◌≡◌, ℕ, zero, suc, ◌+◌, ◌<◌, ◌==◌, Bool, true, false, not, cond, if◌then◌else◌, List, [], ◌∷◌, ◌++◌, Option, Some, None, is_some, Result, Ok, Err, set, get_or, refl, sym, ap, subst, ◌∙◌, true≢false, arith}
+use Rattle.std.proofs.Common.{◌≡◌, ℕ, zero, suc, ◌+◌, ◌<◌, ◌≤◌, ◌==◌, Bool, true, false, not, cond, if◌then◌else◌, List, [], ◌∷◌, ◌++◌, Some, None, is_some, Result, Ok, Err, set, get_or, refl, sym, ap, subst, ◌∙◌, true≢false, arith}
 use Rattle.std.specs.Prelude.{map, nat_lt}
-use Rattle.std.specs.List.{filter}
+use Rattle.std.specs.List.{AllByRecursion, filter}
 use Rattle.std.specs.Result.{IsOk, is_ok}
-use Rattle.std.proofs.lemmas.Bool.{eqb-true, eq-eqb}
+use Rattle.std.proofs.lemmas.Bool.{eqb-true, eq-eqb, ne_eqb}
 use Rattle.tks_text.specs.declared.class.Class.{Class}
 use Rattle.tks_text.specs.declared.fault.ScriptFault.{ScriptFault}
-use Rattle.tks_tree.specs.Path.{is_within}
 use Rattle.tks_tree.specs.Windows as tree
-use Rattle.tks_tree.specs.Windows.{Window, Windows, Refusal, of_number, on_window, free_path, numbered, created, with_window, max_number, without, destroyed}
+use Rattle.tks_tree.specs.Windows.{Window, Windows, Refusal, of_number, free_path, numbered, created, with_window, max_number, without, destroyed}
 use Rattle.tks_tree.specs.WellFormed.{Rise}
+use Rattle.tks_tree.specs.Within.{is_one_of, is_in, AreThoseIn}
+use Rattle.tks_tree.proofs.Leaving.{same_left, without_in}
+use Rattle.tks_tree.proofs.Within.{all_so}
 use Rattle.tks_text.specs.declared.fault.ErrorNumber.TheVariants.{NotAllowedOnRoot}
 use Rattle.tks_state.specs.declared.kept.Kept.{Kept}
-use Rattle.tks_state.specs.Windows.{still_there}
+use Rattle.tks_opt.specs.Options.{after}
+use Rattle.tks_state.specs.Windows as state
+use Rattle.tks_state.specs.Windows.{forgotten_at, still_there}
 use Rattle.tks_state.specs.WellFormed.{mark_of, window_mark, InStep}
 
 -- ---- changes in place
@@ -110,34 +114,77 @@ those_left keep low high (w ∷ ws) r = by (keep w) (behind_same w (filter keep 
     by false same rest =
         ap (λ b. cond b (w ∷ filter (λ v. has left v.number) ws) (filter (λ v. has left v.number) ws)) (has_lower keep (w.number + 1) w.number high ws (omega arith) r.1) ∙ rest
 
-all_kept : (ws : List Window) → filter (λ _. true) ws ≡ ws
-all_kept [] = refl
-all_kept (w ∷ ws) = ap (λ vs. w ∷ vs) (all_kept ws)
-
--- some windows are left, in order
-abbrev Leaves : Windows → Result Windows ScriptFault → Type 0
-Leaves t (Ok u) = (keep : Window → Bool) × (u.windows ≡ filter keep t.windows) × (u.next ≡ t.next)
-Leaves t (Err fault) = Unit {0}
-
-destroyed_leaves : (t : Windows) (number : ℕ) → Leaves t (destroyed t number)
-destroyed_leaves t number = by (number == 0)
+-- what destroying a window leaves
+pub left_is : (t u : Windows) (number : ℕ) → destroyed t number ≡ Ok u → u ≡ without t number
+left_is t u number h = by (number == 0) h
   where
-    left : (o : Option Window) → Leaves t (Ok (on_window o t (λ w. record t { windows = filter (λ v. not (is_within w.path v.path)) t.windows })))
-    left None = ((λ _. true), sym (all_kept t.windows), refl)
-    left (Some w) = ((λ v. not (is_within w.path v.path)), refl, refl)
+    same : (a b : Windows) → ◌≡◌ {A = Result Windows ScriptFault} (Ok a) (Ok b) → b ≡ a
+    same a b e = cc
 
-    by : (b : Bool) → Leaves t (if b then Err (record { number = NotAllowedOnRoot; subject = None }) else Ok (without t number))
-    by true = tt
-    by false = left (of_number t.windows number)
+    by : (b : Bool) → ◌≡◌ {A = Result Windows ScriptFault} (if b then Err (record { number = NotAllowedOnRoot; subject = None }) else Ok (without t number)) (Ok u) → u ≡ without t number
+    by true e = absurd (true≢false (sym (ap (is_ok {T = Windows} {E = ScriptFault}) e)))
+    by false e = same (without t number) u e
+
+windows_left : (t u : Windows) (number : ℕ) → destroyed t number ≡ Ok u → u.windows ≡ filter (λ v. not (is_in t number v)) t.windows
+windows_left t u number h = ap (λ (v : Windows). v.windows) (left_is t u number h ∙ without_in t number)
+
+-- the same of all that is kept
+pub all_left : (x : state.Windows) (u : Windows) (number : ℕ) → destroyed x.tree number ≡ Ok u
+    → state.destroyed x number ≡ Ok (record { tree = u; kept = still_there u.windows (forgotten_at x.kept (tree.parent x.tree number) number) })
+all_left x u number h =
+    ap (λ r. after r (λ (t : Windows). Ok (state.without x number))) h
+    ∙ ap (λ (t : Windows). Ok (record { tree = t; kept = still_there t.windows (forgotten_at x.kept (tree.parent x.tree number) number) })) (sym (left_is x.tree u number h))
 
 pub left_in_step : (t u : Windows) (number : ℕ) (ks : List Kept) → Rise 0 t.windows t.next → destroyed t number ≡ Ok u → InStep t.windows ks
     → InStep u.windows (still_there u.windows ks)
 left_in_step t u number ks r h s =
-    let l : Leaves t (Ok u) = subst (Leaves t) h (destroyed_leaves t number) in
+    let left = windows_left t u number h in
     filter_map mark_of (λ m. has u.windows m.0) ks
     ∙ ap (filter (λ m. has u.windows m.0)) s
     ∙ sym (filter_map window_mark (λ m. has u.windows m.0) t.windows)
-    ∙ ap (map window_mark) (ap (λ vs. filter (λ w. has vs w.number) t.windows) l.1 ∙ those_left l.0 0 t.next t.windows r ∙ sym l.1)
+    ∙ ap (map window_mark) (ap (λ vs. filter (λ w. has vs w.number) t.windows) left ∙ those_left (λ v. not (is_in t number v)) 0 t.next t.windows r ∙ sym left)
+
+-- ---- by the numbers of those that go
+
+-- of windows by their numbers, those that a test keeps are left
+has_kept : (keep : Window → Bool) (low high : ℕ) (ws : List Window) → Rise low ws high → AllByRecursion (λ w. (low ≤ w.number) × (has (filter keep ws) w.number ≡ keep w)) ws
+has_kept keep low high [] r = tt
+has_kept keep low high (w ∷ ws) r =
+    let rest = has_kept keep (w.number + 1) high ws r.1 in
+    ((r.0, first (keep w)), all_so _ _ ws (λ v h. (omega (arith, h.0, r.0), later v h.0 (keep w) ∙ h.1)) rest)
+  where
+    first : (b : Bool) → has (cond b (w ∷ filter keep ws) (filter keep ws)) w.number ≡ b
+    first true = ap (λ b. is_some (cond b (Some w) (of_number (filter keep ws) w.number))) (eq-eqb w.number w.number refl)
+    first false = has_lower keep (w.number + 1) w.number high ws (omega arith) r.1
+
+    later : (v : Window) → w.number + 1 ≤ v.number → (b : Bool) → has (cond b (w ∷ filter keep ws) (filter keep ws)) v.number ≡ has (filter keep ws) v.number
+    later v above true = ap (λ b. is_some (cond b (Some w) (of_number (filter keep ws) v.number))) (ne_eqb w.number v.number (λ e. omega (arith, above, e)))
+    later v above false = refl
+
+all_mapped : {X Y : Type 0} (f : X → Y) (P : Y → Type 0) (xs : List X) → AllByRecursion (λ x. P (f x)) xs → AllByRecursion P (map f xs)
+all_mapped f P [] all = tt
+all_mapped f P (x ∷ xs) all = (all.0, all_mapped f P xs all.1)
+
+of_mapped : {X Y : Type 0} (f : X → Y) (P : Y → Type 0) (xs : List X) → AllByRecursion P (map f xs) → AllByRecursion (λ x. P (f x)) xs
+of_mapped f P [] all = tt
+of_mapped f P (x ∷ xs) all = (all.0, of_mapped f P xs all.1)
+
+-- what holds of the windows' numbers holds of those of what is kept
+of_kept : (P : ℕ → Type 0) (ws : List Window) (ks : List Kept) → InStep ws ks → AllByRecursion (λ w. P w.number) ws → AllByRecursion (λ k. P k.window) ks
+of_kept P ws ks s all = of_mapped mark_of (λ m. P m.0) ks (subst (AllByRecursion (λ m. P m.0)) (sym s) (all_mapped window_mark (λ m. P m.0) ws all))
+
+-- what is kept of windows is left where its number isn't one of theirs that go
+pub left_by_numbers : (t u : Windows) (number : ℕ) (gone : List ℕ) (ks : List Kept) → Rise 0 t.windows t.next → destroyed t number ≡ Ok u → AreThoseIn t number gone → InStep t.windows ks
+    → filter (λ k. not (is_one_of k.window gone)) ks ≡ still_there u.windows ks
+left_by_numbers t u number gone ks r h those s =
+    same_left (λ k. not (is_one_of k.window gone)) (λ k. has u.windows k.window) ks (of_kept (λ n. not (is_one_of n gone) ≡ has u.windows n) t.windows ks s (each t.windows those (has_kept (λ v. not (is_in t number v)) 0 t.next t.windows r)))
+  where
+    each : (ws : List Window) → AllByRecursion (λ v. is_one_of v.number gone ≡ is_in t number v) ws
+        → AllByRecursion (λ w. (0 ≤ w.number) × (has (filter (λ v. not (is_in t number v)) t.windows) w.number ≡ not (is_in t number w))) ws
+        → AllByRecursion (λ w. not (is_one_of w.number gone) ≡ has u.windows w.number) ws
+    each [] those kept = tt
+    each (w ∷ ws) those kept =
+        (ap not those.0 ∙ sym kept.0.1 ∙ ap (λ vs. has vs w.number) (sym (windows_left t u number h)), each ws those.1 kept.1)
 
 -- what a list is behind a push that had room
 pub pushed : {X E A : Type 0} (r : Result X E) (grown same : A) → IsOk r → (if is_ok r then grown else same) ≡ grown

@@ -1,12 +1,11 @@
 -- What scripts bound to events rest on: the bindings, virtual events, the history of events, and the faults of such
 -- scripts (bind(n), event(n); that the last 32 faults are kept is this project's own rule).
-use Rattle.std.specs.Prelude.{ℕ, ◌-◌, Bool, ◌||◌, not, List, [], ◌∷◌, ◌++◌, length, drop}
+use Rattle.std.specs.Prelude.{ℕ, ◌-◌, Bool, ◌&&◌, not, List, [], ◌∷◌, ◌++◌, length, drop}
 use Rattle.std.specs.List.{filter}
 use Rattle.tks_event.specs.Event.{Event}
-use Rattle.tks_bind.specs.Binding.{Content}
+use Rattle.tks_bind.specs.Binding.{Content, without_tag}
 use Rattle.tks_bind.specs.declared.binding.Binding.{Binding}
 use Rattle.tks_bind.specs.declared.virtual_event.VirtualEvent.{VirtualEvent}
-use Rattle.tks_text.specs.Text.{begins_dot}
 use Rattle.tks_tree.specs.Windows as tree
 use Rattle.tks_state.specs.ClassBindings.{first_bindings}
 
@@ -38,13 +37,22 @@ with_fault text faults = last_faults (faults ++ text ∷ [])
 
 -- ---- windows that go
 
--- whether a binding stays: its tag is no path, or that of a window that is there
-abbrev pub is_held : List tree.Window → Binding → Bool
-is_held windows b = not (begins_dot b.tag) || tree.has_path windows b.tag
+-- whether a path is that of a window that is gone: one that was there, and is there no more
+abbrev pub is_gone : List tree.Window → List tree.Window → List ℕ → Bool
+is_gone before after path = tree.has_path before path && not (tree.has_path after path)
 
-abbrev pub all_held : List tree.Window → List Binding → List Binding
-all_held windows bindings = filter (is_held windows) bindings
+-- whether a binding stays: its tag is the path of no window that is gone
+abbrev pub is_held : List tree.Window → List tree.Window → Binding → Bool
+is_held before after b = not (is_gone before after b.tag)
 
 -- the bindings without those of windows that are gone
-abbrev pub held : List tree.Window → Content → Content
-held windows c = record c { bindings = all_held windows c.bindings }
+abbrev pub held : List tree.Window → List tree.Window → Content → Content
+held before after c = record c { bindings = filter (is_held before after) c.bindings }
+
+-- the bindings but for those of the windows of some numbers, one window after the other
+abbrev pub without_those_of : List tree.Window → ℕ → Content → Content
+without_those_of windows number c = tree.on_window (tree.of_number windows number) c (λ w. without_tag w.path c)
+
+abbrev pub without_those_of_all : List tree.Window → List ℕ → Content → Content
+without_those_of_all windows [] c = c
+without_those_of_all windows (n ∷ ns) c = without_those_of_all windows ns (without_those_of windows n c)

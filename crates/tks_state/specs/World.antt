@@ -104,7 +104,7 @@ abbrev pub with_left : World → Windows → World
 with_left w x = record w {
   tree = x.tree;
   kept = x.kept;
-  bindings = held x.tree.windows w.bindings;
+  bindings = held w.tree.windows x.tree.windows w.bindings;
   queue = left_queue x.tree.windows w.queue;
   focus = left_focus x.tree.windows w.focus;
   pressed = left_pressed x.tree.windows w.pressed;

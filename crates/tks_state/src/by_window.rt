@@ -1,16 +1,16 @@
 //! A map from windows.
-ghost use Rattle.std.specs.Prelude.{◌≡◌, OnOk, OnErr};
+ghost use Rattle.std.specs.Prelude.{◌≡◌, IfOk, OnOk, OnErr};
 ghost use Rattle.std.specs.FinMap as map;
 
 use std::alloc::{AllocError, Global};
-use std::collections::BTreeMap;
+use std::collections::HashMap;
 use std::marker::Model;
 use tks_tree::WindowId;
 
 /// A finite map from windows, by their numbers.
 #[derive(Drop)]
 pub struct ByWindow<V> {
-    entries: BTreeMap<u64, V>,
+    entries: HashMap<u64, V>,
 }
 
 impl<V> Model for ByWindow<V> {
@@ -26,13 +26,13 @@ impl<V> Model for ByWindow<V> {
 }
 
 impl<V: Copy> ByWindow<V> {
-    /// The empty map.
-    pub fn new(alloc: Global) -> ByWindow<V>
-        ensures { result ≡ map.empty }
+    /// The empty map, with room for so many windows.
+    pub fn with_capacity(alloc: Global, capacity: usize) -> Result<ByWindow<V>, AllocError>
+        ensures { IfOk result (λ m. m ≡ map.empty) }
     {
-        ByWindow {
-            entries: BTreeMap::new(alloc),
-        }
+        Ok(ByWindow {
+            entries: HashMap::with_capacity(alloc, capacity)?,
+        })
     }
 
     /// What is known of a window.

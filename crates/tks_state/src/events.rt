@@ -4,7 +4,8 @@ ghost use Rattle.tks_bind.specs.Binding.{bound};
 ghost use Rattle.tks_bind.specs.Choosing.{chosen};
 ghost use Rattle.tks_bind.specs.History as history;
 ghost use Rattle.tks_bind.specs.VirtualEvents.{added, deleted, deleted_sequence};
-ghost use Rattle.tks_state.specs.Events.{max_faults, first_events, with_fault, is_held, held};
+ghost use Rattle.tks_state.specs.Events.{max_faults, first_events, with_fault, held, without_those_of, without_those_of_all};
+ghost use Rattle.tks_tree.specs.Windows.{without};
 ghost use Rattle.tks_state.specs.WellFormed.{WellFormedEvents};
 
 use crate::class_bindings::first_bindings;
@@ -14,8 +15,8 @@ use std::marker::Model;
 use tks_bind::{BindFault, Binding, Bindings, History, PhysicalSequence, Virtuals};
 use tks_event::{Event, Sequence, VirtualName};
 use tks_share::{Share, SharedList};
-use tks_text::{Txt, begins_dot};
-use tks_tree::Tree;
+use tks_text::Txt;
+use tks_tree::{Tree, WindowId};
 
 /// What scripts bound to events rest on. Copies share the parts that none of them has changed.
 pub struct Events {
@@ -169,12 +170,15 @@ impl Events {
         self.virtuals.event_delete_sequence(name, sequence)
     }
 
-    /// The same without the bindings of windows that are not there.
-    pub fn left(&self, tree: &Tree) -> Result<Events, AllocError>
-        ensures { IfOk result (λ x. x ≡ record self.now { bindings = held tree.now.windows self.now.bindings }) }
+    /// The same without the bindings of a window, and of those that stand in it.
+    pub fn left(&self, tree: &Tree, window: WindowId) -> Result<Events, AllocError>
+        ensures { IfOk result (λ x. x ≡ record self.now { bindings = held tree.now.windows (without tree.now window).windows self.now.bindings }) }
     {
+        // What holds of all windows is asked for here.
+        let _ = tree.len();
+        let gone = tree.within(window)?;
         let mut left = self.share()?;
-        hold(&mut left.bindings, tree)?;
+        drop_all(&mut left.bindings, tree, &gone)?;
         Ok(left)
     }
 
@@ -206,20 +210,23 @@ impl Share for Events {
     }
 }
 
-// Whether a binding stays: its tag is no path, or that of a window that is there.
-fn is_held(tree: &Tree, binding: &Binding) -> bool
-    ensures { result ≡ is_held tree.now.windows binding.now }
+// Takes away the bindings of a window, if it is there.
+fn drop_those_of(bindings: &mut Bindings, tree: &Tree, window: WindowId) -> Result<(), AllocError>
+    ensures { OnOk result (bindings.new ≡ without_those_of tree.now.windows window bindings.old) }
 {
-    !begins_dot(binding.tag.as_bytes()) || tree.find(&binding.tag).is_some()
+    let Some(window) = tree.window(window) else {
+        return Ok(());
+    };
+    bindings.drop_tag(window.path)?;
+    Ok(())
 }
 
-// Takes away the bindings of windows that are not there.
-fn hold(bindings: &mut Bindings, tree: &Tree) -> Result<(), AllocError>
-    ensures { OnOk result (bindings.new ≡ held tree.now.windows bindings.old) }
+// Takes away the bindings of windows.
+fn drop_all(bindings: &mut Bindings, tree: &Tree, windows: &[WindowId]) -> Result<(), AllocError>
+    ensures { OnOk result (bindings.new ≡ without_those_of_all tree.now.windows windows.now bindings.old) }
 {
-    bindings.retain(
-        |binding: &Binding| -> bool
-            ensures { result ≡ is_held tree.entry.now.windows binding.now }
-        { is_held(tree, binding) },
-    )
+    for window in windows {
+        drop_those_of(bindings, tree, *window)?;
+    }
+    Ok(())
 }

@@ -70,15 +70,10 @@ fn in_a_row(alloc: Global, kept: &SharedList<Kept>) -> Result<Vec<&Kept>, AllocE
 }
 
 // How large windows ask to be.
-fn sizes_of(
-    alloc: Global,
-    variables: &Vars,
-    kept: &SharedList<Kept>,
-) -> Result<ByWindow<Extent>, AllocError>
-    ensures { IfOk result (λ s. s ≡ sizes variables.now kept.now) }
+fn sizes_of(alloc: Global, variables: &Vars, row: &[&Kept]) -> Result<ByWindow<Extent>, AllocError>
+    ensures { IfOk result (λ s. s ≡ sizes variables.now (map (λ k. k.now) row.now)) }
 {
-    let row = in_a_row(alloc, kept)?;
-    let mut sizes = ByWindow::new(alloc);
+    let mut sizes = ByWindow::with_capacity(alloc, row.len())?;
     let mut left = row.len();
     while left > 0 {
         left -= 1;
@@ -192,16 +187,16 @@ fn grid_area(grid: Size) -> Area
 fn place_all(
     alloc: Global,
     variables: &Vars,
-    kept: &SharedList<Kept>,
+    row: &[&Kept],
     grid: Size,
 ) -> Result<ByWindow<Area>, AllocError>
     ensures inside { IfOk result (AllInside grid) }
-    ensures value { IfOk result (λ p. p ≡ placed_in variables.now kept.now grid) }
+    ensures value { IfOk result (λ p. p ≡ placed_in variables.now (map (λ k. k.now) row.now) grid) }
 {
-    let sizes = sizes_of(alloc, variables, kept)?;
-    let mut placed = ByWindow::new(alloc);
+    let sizes = sizes_of(alloc, variables, row)?;
+    let mut placed = ByWindow::with_capacity(alloc, row.len())?;
     placed.insert(WindowId::root(), grid_area(grid))?;
-    for one in kept.iter() {
+    for one in row {
         let area = placed.get(one.window);
         place_in(&mut placed, area, one, &sizes)?;
     }
@@ -267,15 +262,11 @@ fn add_asked(
 }
 
 // What the windows that show globals ask for.
-fn asked_by(
-    alloc: Global,
-    variables: &Vars,
-    kept: &SharedList<Kept>,
-) -> Result<Vec<Asked>, AllocError>
-    ensures { IfOk result (λ v. v.items ≡ asked_by variables.now kept.now) }
+fn asked_by(alloc: Global, variables: &Vars, row: &[&Kept]) -> Result<Vec<Asked>, AllocError>
+    ensures { IfOk result (λ v. v.items ≡ asked_by variables.now (map (λ k. k.now) row.now)) }
 {
     let mut asked = Vec::new(alloc);
-    for one in kept.iter() {
+    for one in row {
         add_asked(&mut asked, alloc, variables, one)?;
     }
     Ok(asked)
@@ -293,15 +284,18 @@ fn shown_again(alloc: Global, shown: &[Placed]) -> Result<Vec<Placed>, AllocErro
 }
 
 impl World {
-    // The windows that are shown, found anew.
-    fn found_windows(&self) -> Result<Vec<Placed>, AllocError>
-        ensures value { IfOk result (λ shown. shown.items ≡ shown_windows self.now) }
-        ensures inside { IfOk result (λ shown. AllShownOn self.now.grid shown.items) }
+    // Where the windows lie, found anew.
+    fn found(&self) -> Result<Laid, AllocError>
+        ensures shown { IfOk result (λ laid. laid.shown ≡ shown_windows self.now) }
+        ensures inside { IfOk result (λ laid. AllShownOn self.now.grid laid.shown) }
+        ensures asked { IfOk result (λ laid. laid.asked ≡ asked_by self.now.variables self.now.kept) }
     {
-        let placed = place_all(self.alloc(), self.variables(), self.all_kept(), self.grid())?;
+        let row = in_a_row(self.alloc(), self.all_kept())?;
+        let placed = place_all(self.alloc(), self.variables(), row.as_slice(), self.grid())?;
         let order = self.tree().preorder()?;
         let shown = shown_among(self.alloc(), &order, &placed)?;
-        Ok(shown)
+        let asked = asked_by(self.alloc(), self.variables(), row.as_slice())?;
+        Ok(Laid { shown, asked })
     }
 
     // Whether a window that shows a global asks for as much room as it did.
@@ -354,9 +348,8 @@ impl World {
             return Ok(());
         }
         self.stands();
-        let shown = self.found_windows()?;
-        let asked = asked_by(self.alloc(), self.variables(), self.all_kept())?;
-        self.keep_places(Laid { shown, asked })
+        let laid = self.found()?;
+        self.keep_places(laid)
     }
 
     /// The window that is seen in a cell of the grid: the last in drawing order that covers it.
@@ -367,8 +360,8 @@ impl World {
         if let Some(shown) = self.known_windows()? {
             return Ok(last_over(shown, column, row));
         }
-        let found = self.found_windows()?;
-        Ok(last_over(&found, column, row))
+        let found = self.found()?;
+        Ok(last_over(&found.shown, column, row))
     }
 
     /// The windows that are shown, with their cells on the grid, in the order in which they are drawn: `.`, and each
@@ -379,7 +372,10 @@ impl World {
     {
         match self.known_windows()? {
             Some(shown) => shown_again(self.alloc(), shown),
-            None => self.found_windows(),
+            None => {
+                let Laid { shown, asked: _ } = self.found()?;
+                Ok(shown)
+            }
         }
     }
 }

@@ -1,11 +1,10 @@
 //! The windows: the tree of their numbers, paths and classes, and what is kept of each.
-ghost use Rattle.std.specs.Prelude.{◌≡◌, true, option_map, if◌then◌else◌, Some, None, IfOk, IfSome, OnOk, OnErr, is_some, map};
+ghost use Rattle.std.specs.Prelude.{◌≡◌, true, option_map, if◌then◌else◌, Some, None, IfOk, IfSome, OnOk, OnErr, map};
 ghost use Rattle.tks_text.specs.Fault.{Gives};
-ghost use Rattle.tks_tree.specs.Windows.{of_number};
 ghost use Rattle.tks_tree.specs.Meets.{MakesSo};
 ghost use Rattle.tks_share.specs.Lists.{Rises};
 ghost use Rattle.tks_state.specs.Widget.{class_of};
-ghost use Rattle.tks_state.specs.Windows.{kept_of, replaced, with_widget_at, with_tags_at, called_at, called, packed_at, forgotten_at, propagating, still_there, first_windows, created, destroyed, changed, tagged, packed, unpacked, with_propagation};
+ghost use Rattle.tks_state.specs.Windows.{kept_of, replaced, with_widget_at, with_tags_at, called_at, called, packed_at, forgotten_at, propagating, first_windows, created, destroyed, changed, tagged, packed, unpacked, with_propagation};
 ghost use Rattle.tks_state.specs.Asking.{AsksSo, changed_at, changed_in};
 ghost use Rattle.tks_state.specs.EventLoop.{Stay};
 ghost use Rattle.tks_state.specs.WellFormed.{WellFormedWindows, mark_of};
@@ -23,7 +22,7 @@ use tks_button::Frame;
 use tks_opt::Said;
 use tks_share::{Share, Shared, SharedList};
 use tks_text::{ErrorNumber, Failure, ScriptFault, Seq, Txt};
-use tks_tree::{CreateFault, Tree, WindowId};
+use tks_tree::{CreateFault, Tree, WindowId, without_windows};
 
 /// The windows of a world. Copies share what none of them has changed.
 pub struct Windows {
@@ -228,18 +227,6 @@ fn set_propagates_at(
     Ok(())
 }
 
-// Keeps what is kept of windows that are there.
-fn keep_those_in(kept: &mut SharedList<Kept>, tree: &Tree) -> Result<(), AllocError>
-    ensures { OnOk result (kept.new ≡ still_there tree.now.windows kept.old) }
-{
-    kept.retain(
-        |one: &Kept| -> bool
-            ensures { result ≡ is_some (of_number tree.entry.now.windows one.now.window) }
-        { tree.window(one.window).is_some() },
-    )?;
-    Ok(())
-}
-
 impl Windows {
     /// `.` alone.
     pub fn first(alloc: Global) -> Result<Windows, AllocError>
@@ -317,9 +304,10 @@ impl Windows {
         let container = self.tree.parent(window);
         let mut tree = self.tree.share()?;
         tree.destroy(window)?;
+        let gone = self.tree.within(window)?;
         let mut kept = self.kept.share()?;
         forget_at(&mut kept, container, window)?;
-        keep_those_in(&mut kept, &tree)?;
+        let kept = without_windows(&kept, &gone)?;
         Ok(Windows {
             alloc: self.alloc,
             tree,

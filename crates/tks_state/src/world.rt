@@ -382,7 +382,7 @@ impl World {
     {
         let windows = self.windows.without(window)?;
         let tree = windows.tree();
-        let events = self.events.left(tree)?;
+        let events = self.events.left(self.windows.tree(), window)?;
         let event_loop = self.event_loop.left(tree)?;
         self.places = Places::unknown();
         self.windows = windows;

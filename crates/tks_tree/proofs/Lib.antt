@@ -6,7 +6,7 @@ pub mod Behind
 pub mod Within
 pub mod Leaving
 pub mod Preorders
-pub mod Families
+pub mod Links
 pub mod Once
 pub mod Parents
 pub mod Below

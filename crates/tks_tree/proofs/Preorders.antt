@@ -1,10 +1,9 @@
 -- The preorder, taken a window at a time.
-use Rattle.std.proofs.Common.{◌≡◌, ℕ, suc, ◌+◌, ◌<◌, ◌≤◌, Bool, true, false, cond, ◌||◌, List, [], ◌∷◌, ◌++◌, length, Option, Some, None, refl, sym, ap, subst, ◌∙◌, true≢false, append_assoc, arith, if◌then◌else◌}
-use Rattle.std.specs.Prelude.{◌==◌, reverse}
+use Rattle.std.proofs.Common.{◌≡◌, ℕ, ◌+◌, ◌≤◌, Bool, true, false, cond, ◌||◌, List, [], ◌∷◌, ◌++◌, Option, Some, None, refl, sym, ap, subst, ◌∙◌, true≢false, append_assoc, arith, if◌then◌else◌}
+use Rattle.std.specs.Prelude.{◌==◌}
 use Rattle.std.specs.List.{filter, flat_map}
 use Rattle.std.specs.Cmp.Lexicographic.{bytes_decides}
-use Rattle.std.proofs.lemmas.List.{append-nil, map-append, reverse-append, reverse-reverse}
-use Rattle.std.proofs.lemmas.Grind.{flat_map-append}
+use Rattle.std.proofs.lemmas.List.{append-nil, map-append}
 use Rattle.std.proofs.lemmas.Bool.{eqb-true, eq-eqb}
 use Rattle.tks_text.specs.Text.{same_text}
 use Rattle.tks_tree.specs.Path.{parent_of, is_text, is_child}
@@ -96,24 +95,3 @@ module _ (t : Windows) (w : WellFormed t) where
 
 pub goes_down : (t : Windows) → WellFormed t → GoesDown t
 goes_down t w = record { from_root = from_root t w; by_children = below_children t w }
-
--- a step of the walk: the last pending window goes to the order, and its children to the pending ones
-module _ (t : Windows) (w : WellFormed t) (before pending after more : List ℕ) (n : ℕ) (was : before ≡ pending ++ n ∷ []) (is : after ≡ pending ++ more) (children_are : more ≡ reverse (children t n)) where
-  abbrev from_all : List ℕ → List ℕ
-  from_all ns = flat_map (from_window t.windows) (reverse ns)
-
-  rest_after : from_all before ≡ n ∷ from_all after
-  rest_after =
-      ap from_all was ∙ ap (flat_map (from_window t.windows)) (reverse-append pending (n ∷ []))
-      ∙ ap (λ ns. n ∷ (ns ++ flat_map (from_window t.windows) (reverse pending))) (below_children t w n)
-      ∙ ap (λ ns. n ∷ ns) (sym (flat_map-append (from_window t.windows) (children t n) (reverse pending)))
-      ∙ ap (λ ns. n ∷ flat_map (from_window t.windows) (ns ++ reverse pending)) (sym (reverse-reverse (children t n)) ∙ ap reverse (sym children_are))
-      ∙ ap (λ ns. n ∷ flat_map (from_window t.windows) ns) (sym (reverse-append pending more))
-      ∙ ap (λ ns. n ∷ from_all ns) (sym is)
-
-  pub walked : (order longer : List ℕ) → longer ≡ order ++ n ∷ [] → order ++ flat_map (from_window t.windows) (reverse before) ≡ preorder t
-      → longer ++ flat_map (from_window t.windows) (reverse after) ≡ preorder t
-  walked order longer e h = ap (λ ns. ns ++ from_all after) e ∙ append_assoc order (n ∷ []) (from_all after) ∙ ap (λ ns. order ++ ns) (sym rest_after) ∙ h
-
-  pub shorter : length (flat_map (from_window t.windows) (reverse after)) < length (flat_map (from_window t.windows) (reverse before))
-  shorter = let e : length (from_all before) ≡ suc (length (from_all after)) = ap length rest_after in omega (arith, e)

@@ -1,6 +1,6 @@
 pub mod Path
 pub mod Windows
-pub mod Families
+pub mod Links
 pub mod WellFormed
 pub mod View
 pub mod Within

@@ -1,10 +1,11 @@
 //! The tree of windows, in the order in which they were made.
-ghost use Rattle.std.specs.Prelude.{◌≡◌, ◌↔◌, ◌≤◌, true, ◌==◌, ◌++◌, ℕ, Bool, Some, ◌<◌, not, position, length, reverse, slice_get, IfOk, IfSome, OnOk, OnErr, option_map};
+ghost use Rattle.std.specs.Prelude.{◌≡◌, ◌↔◌, ◌≤◌, true, ◌==◌, ◌++◌, ℕ, Bool, Some, ◌<◌, not, position, length, replicate, reverse, slice_get, IfOk, IfSome, OnOk, OnErr, option_map};
 ghost use Rattle.std.specs.List.{filter};
 ghost use Rattle.tks_tree.specs.Path.{parent_of, is_child};
 ghost use Rattle.tks_text.specs.Fault.{Gives};
-ghost use Rattle.tks_tree.specs.Windows.{max_number, first_windows, of_path, has_path, of_number, parent_found, free_path, created, may_skip, skipped, destroyed, resolved, number_at, parent, children, preorder, others_behind, Chooses};
-ghost use Rattle.tks_tree.specs.Families.{families, childless, with_child};
+ghost use Rattle.tks_tree.specs.Windows.{max_number, first_windows, of_path, has_path, of_number, parent_found, free_path, created, may_skip, skipped, destroyed, resolved, number_at, parent, numbers, children, preorder, others_behind, Chooses};
+ghost use Rattle.tks_tree.specs.Links.{parent_places, firsts_from, nexts_from, listed};
+ghost use Rattle.tks_text.specs.Text.{same_text};
 ghost use Rattle.tks_tree.specs.WellFormed.{is_widget_class, WellFormed};
 ghost use Rattle.tks_tree.specs.View.{window_seen, Indexes};
 ghost use Rattle.tks_tree.specs.Within.{is_one_of, AreThoseIn, front_within};
@@ -18,7 +19,7 @@ use crate::window::{Entry, Window, WindowId};
 use std::alloc::{AllocError, Global};
 use std::marker::Model;
 use tks_share::{Iter, Share, SharedList, SharedMap};
-use tks_text::{Class, ErrorNumber, Failure, MAX_NUMBER, ScriptFault, Seq, Txt};
+use tks_text::{Class, ErrorNumber, Failure, MAX_NUMBER, ScriptFault, Txt};
 
 /// The windows that there are, in the order in which they were made. There is always `.`, and each other
 /// window stands in one made before it. Copies share what they have in common, so to make one costs next to nothing.
@@ -40,6 +41,20 @@ impl Drop for Tree {
             next: _,
         } = self;
     }
+}
+
+// The windows by their places: their numbers, and the places of those that they stand in.
+#[derive(Drop)]
+struct Standing {
+    ids: Vec<WindowId>,
+    parents: Vec<Option<usize>>,
+}
+
+// For each window, by its place, that of the first one that stands right in it, and of the next one that stands where it does.
+#[derive(Drop)]
+struct Links {
+    first: Vec<Option<usize>>,
+    next: Vec<Option<usize>>,
 }
 
 impl Model for Tree {
@@ -289,60 +304,93 @@ impl Tree {
         Ok(ids)
     }
 
-    // The place of the window that one of this path stands in.
-    fn place_of_parent(&self, path: &Txt) -> Option<usize>
-        ensures { result ≡ position (λ w. is_child w.path path.now) self.now.windows }
+    // The place of the window of a path.
+    fn place_at(&self, path: &[u8]) -> Option<usize>
+        ensures { result ≡ position (λ w. same_text path.now w.path) self.now.windows }
     {
-        let parent = parent_of(path.as_bytes())?;
-        self.place_of(self.number_at(parent)?)
+        self.place_of(self.number_at(path)?)
     }
 
-    // An empty list for each window.
-    fn childless(&self) -> Result<Vec<Seq<WindowId>>, AllocError>
-        ensures { IfOk result (λ f. f.items ≡ childless self.now.windows) }
+    // The place of the window of a path, where that of another path's is known.
+    fn place_beside(&self, path: &[u8], known: &[u8], place: Option<usize>) -> Option<usize>
+        requires { place ≡ position (λ w. same_text known.now w.path) self.now.windows }
+        ensures { result ≡ position (λ w. same_text path.now w.path) self.now.windows }
     {
-        let mut lists = Vec::with_capacity(self.alloc, self.len())?;
-        for _window in self.windows.iter() {
-            lists.push(Seq::new(self.alloc))?;
+        if path == known {
+            place
+        } else {
+            self.place_at(path)
         }
-        Ok(lists)
     }
 
-    // The children of each window.
-    fn families(&self) -> Result<Vec<Seq<WindowId>>, AllocError>
-        ensures { IfOk result (λ f. f.items ≡ families self.now.windows) }
+    // The windows by their places. Windows that were made one after the other mostly stand in one, so that is looked up
+    // where it is another than the last.
+    fn standing(&self) -> Result<Standing, AllocError>
+        ensures ids { IfOk result (λ s. s.ids.items ≡ numbers self.now.windows) }
+        ensures parents { IfOk result (λ s. s.parents.items ≡ parent_places self.now.windows) }
     {
-        let mut lists = self.childless()?;
+        let mut ids = Vec::with_capacity(self.alloc, self.len())?;
+        let mut parents = Vec::with_capacity(self.alloc, self.len())?;
+        let mut path = ROOT;
+        let mut place = self.place_at(path);
         for window in self.windows.iter() {
-            add_child(&mut lists, self.place_of_parent(&window.path), window.id)?;
+            ids.push(window.id)?;
+            match parent_of(window.path.as_bytes()) {
+                None => parents.push(None)?,
+                Some(parent) => {
+                    place = self.place_beside(parent, path, place);
+                    path = parent;
+                    parents.push(place)?;
+                }
+            }
         }
-        Ok(lists)
+        Ok(Standing { ids, parents })
     }
 
-    // The children of a window, out of those of all.
-    fn family<'a>(&self, lists: &'a [Seq<WindowId>], id: WindowId) -> &'a [WindowId]
-        requires { lists.now ≡ families self.now.windows }
-        ensures { result.now ≡ children self.now id }
+    // The windows of a tree linked by their places. From the last one on, each is put before those that stand where it does.
+    fn links(&self, parents: &[Option<usize>]) -> Result<Links, AllocError>
+        requires { parents.now ≡ parent_places self.now.windows }
+        ensures first { IfOk result (λ l. l.first.items ≡ firsts_from self.now.windows self.now.windows 0) }
+        ensures next { IfOk result (λ l. l.next.items ≡ nexts_from self.now.windows 0) }
     {
-        match self.place_of(id) {
-            Some(place) => lists[place].as_slice(),
-            None => &[],
+        let mut first = no_places(self.alloc, parents.len())?;
+        let mut next = no_places(self.alloc, parents.len())?;
+        let mut left = parents.len();
+        while left > 0 {
+            left -= 1;
+            if let Some(parent) = parents[left] {
+                next[left] = first[parent];
+                first[parent] = Some(left);
+            }
         }
+        Ok(Links { first, next })
+    }
+
+    // The numbers in preorder, by the links of the windows' places.
+    fn walk(&self, ids: &[WindowId], links: &Links) -> Result<Vec<WindowId>, AllocError>
+        requires ids { ids.now ≡ numbers self.now.windows }
+        requires first { links.now.first.items ≡ firsts_from self.now.windows self.now.windows 0 }
+        requires next { links.now.next.items ≡ nexts_from self.now.windows 0 }
+        ensures { IfOk result (λ order. order.items ≡ preorder self.now) }
+    {
+        let mut order = Vec::with_capacity(self.alloc, ids.len())?;
+        let mut pending = Vec::new(self.alloc);
+        pending.push(0)?;
+        while let Some(place) = pending.pop() {
+            order.push(ids[place])?;
+            push_place(&mut pending, links.next[place])?;
+            push_place(&mut pending, links.first[place])?;
+        }
+        Ok(order)
     }
 
     /// All windows in preorder: each before those in it, siblings in the order in which they were made.
     pub fn preorder(&self) -> Result<Vec<WindowId>, AllocError>
         ensures { IfOk result (λ ids. ids.items ≡ preorder self.now) }
     {
-        let lists = self.families()?;
-        let mut order = Vec::new(self.alloc);
-        let mut pending = Vec::new(self.alloc);
-        pending.push(WindowId::root())?;
-        while let Some(id) = pending.pop() {
-            order.push(id)?;
-            push_reversed(&mut pending, self.family(&lists, id))?;
-        }
-        Ok(order)
+        let standing = self.standing()?;
+        let links = self.links(&standing.parents)?;
+        self.walk(&standing.ids, &links)
     }
 
     /// The next window in preorder, round the end, that the closure accepts, or this one where it accepts no
@@ -404,29 +452,20 @@ fn push_within(
     Ok(())
 }
 
-// Adds a window to the children of the one at a place, if any.
-fn add_child(
-    lists: &mut Vec<Seq<WindowId>>,
-    place: Option<usize>,
-    id: WindowId,
-) -> Result<(), AllocError>
-    requires { IfSome place (λ p. p < length lists.old.items) }
-    ensures { OnOk result (lists.new.items ≡ with_child lists.old.items place id) }
+// No place for each of so many windows.
+fn no_places(alloc: Global, count: usize) -> Result<Vec<Option<usize>>, AllocError>
+    ensures { IfOk result (λ places. places.items ≡ replicate count None) }
 {
-    if let Some(place) = place {
-        lists[place].push(id)?;
-    }
-    Ok(())
+    let places = vec![in alloc; None; count]?;
+    Ok(places)
 }
 
-// Adds numbers, the last one first.
-fn push_reversed(pending: &mut Vec<WindowId>, ids: &[WindowId]) -> Result<(), AllocError>
-    ensures { OnOk result (pending.new.items ≡ pending.old.items ++ reverse ids.now) }
+// Adds a place, if there is one.
+fn push_place(places: &mut Vec<usize>, place: Option<usize>) -> Result<(), AllocError>
+    ensures { OnOk result (places.new.items ≡ places.old.items ++ listed place) }
 {
-    let mut rest = ids;
-    while let Some((last, before)) = rest.split_last() {
-        pending.push(*last)?;
-        rest = before;
+    if let Some(place) = place {
+        places.push(place)?;
     }
     Ok(())
 }

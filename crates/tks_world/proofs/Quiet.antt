@@ -95,6 +95,12 @@ nothing_next w h =
     ∙ ap (λ o. timer_or_idle (option_map (λ (k : ℕ × ℕ). k.1) o) w) (none_due w.clock w.timers.timers h.timers)
     ∙ ap (λ idles. idle_or_none (first_idle idles) w) h.idles
 
+-- then no event waits, no script is due, and none waits for nothing else
+pub none_waits : (w : World) → next_thing w ≡ None → (w.queue ≡ []) × (due_at w.clock w.timers ≡ None) × (first_idle w.timers.idles ≡ None)
+none_waits w h =
+    let waits = none_next w h in
+    (waits.events, ap (option_map (λ (k : ℕ × ℕ). k.1)) (none_due w.clock w.timers.timers waits.timers), ap first_idle waits.idles)
+
 -- ---- what is done isn't quiet
 
 counts : (before : ℕ) (text : List ℕ) (setting : Setting) (variables : Variables) → counted before setting.world setting.memories 0 text variables ≡ Refuses Quiet → ⊥

@@ -1,5 +1,6 @@
 //! Which of the things that wait is done next, and what it wants done.
-ghost use Rattle.std.specs.Prelude.{◌≡◌, true, None, IfOk};
+ghost use Rattle.std.specs.Prelude.{◌≡◌, None, IfOk};
+ghost use Rattle.std.specs.Bool.{Decides};
 ghost use Rattle.tks_timer.specs.After.{due_at, first_idle};
 ghost use Rattle.tks_cmd.specs.Meets.{LimitsSo};
 ghost use Rattle.tks_world.specs.Hosting.{stripped};
@@ -27,7 +28,7 @@ pub enum Thing {
 
 /// Whether there is nothing to do.
 pub fn is_quiet(world: &World) -> bool
-    ensures { result ≡ true → next_thing (stripped world.now) ≡ None }
+    ensures { Decides result (next_thing (stripped world.now) ≡ None) }
 {
     world.queue().len() == 0
         && world.timers().due(world.clock()).is_none()

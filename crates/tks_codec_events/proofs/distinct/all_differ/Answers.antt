@@ -1,10 +1,15 @@
-use Rattle.std.proofs.Common.{sym, ap, ◌∙◌}
-use Rattle.tks_bind.specs.Distinct.{first_differs}
-use Rattle.tks_codec_events.proofs.Differing.{one_apart}
+use Rattle.tks_codec_events.specs.Keys.{has_key}
+use Rattle.tks_codec_events.proofs.Differing.{one_more, one_again}
 use Rattle.tks_codec_events.proofs.distinct.all_differ.Goals as goal
 
-pub loop-index-preserved : goal.loop-index-preserved
-loop-index-preserved g c =
-    let differs = g.T.Distinct.differs in
-    let first = ap (first_differs differs) (sym c.split_at.ensures.back) ∙ sym c.first_differs.ensures ∙ c.if-not-first_differs.false in
-    sym (one_apart differs c.args.items.now c.loop-index.index c.loop-index-test.true first) ∙ c.loop-index.invariant
+pub returns-then-not-branch : goal.returns-then-not-branch
+returns-then-not-branch g c =
+    let key = c.args.key.now in
+    one_again (g.K.Key.differ key) (g.K.Key.bytes key) (g.K.Key.IsTold key) c.requires (has_key c.loop-member.seen) c.args.members.now c.loop-member.member-index c.member-item.result c.loop-member-test.true c.member-item.is c.loop-member.invariant
+    c.in_ok-add_key.ensures.told c.in_ok-add_key.field-0 c.in_ok-add_key.ensures.is_new c.if-not-branch.true
+
+pub loop-member-preserved : goal.loop-member-preserved
+loop-member-preserved g c =
+    let key = c.args.key.now in
+    one_more (g.K.Key.differ key) (g.K.Key.bytes key) (g.K.Key.IsTold key) c.requires (has_key c.loop-member.seen) c.args.members.now c.loop-member.member-index c.member-item.result c.loop-member-test.true c.member-item.is c.loop-member.invariant
+    c.in_ok-add_key.ensures.told c.in_ok-add_key.field-0 (has_key c.add_key.new.seen) c.in_ok-add_key.ensures.is_new c.if-not-branch.false c.in_ok-add_key.ensures.kept

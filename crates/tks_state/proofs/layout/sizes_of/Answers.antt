@@ -10,13 +10,13 @@ use Rattle.tks_state.proofs.layout.sizes_of.Goals as goal
 pub loop-left-preserved : goal.loop-left-preserved
 loop-left-preserved c =
     let variables = c.args.variables.now in
-    let row = c.in_ok-row.row.items in
+    let row = c.args.row.now in
     let kept = map (λ k. k.now) row in
     let before = c.loop-left.left - 1 in
-    let one = c.index-one.result.now in
+    let one = c.index-row-left.result in
     let known = c.loop-left.sizes in
     let below : before < length row = omega (arith, c.loop-left.invariant.within, c.loop-left-test.true) in
-    let lent : slice_get row before ≡ Some one = slice_get-get_or row before one below ∙ ap Some (sym c.index-one.ensures) in
+    let lent : slice_get row before ≡ Some one = slice_get-get_or row before one below ∙ ap Some (sym c.index-row-left.is) in
     let there : slice_get kept before ≡ Some one.now = slice_get-map (λ k. k.now) row before ∙ ap (option_map (λ k. k.now)) lent in
     let last : suc before ≡ c.loop-left.left = omega (arith, c.loop-left-test.true) in
     record {

@@ -1,15 +1,24 @@
 use Rattle.std.proofs.Common.{◌≡◌, Ok, map, sym, ap, subst, ◌∙◌}
+use Rattle.std.specs.List.{filter}
+use Rattle.std.specs.Prelude.{not}
 use Rattle.tks_share.specs.Lists.{Rises}
 use Rattle.tks_tree.specs.Windows as tree
+use Rattle.tks_tree.specs.Within.{is_one_of}
 use Rattle.tks_tree.proofs.Parents.{destroyed_so}
-use Rattle.tks_state.specs.Windows.{forgotten_at, still_there}
+use Rattle.tks_state.specs.Windows.{forgotten_at, still_there, destroyed}
+use Rattle.tks_state.specs.declared.kept.Kept.{Kept}
 use Rattle.tks_state.specs.WellFormed.{InStep, AllPackChildren, mark_of}
-use Rattle.tks_state.proofs.Marks.{left_in_step}
-use Rattle.tks_state.proofs.Children.{kept_rises, left_packs}
+use Rattle.tks_state.proofs.Marks.{all_left, left_in_step, left_by_numbers}
+use Rattle.tks_state.proofs.Children.{kept_rise, kept_rises, left_packs}
 use Rattle.tks_state.proofs.windows.Windows.without.Goals as goal
 
 pub forget_at-requires : goal.forget_at-requires
 forget_at-requires c = subst (Rises (λ k. k.window) 0) (sym c.in_ok-kept.ensures) (kept_rises _ _ c.self.invariant)
+
+pub without_windows-requires : goal.without_windows-requires
+without_windows-requires c =
+    let t = c.self.inside.tree in
+    kept_rise 0 t.windows t.next c.forget_at.new.kept (c.in_ok-forget_at.ensures.marks ∙ ap (map mark_of) c.in_ok-kept.ensures ∙ c.self.invariant.in_step) c.self.invariant.windows.numbered
 
 pub invariant_of-result : goal.invariant_of-result
 invariant_of-result c =
@@ -20,11 +29,31 @@ invariant_of-result c =
     let container = c.parent-container.result in
     let shared = c.in_ok-kept.ensures in
     let gone : tree.destroyed t window ≡ Ok u = ap (λ x. tree.destroyed x window) (sym c.in_ok-tree.ensures) ∙ c.in_ok-destroy.ensures.value in
-    let left = c.in_ok-forget_at.ensures.value ∙ ap (λ ks. forgotten_at ks container window) shared ∙ ap (λ o. forgotten_at kept o window) c.parent-container.ensures in
+    let forgot = c.in_ok-forget_at.ensures.value ∙ ap (λ ks. forgotten_at ks container window) shared ∙ ap (λ o. forgotten_at kept o window) c.parent-container.ensures in
+    let in_step = c.in_ok-forget_at.ensures.marks ∙ ap (map mark_of) shared ∙ c.self.invariant.in_step in
+    let left : c.in_ok-kept-2.kept ≡ still_there u.windows c.forget_at.new.kept =
+    c.in_ok-kept-2.ensures ∙ ap (λ ns. filter (λ (k : Kept). not (is_one_of k.window ns)) c.forget_at.new.kept) c.deref.ensures.value
+    ∙ left_by_numbers t u window c.in_ok-gone.gone.items c.forget_at.new.kept c.self.invariant.windows.numbered gone c.in_ok-gone.ensures in_step in
     record {
       windows = (destroyed_so t u window c.self.invariant.windows gone).well;
-      in_step = subst (InStep u.windows) (sym c.in_ok-keep_those_in.ensures)
-          (left_in_step t u window c.forget_at.new.kept c.self.invariant.windows.numbered gone (c.in_ok-forget_at.ensures.marks ∙ ap (map mark_of) shared ∙ c.self.invariant.in_step));
-      packs = subst (AllPackChildren u) (sym (c.in_ok-keep_those_in.ensures ∙ ap (still_there u.windows) left))
-          (left_packs t u window kept c.self.invariant.windows gone c.self.invariant.in_step c.self.invariant.packs);
+      in_step = subst (InStep u.windows) (sym left) (left_in_step t u window c.forget_at.new.kept c.self.invariant.windows.numbered gone in_step);
+      packs = subst (AllPackChildren u) (sym (left ∙ ap (still_there u.windows) forgot)) (left_packs t u window kept c.self.invariant.windows gone c.self.invariant.in_step c.self.invariant.packs);
     }
+
+pub returns : goal.returns
+returns c =
+    let t = c.self.inside.tree in
+    let u = c.destroy.new.self in
+    let window = c.args.window in
+    let kept = c.self.inside.kept in
+    let container = c.parent-container.result in
+    let shared = c.in_ok-kept.ensures in
+    let gone : tree.destroyed t window ≡ Ok u = ap (λ x. tree.destroyed x window) (sym c.in_ok-tree.ensures) ∙ c.in_ok-destroy.ensures.value in
+    let forgot = c.in_ok-forget_at.ensures.value ∙ ap (λ ks. forgotten_at ks container window) shared ∙ ap (λ o. forgotten_at kept o window) c.parent-container.ensures in
+    let in_step = c.in_ok-forget_at.ensures.marks ∙ ap (map mark_of) shared ∙ c.self.invariant.in_step in
+    let left : c.in_ok-kept-2.kept ≡ still_there u.windows c.forget_at.new.kept =
+    c.in_ok-kept-2.ensures ∙ ap (λ ns. filter (λ (k : Kept). not (is_one_of k.window ns)) c.forget_at.new.kept) c.deref.ensures.value
+    ∙ left_by_numbers t u window c.in_ok-gone.gone.items c.forget_at.new.kept c.self.invariant.windows.numbered gone c.in_ok-gone.ensures in_step in
+    ap (λ x. destroyed x window) (sym c.self.view_is)
+    ∙ all_left (record { tree = t; kept = kept }) u window gone
+    ∙ ap (λ ks. Ok (record { tree = u; kept = ks })) (sym (left ∙ ap (still_there u.windows) forgot))

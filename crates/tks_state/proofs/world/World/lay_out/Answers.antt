@@ -1,5 +1,5 @@
-use Rattle.std.proofs.Common.{◌≡◌, subst, ◌∙◌}
-use Rattle.tks_state.specs.Laid.{asked_by, AllAsk}
+use Rattle.std.proofs.Common.{subst, ◌∙◌}
+use Rattle.tks_state.specs.Laid.{AllAsk}
 use Rattle.tks_state.specs.World.{windows_of}
 use Rattle.tks_state.proofs.Children.{kept_rises}
 use Rattle.tks_state.proofs.Unmoved.{shown_any}
@@ -8,10 +8,9 @@ use Rattle.tks_state.proofs.world.World.lay_out.Goals as goal
 pub keep_places-requires : goal.keep_places-requires
 keep_places-requires c =
     let w = c.args.self.now in
-    let asked : c.in_ok-asked.asked.items ≡ asked_by w.variables w.kept = c.in_ok-asked.ensures ∙ (λ i. asked_by (c.variables.ensures i) (c.all_kept.ensures i)) in
     record {
       always = λ variables asks.
-          c.in_ok-shown.ensures.value
-          ∙ shown_any w.variables variables (windows_of w) w.grid (kept_rises w.tree w.kept c.stands.ensures.windows) (subst (AllAsk variables w.kept) asked asks);
-      inside = c.in_ok-shown.ensures.inside;
+          c.in_ok-laid.ensures.shown
+          ∙ shown_any w.variables variables (windows_of w) w.grid (kept_rises w.tree w.kept c.stands.ensures.windows) (subst (AllAsk variables w.kept) c.in_ok-laid.ensures.asked asks);
+      inside = c.in_ok-laid.ensures.inside;
     }

@@ -14,7 +14,7 @@ returns-in-Some-clause-inside c =
 pub returns-clause-inside : goal.returns-clause-inside
 returns-clause-inside c =
     let g = c.args.self.now.grid in
-    let found = c.in_ok-found.found.items in
+    let found = c.in_ok-found.found.shown in
     let seen : c.last_over-2.result ≡ last_over found c.args.column c.args.row = search rules in
     let inside : AllShownOn g found = search rules in
     subst (λ o. IfSome o (IsShownOn g)) (sym seen) (last_inside g found c.args.column c.args.row inside)
