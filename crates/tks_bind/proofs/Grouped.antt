@@ -1,6 +1,6 @@
 -- Bindings by their tags and endings, where one is set or taken out.
 use Rattle.std.specs.List.{filter, list_all}
-use Rattle.std.proofs.Common.{◌≡◌, ℕ, zero, suc, ◌+◌, ◌==◌, Bool, true, false, cond, ◌&&◌, not, if◌then◌else◌, List, [], ◌∷◌, ◌++◌, take, slice_get, Option, Some, None, arith, refl, sym, ap, subst, ◌∙◌}
+use Rattle.std.proofs.Common.{◌≡◌, ℕ, zero, suc, ◌+◌, ◌==◌, Bool, true, false, cond, ◌&&◌, not, if◌then◌else◌, List, [], ◌∷◌, take, slice_get, Option, Some, None, arith, refl, sym, ap, subst, ◌∙◌}
 use Rattle.std.proofs.lemmas.Bool.{and_from}
 use Rattle.std.specs.Cmp.Lexicographic.{bytes_decides}
 use Rattle.std.specs.FinMap as map
@@ -18,7 +18,6 @@ use Rattle.tks_bind.specs.Binding.{is_for, placed, without}
 use Rattle.tks_bind.specs.Endings.{Key, same_ending, ending_of, is_found_by, is_under}
 use Rattle.tks_bind.specs.Groups.{group_of, Groups}
 use Rattle.tks_bind.proofs.Grouping.{no_groups}
-use Rattle.tks_bind.proofs.Members.{all_at}
 
 -- what is of a tag and a sequence is found as these are
 pub found_alike : (t : List ℕ) (e : Key) (tag : List ℕ) (q : List Pattern) (c : Binding) → is_for tag q c ≡ true → is_under t e c ≡ is_found_by t e tag q

@@ -9,7 +9,15 @@ use Rattle.tks_bind.proofs.Naming.{stands, none_there, placed_set}
 use Rattle.tks_bind.proofs.VirtualForming.{pushed_apart, replaced_apart, found_legal, legal_first, legal_more}
 use Rattle.tks_bind.proofs.Virtually.{added_new, added_same, added_more, found_inside, sequences_none, sequences_found}
 use Rattle.tks_bind.proofs.Sequences.{leads_added}
+use Rattle.tks_bind.proofs.virtuals.Virtuals.add.Goals.{In-Some}
 use Rattle.tks_bind.proofs.virtuals.Virtuals.add.Goals as goal
+
+-- where the event of the name stands, and that it is the one
+place_so : (c : In-Some) → c.index_of-index.result ≡ index_of c.args.name.now c.self.inside.events
+place_so c = c.index_of-index.ensures ∙ ap (index_of c.args.name.now) (sym c.self.view_is)
+
+found_so : (c : In-Some) → found c.args.name.now c.self.inside.events ≡ Some c.in-Some.event.now
+found_so c = sym (stands c.args.name.now c.self.inside.events) ∙ ap (slice_get c.self.inside.events) (sym (place_so c)) ∙ sym c.get.ensures ∙ ap option_copied c.in-Some.is
 
 pub with-requires : goal.with-requires
 with-requires c = c.self.invariant.names.below
@@ -35,23 +43,22 @@ invariant_of-self-2 c =
     let vs = c.self.inside.events in
     let v = c.in-Some.event.now in
     let q = c.args.sequence.now in
-    let at = c.index_of-index.ensures ∙ ap (index_of c.args.name.now) (sym c.self.view_is) in
-    let there : found c.args.name.now vs ≡ Some v = sym (stands c.args.name.now vs) ∙ ap (slice_get vs) (sym at) ∙ sym c.get.ensures ∙ ap option_copied c.in-Some.is in
+    let here = (goal.at.invariant_of-self-2 c).In-Some in
     let lacks : has_sequence q v.sequences ≡ false = search rules in
     let name : c.in_ok-try_clone.field-0 ≡ v.name = search rules in
     let more : c.in_ok-with_one_more.field-0 ≡ v.sequences ++ q ∷ [] = search rules in
-    let old = found_legal c.args.name.now v vs there c.self.invariant.events in
+    let old = found_legal c.args.name.now v vs (found_so here) c.self.invariant.events in
     let legal = legal_more v q old lacks c.requires.physical in
     let new : VirtualEvent = record { name = v.name; sequences = v.sequences ++ q ∷ [] } in
-    let all = replaced_apart c.args.name.now v new vs there refl legal c.self.invariant.events in
+    let all = replaced_apart c.args.name.now v new vs (found_so here) refl legal c.self.invariant.events in
     let joins : Gains c.args.name.now (q ∷ []) c.self.inside.groups c.in_ok-groups-2.groups = rw (← c.from_ref-2.ensures.value) c.in_ok-groups-2.ensures in
-    let lacking : has_sequence q (sequences_of c.args.name.now vs) ≡ false = ap (has_sequence q) (sequences_found c.args.name.now v vs there) ∙ lacks in
+    let lacking : has_sequence q (sequences_of c.args.name.now vs) ≡ false = ap (has_sequence q) (sequences_found c.args.name.now v vs (found_so here)) ∙ lacks in
     let leads = leads_added c.args.name.now c.self.inside.groups c.in_ok-groups-2.groups vs q lacking c.self.invariant.groups joins in
-    let set : c.set.new.self ≡ slice_set vs (index_of c.args.name.now vs) new = rw (c.in_ok-set.ensures.ok, name, more, at) refl in
+    let set : c.set.new.self ≡ slice_set vs (index_of c.args.name.now vs) new = rw (c.in_ok-set.ensures.ok, name, more, (place_so here)) refl in
     rw set (record {
       events = all;
-      groups = subst (Leads c.in_ok-groups-2.groups) (sym (added_more c.args.name.now q v vs there lacks)) leads;
-      names = placed_set c.self.inside.names vs c.self.invariant.names c.args.name.now v new there refl;
+      groups = subst (Leads c.in_ok-groups-2.groups) (sym (added_more c.args.name.now q v vs (found_so here) lacks)) leads;
+      names = placed_set c.self.inside.names vs c.self.invariant.names c.args.name.now v new (found_so here) refl;
     })
 
 pub returns-in_default-clause-ok : goal.returns-in_default-clause-ok
@@ -69,32 +76,29 @@ returns-then-has_sequence-clause-ok c =
     let vs = c.self.inside.events in
     let name = c.args.name.now in
     let q = c.args.sequence.now in
-    let at = c.index_of-index.ensures ∙ ap (index_of name) (sym c.self.view_is) in
+    let here = (goal.at.returns-then-has_sequence-clause-ok c).In-Some in
     let v = c.in-Some.event.now in
-    let there : found name vs ≡ Some v = sym (stands name vs) ∙ ap (slice_get vs) (sym at) ∙ sym c.get.ensures ∙ ap option_copied c.in-Some.is in
     let has : has_sequence q v.sequences ≡ true = search rules in
-    sym c.self.view_is ∙ added_same name q v vs there has ∙ ap (added name q) c.self.view_is
+    sym c.self.view_is ∙ added_same name q v vs (found_so here) has ∙ ap (added name q) c.self.view_is
 
 pub set-requires : goal.set-requires
 set-requires c =
     let vs = c.self.inside.events in
     let name = c.args.name.now in
-    let at = c.index_of-index.ensures ∙ ap (index_of name) (sym c.self.view_is) in
+    let here = (goal.at.set-requires c).In-Some in
     let v = c.in-Some.event.now in
-    let there : found name vs ≡ Some v = sym (stands name vs) ∙ ap (slice_get vs) (sym at) ∙ sym c.get.ensures ∙ ap option_copied c.in-Some.is in
-    subst (λ i. i < length vs) (sym at) (found_inside name v vs there)
+    subst (λ i. i < length vs) (sym (place_so here)) (found_inside name v vs (found_so here))
 
 pub returns-clause-ok : goal.returns-clause-ok
 returns-clause-ok c =
     let vs = c.self.inside.events in
     let name = c.args.name.now in
     let q = c.args.sequence.now in
-    let at = c.index_of-index.ensures ∙ ap (index_of name) (sym c.self.view_is) in
+    let here = (goal.at.returns-clause-ok c).In-Some in
     let v = c.in-Some.event.now in
-    let there : found name vs ≡ Some v = sym (stands name vs) ∙ ap (slice_get vs) (sym at) ∙ sym c.get.ensures ∙ ap option_copied c.in-Some.is in
     let lacks : has_sequence q v.sequences ≡ false = search rules in
     let same : c.in_ok-try_clone.field-0 ≡ v.name = search rules in
     let more : c.in_ok-with_one_more.field-0 ≡ v.sequences ++ q ∷ [] = search rules in
     let new : VirtualEvent = record { name = v.name; sequences = v.sequences ++ q ∷ [] } in
-    let set : c.set.new.self ≡ slice_set vs (index_of name vs) new = rw (c.in_ok-set.ensures.ok, same, more, at) refl in
-    set ∙ added_more name q v vs there lacks ∙ ap (added name q) c.self.view_is
+    let set : c.set.new.self ≡ slice_set vs (index_of name vs) new = rw (c.in_ok-set.ensures.ok, same, more, (place_so here)) refl in
+    set ∙ added_more name q v vs (found_so here) lacks ∙ ap (added name q) c.self.view_is

@@ -3,6 +3,7 @@ use Rattle.std.proofs.Math.ListN.{drop_of_length-le}
 use Rattle.tks_tree.specs.WellFormed.{WellFormed}
 use Rattle.tks_tree.specs.Links.{firsts_from}
 use Rattle.tks_tree.proofs.Links.{nexts_known, none_known, none_first, as_many_parents, as_many_firsts, parent_inside, as_before, none_beside, now_first, now_beside}
+use Rattle.tks_tree.proofs.tree.Tree.links.Goals.{In-Some}
 use Rattle.tks_tree.proofs.tree.Tree.links.Goals as goal
 
 pub loop-left-init : goal.loop-left-init
@@ -17,31 +18,23 @@ loop-left-init c =
       within = omega (arith, as_many);
     }
 
-pub index-requires : goal.index-requires
-index-requires c =
-    let t = c.args.self.now in
-    let ws = t.windows in
+-- a parent is one of the windows
+parent_stands : (c : In-Some) → c.in-Some.parent < length c.loop-left.first.items
+parent_stands c =
+    let ws = c.args.self.now.windows in
     let left = c.loop-left.left in
     let k = left - 1 in
     let below : k < length ws = omega (arith, c.loop-left.invariant.within, c.loop-left-test.true) in
     let some : get_or c.args.parents.now k None ≡ Some c.in-Some.parent = search rules in
     let there =
     parent_inside ws (subst WellFormed c.self.view_is c.self.invariant.0).founded k below (get_or c.args.parents.now k None) None (ap (λ l. get_or l k None) c.requires) c.in-Some.parent some in
-    let as_many : length c.loop-left.first.items ≡ length ws = ap length c.loop-left.invariant.first ∙ as_many_firsts ws (drop left ws) left in
-    omega (arith, there, as_many, c.loop-left.first.ok.0)
+    omega (arith, there, ap length c.loop-left.invariant.first ∙ as_many_firsts ws (drop left ws) left)
+
+pub index-requires : goal.index-requires
+index-requires c = omega (arith, parent_stands (goal.at.index-requires c).In-Some, c.loop-left.first.ok.0)
 
 pub index_mut-requires-in-Some : goal.index_mut-requires-in-Some
-index_mut-requires-in-Some c =
-    let t = c.args.self.now in
-    let ws = t.windows in
-    let left = c.loop-left.left in
-    let k = left - 1 in
-    let below : k < length ws = omega (arith, c.loop-left.invariant.within, c.loop-left-test.true) in
-    let some : get_or c.args.parents.now k None ≡ Some c.in-Some.parent = search rules in
-    let there =
-    parent_inside ws (subst WellFormed c.self.view_is c.self.invariant.0).founded k below (get_or c.args.parents.now k None) None (ap (λ l. get_or l k None) c.requires) c.in-Some.parent some in
-    let as_many : length c.loop-left.first.items ≡ length ws = ap length c.loop-left.invariant.first ∙ as_many_firsts ws (drop left ws) left in
-    omega (arith, there, as_many, c.loop-left.first.ok.0)
+index_mut-requires-in-Some c = omega (arith, parent_stands (goal.at.index_mut-requires-in-Some c).In-Some, c.loop-left.first.ok.0)
 
 pub loop-left-preserved-in-Some : goal.loop-left-preserved-in-Some
 loop-left-preserved-in-Some c =
