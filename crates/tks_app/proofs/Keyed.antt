@@ -8,6 +8,7 @@ use Rattle.std.specs.Map.{keys_of, values_of, lookup}
 use Rattle.std.proofs.lemmas.Map.Entries.{length-keys_of}
 use Rattle.indexmap.specs.IndexMap.{IndexMap, insert_entry, move_index, keys, index_map_len}
 use Rattle.tks_text.specs.Text.{same_text}
+use Rattle.tks_text.proofs.Texts.{same_either_way}
 use Rattle.tks_app.specs.Applications.{Command, command_names, has, place_for, in_place}
 use Rattle.tks_app.proofs.Joining.{put_in_place}
 
@@ -15,19 +16,10 @@ use Rattle.tks_app.proofs.Joining.{put_in_place}
 pub keys_length : {X S : Type 0} (m : IndexMap (List ℕ) X S) → length (keys m) ≡ index_map_len m
 keys_length m = length-keys_of m.entries
 
-turned : (a b : List ℕ) → same_text a b ≡ same_text b a
-turned a b = by (same_text a b) (same_text b a) refl refl
-  where
-    by : (u v : Bool) → same_text a b ≡ u → same_text b a ≡ v → u ≡ v
-    by true true s t = refl
-    by false false s t = refl
-    by true false s t = absurd (true≢false (sym ((bytes_decides b a).1 (sym ((bytes_decides a b).0 s))) ∙ t))
-    by false true s t = absurd (true≢false (sym ((bytes_decides a b).1 (sym ((bytes_decides b a).0 t))) ∙ s))
-
 -- a name is found where it is one of theirs
 pub found_there : {X : Type 0} (name : List ℕ) (es : List (List ℕ × X)) → is_some (lookup (same_text name) es) ≡ has (keys_of es) name
 found_there name [] = refl
-found_there name (e ∷ es) = by (same_text name e.0) (same_text e.0 name) (turned name e.0) (found_there name es)
+found_there name (e ∷ es) = by (same_text name e.0) (same_text e.0 name) (same_either_way name e.0) (found_there name es)
   where
     by : (u v : Bool) → u ≡ v → is_some (lookup (same_text name) es) ≡ has (keys_of es) name → is_some (cond u (Some e.1) (lookup (same_text name) es)) ≡ (v || has (keys_of es) name)
     by true true s rest = refl

@@ -10,3 +10,4 @@ pub mod Told
 pub mod Faults
 pub mod Drops
 pub mod Fronts
+pub mod Readied

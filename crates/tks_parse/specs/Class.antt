@@ -40,10 +40,14 @@ abbrev pub ends_word_at : Place → List ℕ → Bool
 ends_word_at place [] = true
 ends_word_at place (c ∷ u) = ends_word place c || is_fold c u
 
+-- what ends a command
+abbrev pub ends_command : Place → ℕ → Bool
+ends_command place c = is_separator c || ends_script place c
+
 -- a command may end before this text
 abbrev pub ends_command_at : Place → List ℕ → Bool
 ends_command_at place [] = true
-ends_command_at place (c ∷ u) = is_separator c || ends_script place c
+ends_command_at place (c ∷ u) = ends_command place c
 
 -- the parts of a word, or of an index, end before c and u
 abbrev pub ends_parts : Mode → ℕ → List ℕ → Bool

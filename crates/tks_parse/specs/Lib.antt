@@ -7,3 +7,4 @@ pub mod Braces
 pub mod Reading
 pub mod Script
 pub mod Gives
+pub mod Ready

@@ -9,6 +9,7 @@ mod fault;
 mod laws;
 mod mode;
 mod reading;
+mod ready;
 mod remaining;
 mod remaining_script;
 mod syntax;

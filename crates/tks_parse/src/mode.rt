@@ -1,6 +1,6 @@
 //! Where in a script a word stands, and what ends it there.
 ghost use Rattle.std.specs.Prelude.{◌≡◌};
-ghost use Rattle.tks_parse.specs.Class.{ends_script, ends_word, ends_word_at, ends_parts};
+ghost use Rattle.tks_parse.specs.Class.{ends_script, ends_command, ends_word, ends_word_at, ends_parts};
 ghost use Rattle.tks_parse.specs.Fault.{syntax_of};
 
 use crate::class::{is_fold, is_separator};
@@ -25,6 +25,13 @@ impl Place {
             Place::Alone => false,
             Place::Brackets => c == b']',
         }
+    }
+
+    /// Whether a command ends before this character.
+    pub fn ends_command(self, c: u8) -> bool
+        ensures { result ≡ ends_command self c }
+    {
+        is_separator(c) || self.ends_script(c)
     }
 
     /// Whether a bare word ends before this character.

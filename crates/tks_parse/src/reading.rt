@@ -14,6 +14,7 @@ use crate::class::{braced_name_len, is_fold, is_separator, name_len};
 use crate::commands::{Found, add_command};
 use crate::fault::fault;
 use crate::mode::{Mode, Place};
+use crate::ready::{is_ready, read_ready};
 use crate::syntax::Syntax;
 use crate::tree::{Command, Part, Parts, Script, Word};
 use crate::words::{add_word, end_word, is_expanded};
@@ -339,6 +340,10 @@ fn read_words(
     ensures gives { GivesRun run_of_command result (words_at (nest depth) (index depth) place text.now) }
     ensures bound { IfOk result (λ x. x.1 ≤ length text.now) }
 {
+    if is_ready(place, text) {
+        let ready = read_ready(alloc, text, place)?;
+        return Ok(ready);
+    }
     let mut words = Vec::new(alloc);
     let mut taken = 0;
     let mut rest = text;

@@ -179,15 +179,22 @@ fn ready(alloc: Global, words: &[Word]) -> Result<Option<Vec<Txt>>, AllocError>
 }
 
 impl Command {
+    /// The command of words that stand for themselves.
+    pub(crate) fn ready(alloc: Global, texts: Vec<Txt>) -> Result<Command, AllocError>
+        ensures { IfOk result (λ c. words_of_command c ≡ ready_words texts.items) }
+    {
+        match Rc::new(alloc, texts) {
+            Ok(texts) => Ok(Command::Ready(texts)),
+            Err(_) => Err(AllocError),
+        }
+    }
+
     /// The command of these words.
     pub(crate) fn new(alloc: Global, words: Vec<Word>) -> Result<Command, AllocError>
         ensures { IfOk result (λ c. words_of_command c ≡ words_of words.items) }
     {
         match ready(alloc, words.as_slice())? {
-            Some(texts) => match Rc::new(alloc, texts) {
-                Ok(texts) => Ok(Command::Ready(texts)),
-                Err(_) => Err(AllocError),
-            },
+            Some(texts) => Command::ready(alloc, texts),
             None => match Rc::new(alloc, words) {
                 Ok(words) => Ok(Command::Made(words)),
                 Err(_) => Err(AllocError),

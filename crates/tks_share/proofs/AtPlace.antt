@@ -1,7 +1,7 @@
 -- Places in a list, on either side of an item and at it.
-use Rattle.std.proofs.Common.{◌≡◌, ℕ, zero, suc, ◌+◌, ◌-◌, ◌<◌, ◌≤◌, ◌==◌, Bool, true, false, cond, not, List, [], ◌∷◌, ◌++◌, length, Option, Some, None, refl, sym, ap, ◌∙◌, arith, length-append}
+use Rattle.std.proofs.Common.{◌≡◌, ℕ, zero, suc, ◌+◌, ◌-◌, ◌<◌, ◌≤◌, ◌==◌, Bool, true, false, cond, if◌then◌else◌, not, List, [], ◌∷◌, ◌++◌, length, Option, Some, None, refl, sym, ap, ◌∙◌, arith, length-append}
 use Rattle.std.specs.Prelude.{slice_get, slice_set, drop}
-use Rattle.std.specs.List.{filter, position, position_from, insert, remove}
+use Rattle.std.specs.List.{AllByRecursion, filter, position, position_from, insert, remove}
 use Rattle.std.specs.Option.{option_map}
 use Rattle.std.proofs.Math.Nat.{min-eq_left}
 use Rattle.std.proofs.Math.Seq.{set-append_seam}
@@ -11,7 +11,9 @@ use Rattle.std.proofs.lemmas.List.{set-append_left, set-append_right}
 use Rattle.std.proofs.lemmas.List.Edits.{insert-append_left, insert-append_right, remove-append_left, remove-append_right}
 use Rattle.std.proofs.lemmas.Iterator.Adapters.{position_from-zero}
 use Rattle.tks_share.specs.Tree.{counted}
-use Rattle.tks_share.specs.Lists.{Fits, Rises}
+use Rattle.tks_share.specs.Lists.{Fits, Rises, IsParted, leading}
+use Rattle.tks_share.specs.Parts.{Follows}
+use Rattle.tks_share.specs.declared.places.Part.{Part}
 
 module _ {X : Type 0} where
   pub whole : (xs : List X) → Fits xs → counted xs ≡ length xs
@@ -42,6 +44,19 @@ module _ {X : Type 0} where
   get_right [] m i h = ap (slice_get m) (omega arith)
   get_right (x ∷ l) m zero h = absurd (omega (arith, h))
   get_right (x ∷ l) m (suc i) h = get_right l m i (omega (arith, h)) ∙ ap (slice_get m) (omega arith)
+
+-- a part that follows a list
+module _ {X : Type 0} (p : Part X) (i : ℕ) (xs : List X) (follows : Follows p i xs) where
+  -- has at its place what stands at the index
+  pub next_of : 0 < p.left → slice_get p.tree.now p.place ≡ slice_get xs i
+  next_of more = ap (slice_get p.tree.now) (omega arith) ∙ follows.alike 0 more ∙ ap (slice_get xs) (omega arith)
+
+  -- and follows it one item further on
+  pub part_goes_on : Follows (record { tree = p.tree; place = p.place + 1; left = p.left - 1 }) (i + 1) xs
+  part_goes_on = record {
+    fits = follows.fits;
+    alike = λ k within. ap (slice_get p.tree.now) (omega arith) ∙ follows.alike (suc k) (omega (arith, within)) ∙ ap (slice_get xs) (omega arith);
+  }
 
 module _ {X : Type 0} (l : List X) (x : X) (r es : List X) (is : es ≡ l ++ x ∷ r) (fits : Fits es) where
   all : length es ≡ length l + (1 + length r)
@@ -287,3 +302,35 @@ module _ {X : Type 0} (p : X → Bool) where
         kept xs now small e many =
             let fewer : Fits now = omega (arith, small, no_more xs, ap length e) in
             all_pass xs (sym (ap length e) ∙ sym (whole now fewer) ∙ many ∙ whole xs small)
+
+-- where a test parts a list
+module _ {X : Type 0} (p : X → Bool) where
+  none_pass : (l : List X) (x : X) (r : List X) → AllByRecursion (λ y. p y ≡ false) (l ++ x ∷ r) → p x ≡ false
+  none_pass [] x r h = h.0
+  none_pass (y ∷ l) x r h = none_pass l x r h.1
+
+  pub parted_left : (l : List X) (x : X) (r : List X) → IsParted p (l ++ x ∷ r) → IsParted p l
+  parted_left [] x r h = tt
+  parted_left (y ∷ l) x r h = (λ fails. none_left l (x ∷ r) (h.0 fails), parted_left l x r h.1)
+    where
+      none_left : (l m : List X) → AllByRecursion (λ y. p y ≡ false) (l ++ m) → AllByRecursion (λ y. p y ≡ false) l
+      none_left [] m n = tt
+      none_left (z ∷ l) m n = (n.0, none_left l m n.1)
+
+  pub parted_right : (l : List X) (x : X) (r : List X) → IsParted p (l ++ x ∷ r) → IsParted p r
+  parted_right [] x r h = h.1
+  parted_right (y ∷ l) x r h = parted_right l x r h.1
+
+  -- an item that fails ends those that pass
+  pub leading_left : (l : List X) (x : X) (r : List X) → p x ≡ false → leading p (l ++ x ∷ r) ≡ leading p l
+  leading_left [] x r fails = rw fails refl
+  leading_left (y ∷ l) x r fails = ap (λ n. if p y then suc n else 0) (leading_left l x r fails)
+
+  -- before one that passes all do
+  pub leading_right : (l : List X) (x : X) (r : List X) → IsParted p (l ++ x ∷ r) → p x ≡ true → leading p (l ++ x ∷ r) ≡ length l + 1 + leading p r
+  leading_right [] x r h passes = rw passes (omega arith)
+  leading_right (y ∷ l) x r h passes = by (p y) refl (leading_right l x r h.1 passes)
+    where
+      by : (b : Bool) → p y ≡ b → leading p (l ++ x ∷ r) ≡ length l + 1 + leading p r → (if b then suc (leading p (l ++ x ∷ r)) else 0) ≡ suc (length l) + 1 + leading p r
+      by true e rest = omega (arith, rest)
+      by false e rest = absurd (let never : false ≡ true = sym (none_pass l x r (h.0 e)) ∙ passes in cc)

@@ -5,3 +5,4 @@ pub mod Falls
 pub mod Lending
 pub mod Maps
 pub mod Lists
+pub mod Parts

@@ -1,5 +1,6 @@
 -- Lists of items, as contracts see them.
-use Rattle.std.specs.Prelude.{◌≡◌, ⊤, ℕ, ◌+◌, ◌^◌, ◌<◌, ◌≤◌, Bool, List, [], ◌∷◌, length, slice_get, slice_set, Some}
+use Rattle.std.specs.Prelude.{◌≡◌, ⊤, ℕ, suc, ◌+◌, ◌^◌, ◌<◌, ◌≤◌, Bool, false, if◌then◌else◌, List, [], ◌∷◌, length, slice_get, slice_set, Some}
+use Rattle.std.specs.List.{AllByRecursion}
 use Rattle.std.specs.Borrow.{Bor}
 
 -- no list or map that is kept is longer
@@ -10,6 +11,16 @@ Fits xs = length xs < 2 ^ 32
 abbrev pub Rises : {X : Type 0} → (X → ℕ) → ℕ → List X → Type 0
 Rises number low [] = ⊤
 Rises number low (x ∷ xs) = (low ≤ number x) × Rises number (number x + 1) xs
+
+-- behind an item that fails a test all fail it
+abbrev pub IsParted : {X : Type 0} → (X → Bool) → List X → Type 0
+IsParted p [] = ⊤
+IsParted p (x ∷ xs) = (p x ≡ false → AllByRecursion (λ y. p y ≡ false) xs) × IsParted p xs
+
+-- how many at the front pass it
+abbrev pub leading : {X : Type 0} → (X → Bool) → List X → ℕ
+leading p [] = 0
+leading p (x ∷ xs) = if p x then suc (leading p xs) else 0
 
 -- what is said of each item is this of it
 abbrev pub Says : {X : Type 0} → (Bor X → Bool → Type 0) → (X → Bool) → Type 0

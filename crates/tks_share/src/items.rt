@@ -2,7 +2,7 @@
 ghost use Rattle.std.specs.Iterator.{YieldsFirstRef, item_count};
 ghost use Rattle.tks_share.specs.Lists.{Fits};
 
-use crate::places;
+use crate::places::{self, Part};
 use crate::shared::Shared;
 use crate::tree::Tree;
 use std::marker::Model;
@@ -12,6 +12,8 @@ use std::marker::Model;
 pub struct Items<'a, T> {
     tree: &'a Tree<Shared<T>>,
     next: usize,
+    // A part with the next ones, so that few forks are gone through for each.
+    part: Part<'a, Shared<T>>,
 }
 
 impl<'a, T> Model for Items<'a, T> {
@@ -25,27 +27,42 @@ impl<'a, T> Model for Items<'a, T> {
 
     ghost view = { λ i. drop i.next i.tree.now };
 
-    ghost invariant = { λ i. Fits i.tree.now };
+    ghost use Rattle.tks_share.specs.Parts.{Follows};
+
+    ghost invariant = { λ i. Fits i.tree.now × Follows i.part i.next i.tree.now };
 }
 
 impl<'a, T: Drop> Items<'a, T> {
-    ghost use Rattle.std.specs.Prelude.{◌≡◌};
+    ghost use Rattle.std.specs.Prelude.{◌≡◌, drop};
 
     // The items of a tree.
     pub(crate) fn of(tree: &'a Tree<Shared<T>>) -> Items<'a, T>
         requires { Fits tree.now }
         ensures { result ≡ tree.now }
     {
-        Items { tree, next: 0 }
+        Items::from_index(tree, 0)
     }
 
     /// The same, from here on once more.
     pub fn again(&self) -> Items<'a, T>
         ensures { result ≡ self.now }
     {
+        Items::from_index(self.tree, self.next)
+    }
+
+    // The items of a tree from an index on.
+    fn from_index(tree: &'a Tree<Shared<T>>, next: usize) -> Items<'a, T>
+        requires { Fits tree.now }
+        ensures { result ≡ drop next tree.now }
+    {
         Items {
-            tree: self.tree,
-            next: self.next,
+            tree,
+            next,
+            part: Part {
+                tree,
+                place: 0,
+                left: 0,
+            },
         }
     }
 }
@@ -58,8 +75,12 @@ impl<'a, T: Drop> Iterator for Items<'a, T> {
     ghost remaining = { item_count (λ i. i) };
 
     fn next(&mut self) -> Option<&'a T> {
-        let Some(item) = places::at(self.tree, self.next) else {
-            return None;
+        let part = places::part_with(&self.part, self.tree, self.next)?;
+        let item = places::at(part.tree, part.place)?;
+        self.part = Part {
+            tree: part.tree,
+            place: part.place + 1,
+            left: part.left - 1,
         };
         self.next += 1;
         Some(item.get())

@@ -1,7 +1,7 @@
 //! Lists by their places, whose copies share what they have in common.
 ghost use Rattle.std.specs.Prelude.{◌≡◌, ◌++◌, [], ◌∷◌, ◌==◌, ◌<◌, ◌≤◌, not, Bool, Some, length, slice_get, slice_set, position, None, IfOk, IfSome, IfNone, OnOk, OnErr, option_copied};
 ghost use Rattle.std.specs.List.{filter, insert, remove};
-ghost use Rattle.tks_share.specs.Lists.{Fits, Rises, Says};
+ghost use Rattle.tks_share.specs.Lists.{Fits, Rises, Says, IsParted, leading};
 
 use crate::change::Change;
 use crate::copied::Copied;
@@ -162,6 +162,16 @@ impl<T: Drop> SharedList<T> {
     {
         *self = self.kept(keep)?;
         Ok(())
+    }
+
+    /// How many at the front a closure accepts, which accepts none behind one that it doesn't accept: the index from which
+    /// on it accepts none.
+    pub fn partition_point<F: Fn(&T) -> bool>(&self, accepts: F) -> usize
+        requires { F.IsAlwaysCallable accepts }
+        ensures place { (p : T → Bool) → Says (F.post accepts) p → IsParted p self.now → result ≡ leading p self.now }
+        ensures within { result ≤ length self.now }
+    {
+        places::partition_point(&self.tree, &accepts)
     }
 
     /// The items in order.

@@ -1,7 +1,8 @@
 //! Items by their places, in a tree.
-ghost use Rattle.std.specs.Prelude.{◌≡◌, ◌∷◌, ◌++◌, ◌==◌, ◌<◌, ◌≤◌, ℕ, Bool, length, slice_get, slice_set, position, None, IfOk, IfSome, IfNone, OnOk, OnErr, option_copied};
+ghost use Rattle.std.specs.Prelude.{◌≡◌, ◌+◌, ◌∷◌, ◌++◌, ◌==◌, ◌<◌, ◌≤◌, ℕ, Bool, length, slice_get, slice_set, position, None, IfOk, IfSome, IfNone, OnOk, OnErr, option_copied};
 ghost use Rattle.std.specs.List.{filter, insert, remove};
-ghost use Rattle.tks_share.specs.Lists.{Fits, Rises, Says, IsChangedAt};
+ghost use Rattle.tks_share.specs.Lists.{Fits, Rises, Says, IsParted, leading, IsChangedAt};
+ghost use Rattle.tks_share.specs.Parts.{Follows};
 
 use crate::change::Change;
 use crate::copied::Copied;
@@ -30,6 +31,72 @@ pub(crate) fn at<E>(tree: &Tree<E>, index: usize) -> Option<&E>
             }
         }
     }
+}
+
+/// A part of a tree, and the place in it of an item of the tree, from which on so many follow as in the tree.
+#[derive(Drop)]
+pub(crate) struct Part<'a, E> {
+    pub(crate) tree: &'a Tree<E>,
+    pub(crate) place: usize,
+    pub(crate) left: usize,
+}
+
+/// How many items a part has that is gone over as one.
+const FEW: usize = 16;
+
+// A part that has the item at an index: with few others, if the item isn't the root of many.
+fn part_at<E>(tree: &Tree<E>, index: usize) -> Option<Part<'_, E>>
+    ensures some { IfSome result (λ p. Fits tree.now → Follows p index tree.now × (0 < p.left) × (index + p.left ≤ length tree.now)) }
+    ensures none { IfNone result (Fits tree.now → slice_get tree.now index ≡ None) }
+{
+    let Some(root) = &tree.root else {
+        return None;
+    };
+    let fork = root.as_ref();
+    let count = fork.count;
+    if count <= FEW {
+        if index < count {
+            return Some(Part {
+                tree,
+                place: index,
+                left: count - index,
+            });
+        }
+        return None;
+    }
+    let place = fork.left.count();
+    if index < place {
+        part_at(&fork.left, index)
+    } else if index == place {
+        Some(Part {
+            tree,
+            place,
+            left: 1,
+        })
+    } else {
+        part_at(&fork.right, index - place - 1)
+    }
+}
+
+/// The same part where it has the item at an index, else another that has, if there is one.
+pub(crate) fn part_with<'a, E>(
+    part: &Part<'a, E>,
+    tree: &'a Tree<E>,
+    index: usize,
+) -> Option<Part<'a, E>>
+    requires fits { Fits tree.now }
+    requires follows { Follows part.now index tree.now }
+    ensures some { IfSome result (λ p. Follows p index tree.now × (0 < p.left)) }
+    ensures none { IfNone result (slice_get tree.now index ≡ None) }
+{
+    if part.left == 0 {
+        return part_at(tree, index);
+    }
+    Some(Part {
+        tree: part.tree,
+        place: part.place,
+        left: part.left,
+    })
 }
 
 /// Puts an item into the place of the one at an index.
@@ -264,4 +331,25 @@ pub(crate) fn place_of<T: Numbered>(tree: &Tree<Shared<T>>, number: u64) -> Opti
             }
         }
     }
+}
+
+/// How many at the front a closure accepts, which accepts none behind one that it doesn't accept.
+pub(crate) fn partition_point<T: Drop, F: Fn(&T) -> bool>(
+    tree: &Tree<Shared<T>>,
+    accepts: &F,
+) -> usize
+    requires fits { Fits tree.now }
+    requires callable { F.IsAlwaysCallable accepts.now }
+    ensures place { (p : T → Bool) → Says (F.post accepts.now) p → IsParted p tree.now → result ≡ leading p tree.now }
+    ensures within { result ≤ length tree.now }
+{
+    let Some(root) = &tree.root else {
+        return 0;
+    };
+    let fork = root.as_ref();
+    if !accepts(fork.item.get()) {
+        return partition_point(&fork.left, accepts);
+    }
+    let behind = partition_point(&fork.right, accepts);
+    fork.left.count() + 1 + behind
 }

@@ -1,5 +1,5 @@
 -- What moves no window.
-use Rattle.std.proofs.Common.{◌≡◌, ℕ, ◌+◌, ◌≤◌, Bool, true, false, if◌then◌else◌, List, [], ◌∷◌, ◌++◌, append_assoc, Option, Some, None, refl, sym, ap, subst, ◌∙◌, arith}
+use Rattle.std.proofs.Common.{◌≡◌, ℕ, ◌+◌, ◌≤◌, Bool, true, false, if◌then◌else◌, List, [], ◌∷◌, ◌++◌, append_assoc, Option, Some, None, Result, Ok, Err, refl, sym, ap, subst, ◌∙◌, arith}
 use Rattle.std.specs.Prelude.{◌==◌, IfSome, is_some, length, option_map, option_and_then}
 use Rattle.std.proofs.lemmas.Bool.{eq-eqb}
 use Rattle.std.proofs.lemmas.Option.{same_Some}
@@ -13,7 +13,10 @@ use Rattle.tks_share.specs.Lists.{Rises}
 use Rattle.tks_tree.specs.Windows.{preorder}
 use Rattle.tks_vars.specs.Variables.{Variables}
 use Rattle.tks_state.specs.ByWindow.{ByWindow}
+use Rattle.tks_opt.specs.Options as options
 use Rattle.tks_opt.specs.Options.{value_in}
+use Rattle.tks_opt.specs.declared.said.Said.{Said}
+use Rattle.tks_text.specs.declared.fault.ScriptFault.{ScriptFault}
 use Rattle.tks_opt.specs.Values.{number_within}
 use Rattle.tks_opt.specs.Table.{max_size}
 use Rattle.tks_opt.specs.declared.name.OptionName.TheVariants as name
@@ -24,9 +27,9 @@ use Rattle.tks_state.specs.Links.{some_name, global_if, or_empty, link_of, with_
 use Rattle.tks_state.specs.Widget as widgets
 use Rattle.tks_state.specs.Widget.{options_of}
 use Rattle.tks_state.specs.declared.widget.Widget.TheVariants as widget
-use Rattle.tks_state.specs.Windows.{Windows, kept_of, on_kept, replaced, with_widget, with_tags, changed, tagged}
+use Rattle.tks_state.specs.Windows.{Windows, kept_of, on_kept, replaced, with_widget, with_tags, changed, tagged, done}
 use Rattle.tks_state.specs.Layout.{size_in, or_own, with_size, sizes_before, sizes, with_contents_of, placed_after, grid_area, shown_of}
-use Rattle.tks_state.specs.Laid.{shown_in, asks_of, asked_by, AllAsk, Laid, StandSo, ArePlaces}
+use Rattle.tks_state.specs.Laid.{shown_in, asks_of, asked_by, AllAsk, Laid, StandSo, ArePlaces, AsksAlone, AreSame}
 use Rattle.tks_state.specs.declared.laid.Asked.{Asked}
 use Rattle.tks_state.specs.declared.kept.Kept.{Kept}
 use Rattle.tks_state.specs.declared.widget.Widget.{Widget}
@@ -209,6 +212,52 @@ widget_stays x g n w old (Some laid) asks all = by (kept_of x.kept n) refl asks.
     by : (o : Option Kept) → kept_of x.kept n ≡ o → IfSome o (λ k. AsksAs k.widget w) → StandSo (record x { kept = on_kept o x.kept (λ k. replaced n (with_widget k w) x.kept) }) g laid
     by None e asks = same
     by (Some k) e asks = stands_still n k (with_widget k w) (record { window = refl; packing = refl; asks = asks }) x g laid e same
+
+-- a window that is changed is found with its new widget
+found_changed : (n : ℕ) (k : Kept) (w : Widget) (ks : List Kept) → kept_of ks n ≡ Some k → kept_of (replaced n (with_widget k w) ks) n ≡ Some (with_widget k w)
+found_changed n k w [] h = absurd cc
+found_changed n k w (m ∷ ks) h = by (m.window == n) refl h (found_changed n k w ks)
+  where
+    by : (b : Bool) → (m.window == n) ≡ b → (if b then Some m else kept_of ks n) ≡ Some k → (kept_of ks n ≡ Some k → kept_of (replaced n (with_widget k w) ks) n ≡ Some (with_widget k w))
+        → kept_of (if b then with_widget k w ∷ ks else m ∷ replaced n (with_widget k w) ks) n ≡ Some (with_widget k w)
+    by true e there rest = ap (λ b. if b then Some (with_widget k w) else kept_of ks n) (subst (λ (j : Kept). (j.window == n) ≡ true) (same_Some m k there) e)
+    by false e there rest = rw e (rest there)
+
+-- a change after which a window asks for the same room, and shows no global, moves none
+pub change_stays : (x y : Windows) (g : grid.Extent) (n : ℕ) (does : Widget → Result (Said × Widget) ScriptFault) (said : Said) (size : Extent) (places : Option Laid)
+    → done x n does ≡ Ok (said, y) → AsksAlone x n size → AsksAlone y n size → ArePlaces x g places → ArePlaces y g places
+change_stays x y g n does said size places is before after all = by (does k.widget) (rw before.there at is)
+  where
+    k : Kept
+    k = before.kept
+
+    still : (w : Widget) → AsksAs k.widget w → (o : Option Laid) → ArePlaces x g o → ArePlaces (record x { kept = replaced n (with_widget k w) x.kept }) g o
+    still w asks None stands = tt
+    still w asks (Some laid) stands = stands_still n k (with_widget k w) (record { window = refl; packing = refl; asks = asks }) x g laid before.there stands
+
+    asks_same : (w : Widget) → record x { kept = replaced n (with_widget k w) x.kept } ≡ y → AsksAs k.widget w
+    asks_same w same variables =
+        let there : kept_of (replaced n (with_widget k w) x.kept) n ≡ Some after.kept = ap (λ (z : Windows). kept_of z.kept n) same ∙ after.there in
+        let it : after.kept ≡ with_widget k w = same_Some after.kept (with_widget k w) (sym there ∙ found_changed n k w x.kept before.there) in
+        asks_alone variables variables k.widget w before.alone (ap (λ (j : Kept). link_of j.widget) (sym it) ∙ after.alone)
+        (before.asks ∙ sym (ap (λ (j : Kept). widgets.requested j.widget) (sym it) ∙ after.asks))
+
+    by : (r : Result (Said × Widget) ScriptFault)
+        → options.after {X = Said × List Kept} {Y = Said × Windows} (options.after {X = Said × Widget} {Y = Said × List Kept} r (λ a. Ok (a.0, replaced n (with_widget k a.1) x.kept))) (λ a. Ok (a.0, record x { kept = a.1 })) ≡ Ok (said, y)
+        → ArePlaces y g places
+    by (Err fault) e = absurd cc
+    by (Ok (s, w)) e =
+        let same : record x { kept = replaced n (with_widget k w) x.kept } ≡ y = ap (λ (a : Result (Said × Windows) ScriptFault). elim a as (λ _. Windows) [ Ok z ↦ z.1 | Err f ↦ y ]) e in
+        subst (λ z. ArePlaces z g places) same (still w (asks_same w same) places all)
+
+pub rooms_same : (x y : Windows) (n : ℕ) (o p : Option Extent) → AreSame o p → IfSome o (AsksAlone x n) → IfSome p (AsksAlone y n) → (size : Extent) × AsksAlone x n size × AsksAlone y n size
+rooms_same x y n (Some e) (Some f) same before after = (e, before, subst (AsksAlone y n) (sym same) after)
+rooms_same x y n None p same before after = absurd same
+rooms_same x y n (Some e) None same before after = absurd same
+
+pub kept_if_stays : (y : Windows) (g : grid.Extent) (b : Bool) (places : Option Laid) → (b ≡ true → ArePlaces y g places) → ArePlaces y g (if b then places else None)
+kept_if_stays y g true places stays = stays refl
+kept_if_stays y g false places stays = tt
 
 -- other tags
 pub tags_stay : (x : Windows) (g : grid.Extent) (n : ℕ) (tags : Option (List (List ℕ))) (places : Option Laid) → ArePlaces x g places → ArePlaces (tagged x n tags) g places

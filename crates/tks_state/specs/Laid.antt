@@ -1,11 +1,12 @@
 -- What is known of where the windows lie while nothing changes that may move one (this project's own rule).
-use Rattle.std.specs.Prelude.{◌≡◌, ℕ, if◌then◌else◌, is_some, List, [], ◌∷◌, Option, Some, IfSome, option_map}
+use Rattle.std.specs.Prelude.{◌≡◌, ℕ, if◌then◌else◌, is_some, List, [], ◌∷◌, Option, Some, None, IfSome, option_map}
 use Rattle.std.specs.List.{AllByRecursion}
 use Rattle.tks_text.specs.Size as grid
 use Rattle.tks_pack.specs.declared.area.Extent.{Extent}
 use Rattle.tks_tree.specs.Windows.{preorder}
 use Rattle.tks_vars.specs.Variables.{Variables}
 use Rattle.tks_state.specs.Links.{link_of, requested}
+use Rattle.tks_state.specs.Widget as widgets
 use Rattle.tks_state.specs.Windows.{Windows, kept_of}
 use Rattle.tks_state.specs.Layout.{placed_in, shown_of, AllShownOn}
 use Rattle.tks_state.specs.declared.kept.Kept.{Kept}
@@ -40,3 +41,15 @@ pub record StandSo (x : Windows) (g : grid.Extent) (laid : Laid) : Type 0 where
 
 abbrev pub ArePlaces : Windows → grid.Extent → Option Laid → Type 0
 ArePlaces x g places = IfSome places (StandSo x g)
+
+-- the widget of a window shows no global, and asks for so much room
+pub record AsksAlone (x : Windows) (number : ℕ) (size : Extent) : Type 0 where
+  pub kept : Kept
+  pub there : kept_of x.kept number ≡ Some kept
+  pub alone : link_of kept.widget ≡ None
+  pub asks : widgets.requested kept.widget ≡ size
+
+-- there are two extents, and they are the same
+abbrev pub AreSame : Option Extent → Option Extent → Type 0
+AreSame (Some first) (Some second) = first ≡ second
+AreSame first second = ⊥

@@ -1,5 +1,5 @@
 //! Where the windows lie, kept until something changes that may move one.
-ghost use Rattle.std.specs.Prelude.{◌≡◌, None, Some, IfOk, IfSome, option_map};
+ghost use Rattle.std.specs.Prelude.{◌≡◌, if◌then◌else◌, None, Some, IfOk, IfSome, option_map};
 ghost use Rattle.tks_state.specs.Links.{AsksAs};
 
 use crate::kept::Kept;
@@ -79,6 +79,13 @@ impl Places {
             Some(laid) => Some(laid.get()),
             None => None,
         }
+    }
+
+    /// The same where they stay, else nothing.
+    pub fn kept_if(self, stays: bool) -> Places
+        ensures { result ≡ (if stays then self else None) }
+    {
+        if stays { self } else { Places::unknown() }
     }
 
     /// What is still known where a window becomes another widget: all where that asks for as much room, else nothing.

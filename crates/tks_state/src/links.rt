@@ -2,6 +2,7 @@
 ghost use Rattle.std.specs.Prelude.{◌≡◌, true, is_some, IfOk, option_map};
 ghost use Rattle.tks_opt.specs.Options.{Options, value_in};
 ghost use Rattle.tks_state.specs.Widget.{class_of, options_of};
+ghost use Rattle.tks_state.specs.Laid.{AreSame};
 ghost use Rattle.tks_state.specs.Links.{AsksAs, assigned, first_assigned, global_if, is_on, link_of, linked, or_empty, requested, seen, shown, switch_value, text_of, with_text};
 
 use crate::widget::Widget;
@@ -38,6 +39,16 @@ pub(crate) fn are_same(first: Extent, second: Extent) -> bool
     ensures { result ≡ true → first ≡ second }
 {
     first.width == second.width && first.height == second.height
+}
+
+/// Whether there are two extents, and they are the same.
+pub(crate) fn are_same_if_any(first: Option<Extent>, second: Option<Extent>) -> bool
+    ensures { result ≡ true → AreSame first second }
+{
+    match (first, second) {
+        (Some(first), Some(second)) => are_same(first, second),
+        _ => false,
+    }
 }
 
 impl Widget {

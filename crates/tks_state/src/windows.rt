@@ -7,6 +7,7 @@ ghost use Rattle.tks_state.specs.Widget.{class_of};
 ghost use Rattle.tks_state.specs.Windows.{kept_of, replaced, with_widget_at, with_tags_at, called_at, called, packed_at, forgotten_at, propagating, first_windows, created, destroyed, changed, tagged, packed, unpacked, with_propagation};
 ghost use Rattle.tks_state.specs.Asking.{AsksSo, changed_at, changed_in};
 ghost use Rattle.tks_state.specs.EventLoop.{Stay};
+ghost use Rattle.tks_state.specs.Laid.{AsksAlone};
 ghost use Rattle.tks_state.specs.WellFormed.{WellFormedWindows, mark_of};
 ghost use Rattle.tks_tree.specs.WellFormed.{is_widget_class};
 ghost use Rattle.tks_state.specs.Restoring.{are_windows};
@@ -20,6 +21,7 @@ use std::alloc::{AllocError, Global};
 use std::marker::Model;
 use tks_button::Frame;
 use tks_opt::Said;
+use tks_pack::Extent;
 use tks_share::{Share, Shared, SharedList};
 use tks_text::{ErrorNumber, Failure, ScriptFault, Seq, Txt};
 use tks_tree::{CreateFault, Tree, WindowId, without_windows};
@@ -332,6 +334,18 @@ impl Windows {
         ensures { AsksSo (changed_in self.now window) result (called self.now window words.now) self.now }
     {
         ask_at(self.alloc, &self.kept, window, words)
+    }
+
+    /// How much room the widget of a window asks for, where it shows no global.
+    pub(crate) fn asked_alone(&self, window: WindowId) -> Option<Extent>
+        ensures { IfSome result (AsksAlone self.now window) }
+    {
+        let kept = self.get(window)?;
+        let widget = kept.widget.get();
+        if widget.is_linked() {
+            return None;
+        }
+        Some(widget.requested())
     }
 
     /// Makes a change of the widget of a window. Where no window has the number, nothing is done.

@@ -23,6 +23,7 @@ use crate::event_loop::{EventLoop, is_there, left_pressed};
 use crate::events::Events;
 use crate::kept::Kept;
 use crate::laid::{Laid, Places};
+use crate::links::are_same_if_any;
 use crate::restoring::{EventParts, LoopParts, WindowParts, WorldParts, kept_of_parts};
 use crate::rules::Rules;
 use crate::widget::Widget;
@@ -412,8 +413,11 @@ impl World {
         match self.windows.ask(window, words) {
             Ok(Asked::Said(said)) => Ok(said),
             Ok(Asked::Changes(change)) => {
-                self.places = Places::unknown();
+                let places = mem::replace(&mut self.places, Places::unknown());
+                let before = self.windows.asked_alone(window);
                 let said = self.windows.change(window, change)?;
+                let stays = are_same_if_any(before, self.windows.asked_alone(window));
+                self.places = places.kept_if(stays);
                 Ok(said)
             }
             Err(failure) => Err(failure),

@@ -1,9 +1,10 @@
--- Texts by the place of the first byte that stands in none, and texts one after the other.
-use Rattle.std.proofs.Common.{zero, suc, take, drop, ◌≡◌, ℕ, ◌+◌, ◌≤◌, Bool, true, false, cond, ltb, List, [], ◌∷◌, ◌++◌, length, Option, Some, None, refl, arith}
+-- Texts by the place of the first byte that stands in none, texts one after the other, and texts that are the same.
+use Rattle.std.proofs.Common.{zero, suc, take, drop, ◌≡◌, ℕ, ◌+◌, ◌≤◌, Bool, true, false, cond, ltb, List, [], ◌∷◌, ◌++◌, length, Option, Some, None, refl, sym, ◌∙◌, true≢false, arith}
 use Rattle.std.specs.List.{list_all, position, position_or_len, prefix_len}
 use Rattle.std.specs.Prelude.{not, ◌&&◌}
+use Rattle.std.specs.Cmp.Lexicographic.{bytes_decides}
 use Rattle.std.proofs.lemmas.Bool.{ltb-false, and_from}
-use Rattle.tks_text.specs.Text.{is_text_byte, is_text, IsText}
+use Rattle.tks_text.specs.Text.{is_text_byte, is_text, IsText, same_text}
 
 abbrev pub is_bad : ℕ → Bool
 is_bad b = not (is_text_byte b)
@@ -72,3 +73,13 @@ text_append_take n xs ys h k = text_append xs (take n ys) h (text_take n ys k)
 
 pub text_append_drop : (n : ℕ) (xs ys : List ℕ) → IsText xs → IsText ys → IsText (xs ++ drop n ys)
 text_append_drop n xs ys h k = text_append xs (drop n ys) h (text_drop n ys k)
+
+-- whichever of the two is asked about
+pub same_either_way : (a b : List ℕ) → same_text a b ≡ same_text b a
+same_either_way a b = by (same_text a b) (same_text b a) refl refl
+  where
+    by : (u v : Bool) → same_text a b ≡ u → same_text b a ≡ v → u ≡ v
+    by true true s t = refl
+    by false false s t = refl
+    by true false s t = absurd (true≢false (sym ((bytes_decides b a).1 (sym ((bytes_decides a b).0 s))) ∙ t))
+    by false true s t = absurd (true≢false (sym ((bytes_decides a b).1 (sym ((bytes_decides b a).0 t))) ∙ s))

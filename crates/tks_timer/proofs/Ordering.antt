@@ -1,10 +1,9 @@
 -- Turns in order: where one stands, and what a turn that comes in or goes out leaves.
-use Rattle.std.proofs.Common.{◌≡◌, ◌<◌, ◌≤◌, ◌+◌, ℕ, zero, suc, Bool, true, false, cond, List, [], ◌∷◌, ◌++◌, length, Option, Some, None, refl, ap, sym, ◌∙◌, arith, true≢false, get_or}
-use Rattle.std.specs.Prelude.{slice_get, option_map, nat_lt, nat_le, ◌==◌, not}
+use Rattle.std.proofs.Common.{◌≡◌, ◌<◌, ◌+◌, ℕ, zero, suc, Bool, true, false, cond, List, [], ◌∷◌, ◌++◌, length, Option, Some, None, refl, ap, sym, ◌∙◌, arith, true≢false}
+use Rattle.std.specs.Prelude.{option_map, nat_lt, nat_le, ◌==◌, not}
 use Rattle.std.specs.List.{AllByRecursion, insert, remove, filter, find}
 use Rattle.std.proofs.lemmas.Bool.Decides.{nat_tests}
-use Rattle.std.proofs.lemmas.Option.{slice_get-get_or}
-use Rattle.tks_share.specs.Lists.{Rises}
+use Rattle.tks_share.specs.Lists.{Rises, IsParted}
 use Rattle.tks_timer.specs.declared.entry.Timer.{Timer}
 use Rattle.tks_timer.specs.After.{Content, is_sooner, soonest, first_due, due_at}
 use Rattle.tks_timer.specs.Order.{AreInTurn, place, put, in_turn, due_front}
@@ -27,60 +26,12 @@ same_turn a b h k = λ i. (first i, second i)
     second : a.1 ≡ b.1
     second = grind (arith, nat_tests)
 
--- sooner than a turn is whatever is no later than one that is sooner
-sooner_yet : (a b c : ℕ × ℕ) → is_sooner b a ≡ false → is_sooner b c ≡ true → is_sooner a c ≡ true
-sooner_yet a b c h k = grind (arith, nat_tests)
-
 -- ---- where a turn stands
 
 some_is : {X : Type 0} (a b : X) → Some a ≡ Some b → a ≡ b
 some_is a b p = cc
 
 module _ (turn : ℕ × ℕ) where
-  pub place_within : (ts : List (ℕ × ℕ)) → place turn ts ≤ length ts
-  place_within [] = omega arith
-  place_within (t ∷ ts) = by (is_sooner t turn) (place_within ts)
-    where
-      by : (b : Bool) → place turn ts ≤ length ts → cond b (suc (place turn ts)) 0 ≤ length (t ∷ ts)
-      by true le = omega (arith, le)
-      by false le = omega arith
-
-  -- behind whatever is sooner
-  behind_it : (ts : List (ℕ × ℕ)) (i : ℕ) (t : ℕ × ℕ) → AreInTurn ts → slice_get ts i ≡ Some t → is_sooner t turn ≡ true → i < place turn ts
-  behind_it [] i t h is so = cc
-  behind_it (u ∷ ts) zero t h is so =
-      let e : is_sooner u turn ≡ true = ap (λ v. is_sooner v turn) (some_is u t is) ∙ so in
-      rw e (omega arith)
-  behind_it (u ∷ ts) (suc i) t h is so =
-      let e : is_sooner u turn ≡ true = sooner_yet u t turn (at ts i h.0 is) so in
-      let rest : i < place turn ts = behind_it ts i t h.1 is so in
-      rw e (omega (arith, rest))
-    where
-      at : (vs : List (ℕ × ℕ)) (j : ℕ) → AllByRecursion (λ later. is_sooner later u ≡ false) vs → slice_get vs j ≡ Some t → is_sooner t u ≡ false
-      at [] j all there = cc
-      at (v ∷ vs) zero all there = ap (λ w. is_sooner w u) (sym (some_is v t there)) ∙ all.0
-      at (v ∷ vs) (suc j) all there = at vs j all.1 there
-
-  -- before whatever isn't
-  before_it : (ts : List (ℕ × ℕ)) (i : ℕ) (t : ℕ × ℕ) → slice_get ts i ≡ Some t → is_sooner t turn ≡ false → place turn ts ≤ i
-  before_it [] i t is so = cc
-  before_it (u ∷ ts) zero t is so =
-      let e : is_sooner u turn ≡ false = ap (λ v. is_sooner v turn) (some_is u t is) ∙ so in
-      rw e (omega arith)
-  before_it (u ∷ ts) (suc i) t is so = by (is_sooner u turn) (before_it ts i t is so)
-    where
-      by : (b : Bool) → place turn ts ≤ i → cond b (suc (place turn ts)) 0 ≤ suc i
-      by true le = omega (arith, le)
-      by false le = omega arith
-
-  -- so a half of them is passed over
-  module _ (ts : List (ℕ × ℕ)) (i : ℕ) (d : ℕ × ℕ) (within : i < length ts) where
-    pub lower_half : AreInTurn ts → is_sooner (get_or ts i d) turn ≡ true → i < place turn ts
-    lower_half h so = behind_it ts i (get_or ts i d) h (slice_get-get_or ts i d within) so
-
-    pub upper_half : is_sooner (get_or ts i d) turn ≡ false → place turn ts ≤ i
-    upper_half so = before_it ts i (get_or ts i d) (slice_get-get_or ts i d within) so
-
   -- it comes in there
   pub put_there : (ts : List (ℕ × ℕ)) → insert ts (place turn ts) turn ≡ put turn ts
   put_there [] = refl
@@ -128,6 +79,11 @@ all_removed P (t ∷ ts) (suc i) h = (h.0, all_removed P ts i h.1)
 all_later : (turn t : ℕ × ℕ) (ts : List (ℕ × ℕ)) → is_sooner t turn ≡ false → AllByRecursion (λ later. is_sooner later t ≡ false) ts → AllByRecursion (λ later. is_sooner later turn ≡ false) ts
 all_later turn t [] so h = tt
 all_later turn t (u ∷ ts) so h = (along_not turn t u so h.0, all_later turn t ts so h.1)
+
+-- what is sooner than a turn lies in front
+pub parted : (turn : ℕ × ℕ) (ts : List (ℕ × ℕ)) → AreInTurn ts → IsParted (λ t. is_sooner t turn) ts
+parted turn [] h = tt
+parted turn (t ∷ ts) h = (λ late. all_later turn t ts late h.0, parted turn ts h.1)
 
 pub put_in_turn : (turn : ℕ × ℕ) (ts : List (ℕ × ℕ)) → AreInTurn ts → AreInTurn (put turn ts)
 put_in_turn turn [] h = (tt, tt)

@@ -1,6 +1,7 @@
 -- The order in which timers are due (this project's own).
-use Rattle.std.specs.Prelude.{ℕ, suc, ◌≡◌, ⊤, false, nat_le, if◌then◌else◌, List, [], ◌∷◌, Option, Some, None}
+use Rattle.std.specs.Prelude.{ℕ, ◌≡◌, ⊤, false, nat_le, if◌then◌else◌, List, [], ◌∷◌, Option, Some, None}
 use Rattle.std.specs.List.{AllByRecursion}
+use Rattle.tks_share.specs.Lists.{leading}
 use Rattle.tks_timer.specs.declared.entry.Timer.{Timer}
 use Rattle.tks_timer.specs.After.{Content, is_sooner}
 use Rattle.tks_timer.specs.WellFormed.{AreWaiting}
@@ -14,8 +15,7 @@ AreInTurn (t ∷ ts) = AllByRecursion (λ later. is_sooner later t ≡ false) ts
 
 -- how many at the front are sooner than a turn
 abbrev pub place : ℕ × ℕ → List (ℕ × ℕ) → ℕ
-place turn [] = 0
-place turn (t ∷ ts) = if is_sooner t turn then suc (place turn ts) else 0
+place turn turns = leading (λ t. is_sooner t turn) turns
 
 -- a turn comes in behind those that are sooner
 abbrev pub put : ℕ × ℕ → List (ℕ × ℕ) → List (ℕ × ℕ)

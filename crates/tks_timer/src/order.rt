@@ -1,5 +1,5 @@
 //! The order in which timers are due.
-ghost use Rattle.std.specs.Prelude.{◌≡◌, ◌≤◌, ◌<◌, ℕ, [], length, List, get_or, IfOk, OnOk, OnErr};
+ghost use Rattle.std.specs.Prelude.{◌≡◌, ◌≤◌, ℕ, [], length, List, IfOk, OnOk, OnErr};
 ghost use Rattle.tks_timer.specs.After.{is_sooner};
 ghost use Rattle.tks_timer.specs.Order.{due_front, put, place, in_turn};
 
@@ -69,22 +69,16 @@ impl Order {
         }
     }
 
-    // How many are sooner, which is looked for by halving.
+    // How many are sooner.
     fn place(&self, turn: Turn) -> usize
         ensures value { result ≡ place turn self.now }
         ensures within { result ≤ length self.now }
     {
-        let mut low = 0;
-        let mut high = self.turns.len();
-        'halves: while low < high {
-            let middle = low + (high - low) / 2;
-            if is_before(&self.turns, middle, turn) {
-                low = middle + 1;
-            } else {
-                high = middle;
-            }
-        }
-        low
+        self.turns.partition_point(
+            |other: &Turn| -> bool
+                ensures { result ≡ is_sooner other.now turn }
+            { is_sooner(*other, turn) },
+        )
     }
 
     /// A turn comes in.
@@ -115,15 +109,4 @@ fn is_sooner(a: Turn, b: Turn) -> bool
     ensures { result ≡ is_sooner a b }
 {
     a.0 < b.0 || (a.0 == b.0 && a.1 < b.1)
-}
-
-// Whether the turn at an index is sooner.
-fn is_before(turns: &SharedList<Turn>, index: usize, turn: Turn) -> bool
-    requires { index < length turns.now }
-    ensures { result ≡ is_sooner (get_or turns.now index (0, 0)) turn }
-{
-    let Some(other) = turns.get(index) else {
-        unreachable!()
-    };
-    is_sooner(*other, turn)
 }

@@ -7,6 +7,7 @@ use Rattle.std.proofs.lemmas.Bool.{le-ltb}
 use Rattle.std.proofs.lemmas.List.{append-nil, length-map, map-append, reverse-append}
 use Rattle.std.proofs.lemmas.List.Quantifiers.{position-Some}
 use Rattle.tks_text.specs.Text.{same_text}
+use Rattle.tks_text.proofs.Texts.{same_either_way}
 use Rattle.tks_tree.specs.Path.{parent_of, is_text, is_child}
 use Rattle.tks_tree.specs.Windows.{Window, Windows, of_path, has_path, numbers, inside, preorder}
 use Rattle.tks_tree.specs.WellFormed.{StandsIn, Follows, AllFollow, WellFormed}
@@ -16,15 +17,6 @@ use Rattle.tks_tree.proofs.Removals.{found_nowhere}
 use Rattle.tks_tree.proofs.Preorders.{made_later}
 
 -- ---- the place of a parent
-
-same_either_way : (p q : List ℕ) → same_text p q ≡ same_text q p
-same_either_way p q = by (same_text p q) (same_text q p) refl refl
-  where
-    by : (a b : Bool) → same_text p q ≡ a → same_text q p ≡ b → a ≡ b
-    by true true s t = refl
-    by false false s t = refl
-    by true false s t = absurd (true≢false (sym ((bytes_decides q p).1 (sym ((bytes_decides p q).0 s))) ∙ t))
-    by false true s t = absurd (true≢false (sym ((bytes_decides p q).1 (sym ((bytes_decides q p).0 t))) ∙ s))
 
 module _ (path : List ℕ) where
   abbrev stands_in : Window → Bool

@@ -59,7 +59,7 @@ read_words-returns-clause-gives t c =
 
 pub read_words-returns-in_err-word-clause-gives : goal.read_words-returns-in_err-word-clause-gives
 read_words-returns-in_err-word-clause-gives t c =
-    let p = err_from_is_err_and c.from_residual.result c.from_residual.ensures.1 in
+    let p = err_from_is_err_and c.from_residual-in_err-word.result c.from_residual-in_err-word.ensures.1 in
     rw (p.1, p.2) (words_err (nest c.args.depth) (index c.args.depth) c.args.place (words_of c.words.words.items) c.words.taken c.words.rest.now _ c.in_err-word.field-0.0 c.words.invariant.so_far c.in_err-word.ensures.gives)
 
 pub read_commands-returns-in-Ok-None-clause-gives : goal.read_commands-returns-in-Ok-None-clause-gives
