@@ -38,7 +38,10 @@ impl ListWidget {
     pub fn requested_width(&self) -> usize
         ensures { result ≡ requested_width self.now }
     {
-        or_needed(self.options.size(OptionName::Width), longest(&self.items))
+        match self.options.size(OptionName::Width) {
+            Some(0) | None => longest(&self.items).max(1),
+            Some(width) => usize::from(width),
+        }
     }
 
     /// How many cells high it asks to be: as `-height` says, or, where that is 0, one for each item, and one at least.

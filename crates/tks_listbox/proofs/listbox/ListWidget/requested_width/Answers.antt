@@ -1,5 +1,0 @@
-use Rattle.std.proofs.Common.{rules}
-use Rattle.tks_listbox.proofs.listbox.ListWidget.requested_width.Goals as goal
-
-pub returns : goal.returns
-returns = search rules
