@@ -249,9 +249,9 @@ fn told_alike(
 }
 
 fn chars_agree(widget: &TextWidget, plain: &PlainLines) -> bool {
-    let (front, behind) = widget.pieces();
+    let (front, typed, behind) = widget.pieces();
     let mut place = 0usize;
-    for byte in front.iter().chain(behind) {
+    for byte in front.iter().chain(typed).chain(behind) {
         if plain.chars.get(place) != Some(byte) {
             return false;
         }

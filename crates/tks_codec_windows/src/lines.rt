@@ -41,8 +41,8 @@ pub fn put_lines(out: &mut Vec<u8>, widget: &TextWidget) -> Result<(), AllocErro
     ensures legal { OnOk result ((kinds.lines widget.now.options).Legal widget.now) }
 {
     let marks = widget.marks();
-    let (front, behind) = widget.pieces();
-    put_pieces(out, front, behind)?;
+    let (front, typed, behind) = widget.pieces();
+    put_pieces(out, front, typed, behind)?;
     put_tags(out, widget)?;
     put_list(out, Marks, marks)
 }

@@ -1,15 +1,15 @@
--- Lines are found by where they end, and where they end goes with a change of the text.
-use Rattle.std.proofs.Common.{◌≡◌, ℕ, zero, suc, ◌+◌, ◌-◌, ◌<◌, ◌≤◌, nat_lt, max, not, Bool, true, false, if◌then◌else◌, List, [], ◌∷◌, ◌++◌, length, get_or, take, drop, map, Option, Some, None, ◌⊎◌, inl, inr, refl, sym, ap, ◌∙◌, append_assoc, arith}
-use Rattle.std.specs.Prelude.{slice_get, ◌||◌}
-use Rattle.std.specs.List.{prefix_len, suffix_len, count_by, list_any, AllByRecursion}
+-- Lines are found by where they end, and where those of a part of a text end is where those of the text do.
+use Rattle.std.proofs.Common.{◌≡◌, ℕ, zero, suc, ◌+◌, ◌-◌, ◌<◌, ◌≤◌, nat_lt, not, Bool, true, false, if◌then◌else◌, List, [], ◌∷◌, ◌++◌, length, get_or, take, drop, map, Option, Some, None, refl, sym, ap, ◌∙◌, append_assoc, arith}
+use Rattle.std.specs.Prelude.{slice_get, option_map}
+use Rattle.std.specs.List.{prefix_len, suffix_len, count_by, AllByRecursion}
 use Rattle.std.specs.List.Sorted.{IsNonDecreasingBy, IsPartitionedBy, IsPartitionPoint}
-use Rattle.std.proofs.lemmas.Bool.{cases_lt}
+use Rattle.std.proofs.lemmas.Option.{slice_get-map}
 use Rattle.std.proofs.lemmas.Bool.Decides.{nat_tests}
-use Rattle.std.proofs.lemmas.List.{length-take-le, length-drop, drop_all, append-nil, reverse-append, take-append-le}
-use Rattle.std.proofs.lemmas.List.Sums.{sum_by-cons, prefix_len_is, count_by-le-length}
+use Rattle.std.proofs.lemmas.List.{length-drop, append-nil, reverse-append, take-append-le}
+use Rattle.std.proofs.lemmas.List.Sums.{sum_by-cons, prefix_len_is}
 use Rattle.tks_lines.specs.Places.{is_newline, is_inner, within_line, place_at, column_of, line_end}
-use Rattle.tks_lines.specs.Lines.{spliced, cut}
-use Rattle.tks_lines.specs.Breaks.{breaks_from, breaks_of, below, behind_break, break_or_end, line_begin, line_break, breaks_with, breaks_without}
+use Rattle.tks_lines.specs.Breaks.{breaks_from, breaks_of, below, behind_break, break_or_end, line_begin, line_break}
+use Rattle.tks_lines.specs.Stretch.{part}
 use Rattle.tks_lines.proofs.Far.{this_line}
 
 -- the places, where the first character is a newline or isn't
@@ -27,7 +27,7 @@ from_here low p (c ∷ text) k d h lt = by (is_newline c) (λ i l. from_here low
     by true rest (suc i) lt = rest i (omega arith)
     by false rest i lt = rest i lt
 
-rise_from : (p : ℕ) (text : List ℕ) → IsNonDecreasingBy (λ b. b) (breaks_from p text)
+pub rise_from : (p : ℕ) (text : List ℕ) → IsNonDecreasingBy (λ b. b) (breaks_from p text)
 rise_from p [] i j d le lt = absurd (omega arith)
 rise_from p (c ∷ text) i j d le lt = by (is_newline c) (λ i j. rise_from (suc p) text i j d) i j le lt
   where
@@ -42,7 +42,7 @@ rise_from p (c ∷ text) i j d le lt = by (is_newline c) (λ i j. rise_from (suc
 pub breaks_rise : (text : List ℕ) → IsNonDecreasingBy (λ b. b) (breaks_of text)
 breaks_rise text = rise_from 0 text
 
-within_from : (high p : ℕ) (text : List ℕ) → p + length text ≤ high → AllByRecursion (λ b. b < high) (breaks_from p text)
+pub within_from : (high p : ℕ) (text : List ℕ) → p + length text ≤ high → AllByRecursion (λ b. b < high) (breaks_from p text)
 within_from high p [] h = tt
 within_from high p (c ∷ text) h = by (is_newline c) (within_from high (suc p) text (omega arith))
   where
@@ -50,28 +50,18 @@ within_from high p (c ∷ text) h = by (is_newline c) (within_from high (suc p) 
     by true rest = (omega arith, rest)
     by false rest = rest
 
-all_behind : {X : Type 0} (P : X → Type 0) (n : ℕ) (xs : List X) → AllByRecursion P xs → AllByRecursion P (drop n xs)
-all_behind P zero xs h = h
-all_behind P (suc n) [] h = h
-all_behind P (suc n) (x ∷ xs) h = all_behind P n xs h.1
-
-small_below : (high count limit : ℕ) (bs : List ℕ) → high + count ≤ limit → AllByRecursion (λ b. b < high) bs → AllByRecursion (λ b. b + count < limit) bs
-small_below high count limit [] e h = h
-small_below high count limit (b ∷ bs) e h = (omega (arith, h.0), small_below high count limit bs e h.1)
-
--- those behind some of them go on within numbers that can be told
-pub small_on : (n count limit : ℕ) (text : List ℕ) → length text + count ≤ limit → AllByRecursion (λ b. b + count < limit) (drop n (breaks_of text))
-small_on n count limit text e = all_behind (λ b. b + count < limit) n (breaks_of text) (small_below (length text) count limit (breaks_of text) e (within_from (length text) 0 text (omega arith)))
-
 got_within : (high : ℕ) (bs : List ℕ) (n b : ℕ) → AllByRecursion (λ b. b < high) bs → Some b ≡ slice_get bs n → b < high
 got_within high [] zero b h e = absurd cc
 got_within high [] (suc n) b h e = absurd cc
 got_within high (x ∷ bs) zero b h e = let same : b ≡ x = cc in omega (arith, h.0)
 got_within high (x ∷ bs) (suc n) b h e = got_within high bs n b h.1 e
 
+pub break_within : (p : ℕ) (text : List ℕ) (n b : ℕ) → Some b ≡ slice_get (breaks_from p text) n → b < p + length text
+break_within p text n b e = got_within (p + length text) (breaks_from p text) n b (within_from (p + length text) p text (omega arith)) e
+
 -- one of them is the place of a character
 pub break_inside : (text : List ℕ) (n b : ℕ) → Some b ≡ slice_get (breaks_of text) n → b < length text
-break_inside text n b e = got_within (length text) (breaks_of text) n b (within_from (length text) 0 text (omega arith)) e
+break_inside text n b e = omega (arith, break_within 0 text n b e)
 
 -- ---- how many newlines stand before a place
 
@@ -110,19 +100,13 @@ count_from p (suc k) q (c ∷ text) e = sum_by-cons (λ x. if is_newline x then 
 pub count_before : (text : List ℕ) (place : ℕ) → count_by is_newline (take place text) ≡ below place (breaks_of text)
 count_before text place = count_from 0 place place text (omega arith)
 
-count_all_from : (p : ℕ) (text : List ℕ) → count_by is_newline text ≡ length (breaks_from p text)
+pub count_all_from : (p : ℕ) (text : List ℕ) → count_by is_newline text ≡ length (breaks_from p text)
 count_all_from p [] = refl
 count_all_from p (c ∷ text) = sum_by-cons (λ x. if is_newline x then 1 else 0) c text ∙ by (is_newline c) (count_all_from (suc p) text)
   where
     by : (b : Bool) → count_by is_newline text ≡ length (breaks_from (suc p) text) → (if b then 1 else 0) + count_by is_newline text ≡ length (step b p text)
     by true rest = omega arith
     by false rest = omega arith
-
-pub count_all : (text : List ℕ) → count_by is_newline text ≡ length (breaks_of text)
-count_all text = count_all_from 0 text
-
-pub few_breaks : (text : List ℕ) → length (breaks_of text) ≤ length text
-few_breaks text = omega (arith, count_all text, count_by-le-length is_newline text)
 
 -- ---- where a line begins and ends
 
@@ -185,9 +169,9 @@ found_line text lines column = zero_more ∙ found_from 0 (length text) text lin
     same zero = refl
     same (suc n) = refl
 
--- ---- changes of the text
+-- ---- parts of a text
 
-breaks_append : (p : ℕ) (xs ys : List ℕ) → breaks_from p (xs ++ ys) ≡ breaks_from p xs ++ breaks_from (p + length xs) ys
+pub breaks_append : (p : ℕ) (xs ys : List ℕ) → breaks_from p (xs ++ ys) ≡ breaks_from p xs ++ breaks_from (p + length xs) ys
 breaks_append p [] ys = let same : p ≡ p + 0 = omega arith in ap (λ n. breaks_from n ys) same
 breaks_append p (x ∷ xs) ys = by (is_newline x) (breaks_append (suc p) xs ys ∙ ap (λ n. breaks_from (suc p) xs ++ breaks_from n ys) same)
   where
@@ -206,7 +190,7 @@ breaks_on p d q (c ∷ text) e = by (is_newline c) (breaks_on (suc p) d (suc q) 
     by true rest = ap (λ n. n ∷ breaks_from (suc q) text) e ∙ ap (λ bs. (p + d) ∷ bs) rest
     by false rest = rest
 
-front_from : (p k q : ℕ) (text : List ℕ) → q ≡ p + k → breaks_from p (take k text) ≡ take (below q (breaks_from p text)) (breaks_from p text)
+pub front_from : (p k q : ℕ) (text : List ℕ) → q ≡ p + k → breaks_from p (take k text) ≡ take (below q (breaks_from p text)) (breaks_from p text)
 front_from p zero q text e = ap (λ n. take n (breaks_from p text)) (sym (none_below q p text (omega arith)))
 front_from p (suc k) q [] e = refl
 front_from p (suc k) q (c ∷ text) e = by (is_newline c) (front_from (suc p) k q text (omega arith))
@@ -215,7 +199,7 @@ front_from p (suc k) q (c ∷ text) e = by (is_newline c) (front_from (suc p) k 
     by true rest = ap (λ bs. p ∷ bs) rest ∙ ap (λ n. take n (p ∷ breaks_from (suc p) text)) (sym (one_below p q (breaks_from (suc p) text) (omega arith)))
     by false rest = rest
 
-back_from : (p k q : ℕ) (text : List ℕ) → q ≡ p + k → breaks_from q (drop k text) ≡ drop (below q (breaks_from p text)) (breaks_from p text)
+pub back_from : (p k q : ℕ) (text : List ℕ) → q ≡ p + k → breaks_from q (drop k text) ≡ drop (below q (breaks_from p text)) (breaks_from p text)
 back_from p zero q text e =
     let same : q ≡ p = omega arith in
     ap (λ n. breaks_from n text) same ∙ ap (λ n. drop n (breaks_from p text)) (sym (none_below q p text (omega arith)))
@@ -226,41 +210,50 @@ back_from p (suc k) q (c ∷ text) e = by (is_newline c) (back_from (suc p) k q 
     by true rest = rest ∙ ap (λ n. drop n (p ∷ breaks_from (suc p) text)) (sym (one_below p q (breaks_from (suc p) text) (omega arith)))
     by false rest = rest
 
-pub spliced_breaks : (place : ℕ) (more text : List ℕ) → place ≤ length text → breaks_with place more (breaks_of text) ≡ breaks_of (spliced place more text)
-spliced_breaks place more text here =
-    let behind = drop place text in
-    let at : 0 + length (take place text) ≡ place = omega (arith, length-take-le place text here) in
-    let on = breaks_on place (length more) (place + length more) behind refl in
-    let back = back_from 0 place place text (omega arith) in
-    sym (
-    breaks_append 0 (take place text) (more ++ behind)
-    ∙ ap (λ n. breaks_from 0 (take place text) ++ breaks_from n (more ++ behind)) at
-    ∙ ap (λ bs. bs ++ breaks_from place (more ++ behind)) (front_from 0 place place text (omega arith))
-    ∙ ap (λ bs. take (below place (breaks_of text)) (breaks_of text) ++ bs) (breaks_append place more behind ∙ ap (λ bs. breaks_from place more ++ bs) (on ∙ ap (map (λ b. b + length more)) back))
-    )
+-- the places from one on
+pub behind_place : (first : ℕ) (text : List ℕ) → drop (below first (breaks_of text)) (breaks_of text) ≡ breaks_from first (drop first text)
+behind_place first text = sym (back_from 0 first first text (omega arith))
 
-on_and_back : (d : ℕ) (bs : List ℕ) → map (λ b. b - d) (map (λ b. b + d) bs) ≡ bs
-on_and_back d [] = refl
-on_and_back d (b ∷ bs) = let same : (b + d) - d ≡ b = omega arith in ap (λ n. n ∷ map (λ b. b - d) (map (λ b. b + d) bs)) same ∙ ap (λ bs. b ∷ bs) (on_and_back d bs)
+-- those up to another
+pub up_to_place : (first last : ℕ) (text : List ℕ) → first ≤ last → take (below last (breaks_from first (drop first text))) (breaks_from first (drop first text)) ≡ breaks_from first (part first last text)
+up_to_place first last text le = sym (front_from first (last - first) last (drop first text) (omega arith))
 
--- what stands behind those that go out
-gone : (first last : ℕ) (text : List ℕ) → map (λ b. b - (last - first)) (drop (below (max first last) (breaks_of text)) (breaks_of text)) ≡ breaks_from first (drop (max first last) text)
-gone first last text =
-    let behind = drop (max first last) text in
-    let far : max first last ≡ first + (last - first) = omega arith in
-    ap (map (λ b. b - (last - first))) (sym (back_from 0 (max first last) (max first last) text (omega arith)) ∙ breaks_on first (last - first) (max first last) behind far)
-    ∙ on_and_back (last - first) (breaks_from first behind)
+off_and_on : (from to : ℕ) (bs : List ℕ) → map (λ b. b - from + to) (map (λ b. b + from) bs) ≡ map (λ b. b + to) bs
+off_and_on from to [] = refl
+off_and_on from to (b ∷ bs) =
+    let same : (b + from) - from + to ≡ b + to = omega arith in
+    ap (λ n. n ∷ map (λ b. b - from + to) (map (λ b. b + from) bs)) same ∙ ap (λ bs. (b + to) ∷ bs) (off_and_on from to bs)
 
-pub cut_breaks : (first last : ℕ) (text : List ℕ) → breaks_without first last (breaks_of text) ≡ breaks_of (cut first last text)
-cut_breaks first last text =
-    ap (λ bs. take (below first (breaks_of text)) (breaks_of text) ++ bs) (gone first last text)
-    ∙ sym (breaks_append 0 (take first text) (drop (max first last) text) ∙ ap (λ bs. bs ++ breaks_from (0 + length (take first text)) (drop (max first last) text)) (front_from 0 first first text (omega arith)) ∙ ap (λ bs. take (below first (breaks_of text)) (breaks_of text) ++ bs) (at (cases_lt (length text) first)))
-  where
-    at : (length text < first) ⊎ (first ≤ length text) → breaks_from (0 + length (take first text)) (drop (max first last) text) ≡ breaks_from first (drop (max first last) text)
-    at (inl h) =
-        let none : drop (max first last) text ≡ [] = drop_all (max first last) text (omega arith) in
-        ap (breaks_from (0 + length (take first text))) none ∙ sym (ap (breaks_from first) none)
-    at (inr h) = let same : 0 + length (take first text) ≡ first = omega (arith, length-take-le first text h) in ap (λ n. breaks_from n (drop (max first last) text)) same
+-- those of a text at one place are those of it at another, moved
+pub moved_breaks : (from to : ℕ) (text : List ℕ) → map (λ b. b - from + to) (breaks_from from text) ≡ breaks_from to text
+moved_breaks from to text =
+    ap (map (λ b. b - from + to)) (breaks_on 0 from from text (omega arith)) ∙ off_and_on from to (breaks_from 0 text) ∙ sym (breaks_on 0 to to text (omega arith))
+
+-- within numbers that can be told
+pub moved_small : (high from to limit : ℕ) (bs : List ℕ) → high + to ≤ limit → AllByRecursion (λ b. b < high) bs → AllByRecursion (λ b. b - from + to < limit) bs
+moved_small high from to limit [] e h = h
+moved_small high from to limit (b ∷ bs) e h = (omega (arith, h.0), moved_small high from to limit bs e h.1)
+
+pub small_moved : (from to limit : ℕ) (text : List ℕ) → from + length text + to ≤ limit → AllByRecursion (λ b. b - from + to < limit) (breaks_from from text)
+small_moved from to limit text e = moved_small (from + length text) from to limit (breaks_from from text) e (within_from (from + length text) from text (omega arith))
+
+-- one behind so many others
+pub moved_break : (from to : ℕ) (text : List ℕ) (n b : ℕ) → Some b ≡ slice_get (breaks_from from text) n → Some (b - from + to) ≡ slice_get (breaks_from to text) n
+moved_break from to text n b e =
+    ap (option_map (λ b. b - from + to)) e ∙ sym (slice_get-map (λ b. b - from + to) (breaks_from from text) n) ∙ ap (λ bs. slice_get bs n) (moved_breaks from to text)
+
+pub no_break : (from to : ℕ) (text : List ℕ) (n : ℕ) → None ≡ slice_get (breaks_from from text) n → None ≡ slice_get (breaks_from to text) n
+no_break from to text n e =
+    ap (option_map (λ b. b - from + to)) e ∙ sym (slice_get-map (λ b. b - from + to) (breaks_from from text) n) ∙ ap (λ bs. slice_get bs n) (moved_breaks from to text)
+
+-- three texts, one behind the other
+pub three_breaks : (xs ys zs : List ℕ) → (breaks_from 0 xs ++ breaks_from (length xs) ys) ++ breaks_from (length xs + length ys) zs ≡ breaks_of (xs ++ (ys ++ zs))
+three_breaks xs ys zs =
+    let at : 0 + length xs ≡ length xs = omega arith in
+    append_assoc (breaks_from 0 xs) (breaks_from (length xs) ys) (breaks_from (length xs + length ys) zs)
+    ∙ ap (λ bs. breaks_from 0 xs ++ bs) (sym (breaks_append (length xs) ys zs))
+    ∙ ap (λ n. breaks_from 0 xs ++ breaks_from n (ys ++ zs)) (sym at)
+    ∙ sym (breaks_append 0 xs (ys ++ zs))
 
 -- ---- the line of a place
 
@@ -336,27 +329,3 @@ column_is text place inside =
     same : (n : ℕ) → begun 0 (length text) (breaks_of text) n ≡ line_begin (length text) (breaks_of text) n
     same zero = refl
     same (suc n) = refl
-
--- ---- an edit without a newline
-
--- characters without a newline have no places to add
-pub none_added : (place : ℕ) (more : List ℕ) → list_any is_newline more ≡ false → breaks_from place more ≡ []
-none_added place [] e = refl
-none_added place (c ∷ more) e = by (is_newline c) (none_added (suc place) more) e
-  where
-    by : (b : Bool) → (list_any is_newline more ≡ false → breaks_from (suc place) more ≡ []) → (b || list_any is_newline more) ≡ false → step b place more ≡ []
-    by true rest e = absurd cc
-    by false rest e = rest e
-
--- so those behind it are moved on, and that is all
-pub moved_alone : (place : ℕ) (more text : List ℕ) → place ≤ length text → list_any is_newline more ≡ false
-    → take (below place (breaks_of text)) (breaks_of text) ++ map (λ b. b + length more) (drop (below place (breaks_of text)) (breaks_of text)) ≡ breaks_of (spliced place more text)
-moved_alone place more text here none =
-    let rest = map (λ b. b + length more) (drop (below place (breaks_of text)) (breaks_of text)) in
-    ap (λ bs. take (below place (breaks_of text)) (breaks_of text) ++ (bs ++ rest)) (sym (none_added place more none)) ∙ spliced_breaks place more text here
-
--- where no newline goes out those behind are moved back, and that is all
-pub back_alone : (first last : ℕ) (text : List ℕ) → below first (breaks_of text) ≡ below (max first last) (breaks_of text)
-    → take (below first (breaks_of text)) (breaks_of text) ++ map (λ b. b - (last - first)) (drop (below first (breaks_of text)) (breaks_of text)) ≡ breaks_of (cut first last text)
-back_alone first last text same =
-    ap (λ n. take (below first (breaks_of text)) (breaks_of text) ++ map (λ b. b - (last - first)) (drop n (breaks_of text))) same ∙ cut_breaks first last text

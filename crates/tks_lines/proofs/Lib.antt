@@ -1,7 +1,8 @@
 pub mod Far
 pub mod InPlace
 pub mod Breaking
-pub mod Gapped
+pub mod Parted
+pub mod Told
 pub mod Moving
 pub mod Inside
 pub mod Decimals

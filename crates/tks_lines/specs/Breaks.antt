@@ -1,5 +1,5 @@
 -- Where the lines of a text end: the places of its newlines, and what becomes of them.
-use Rattle.std.specs.Prelude.{ℕ, zero, suc, ◌+◌, ◌-◌, nat_lt, max, if◌then◌else◌, List, [], ◌∷◌, ◌++◌, length, map, take, drop, Option, Some, None, slice_get}
+use Rattle.std.specs.Prelude.{ℕ, zero, suc, ◌+◌, ◌-◌, nat_lt, if◌then◌else◌, List, [], ◌∷◌, Option, Some, None, slice_get}
 use Rattle.std.specs.List.{prefix_len}
 use Rattle.tks_lines.specs.Places.{is_newline}
 
@@ -33,13 +33,3 @@ line_begin len breaks (suc lines) = behind_break len (slice_get breaks lines)
 -- where it ends
 abbrev pub line_break : ℕ → List ℕ → ℕ → ℕ
 line_break len breaks lines = break_or_end len (slice_get breaks lines)
-
--- ---- changes of the text
-
--- where characters come in at a place
-abbrev pub breaks_with : ℕ → List ℕ → List ℕ → List ℕ
-breaks_with place more breaks = take (below place breaks) breaks ++ (breaks_from place more ++ map (λ b. b + length more) (drop (below place breaks) breaks))
-
--- where those between two places go out
-abbrev pub breaks_without : ℕ → ℕ → List ℕ → List ℕ
-breaks_without first last breaks = take (below first breaks) breaks ++ map (λ b. b - (last - first)) (drop (below (max first last) breaks) breaks)

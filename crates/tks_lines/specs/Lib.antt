@@ -1,6 +1,7 @@
 pub mod Places
 pub mod Breaks
-pub mod Gap
+pub mod Stretch
+pub mod Pieces
 pub mod Ranges
 pub mod Lines
 pub mod Restoring

@@ -4,7 +4,7 @@ ghost use Rattle.tks_text.specs.Short.{IsShort};
 ghost use Rattle.tks_lines.specs.Lines.{spliced, cut, painted, is_true};
 ghost use Rattle.tks_lines.specs.Ranges.{ranges_of, flags_of, untagged, AreRanges};
 
-use crate::gap::MAX_LEN;
+use crate::lined_text::MAX_LEN;
 use crate::range::Range;
 use crate::range_list::{begin_between, beginning_up_to, end_between, ending_before, put_and_move};
 use std::alloc::{AllocError, Global};

@@ -1,76 +1,67 @@
 //! Characters that know where their lines end.
-ghost use Rattle.std.specs.Prelude.{◌≡◌, ◌+◌, ◌-◌, ◌<◌, ◌≤◌, ◌^◌, ◌++◌, [], false, max, length, take, drop, IfOk, OnOk, OnErr};
-ghost use Rattle.std.specs.List.{count_by, list_any};
-ghost use Rattle.std.specs.List.Sorted.{IsNonDecreasingBy};
+ghost use Rattle.std.specs.Prelude.{◌≡◌, ◌+◌, ◌-◌, ◌<◌, ◌≤◌, ◌^◌, ◌++◌, length, take, drop, slice_get, IfOk, OnOk, OnErr};
+ghost use Rattle.std.specs.List.{count_by};
 ghost use Rattle.tks_text.specs.Text.{IsText};
 ghost use Rattle.tks_text.specs.Short.{IsShort};
 ghost use Rattle.tks_lines.specs.Places.{is_newline, end_place};
 ghost use Rattle.tks_lines.specs.Lines.{spliced, cut};
 ghost use Rattle.tks_lines.specs.Breaks.{breaks_of, below, line_begin, line_break};
+ghost use Rattle.tks_lines.specs.Stretch.{part};
 
-use crate::breaks::Breaks;
-use crate::gap::GapText;
+use crate::pieces::Pieces;
+use crate::stretch::Stretch;
 use std::alloc::{AllocError, Global};
 use std::marker::Model;
 use tks_text::Txt;
 
-/// The characters of a text but the last newline, and where their lines end.
+/// The most characters.
+pub(crate) const MAX_LEN: usize = 4_294_967_295;
+
+/// The characters of a text but the last newline, fewer than 2^32, in pieces that know where their lines end and that
+/// copies share.
 pub(crate) struct LinedText {
-    characters: GapText,
-    breaks: Breaks,
+    pieces: Pieces,
 }
 
 // Written out, so that to let go of it is one step for whoever owns it.
 impl Drop for LinedText {
     fn drop(self) {
-        let LinedText {
-            characters: _,
-            breaks: _,
-        } = self;
+        let LinedText { pieces: _ } = self;
     }
 }
 
 impl Model for LinedText {
-    ghost use Rattle.std.specs.Prelude.{◌≡◌, List, ℕ};
-    ghost use Rattle.tks_lines.specs.Breaks.{breaks_of};
+    ghost use Rattle.std.specs.Prelude.{List, ℕ};
+    ghost use Rattle.tks_text.specs.Short.{IsShort};
+    ghost use Rattle.tks_lines.specs.Pieces.{whole};
 
     ghost Value = { List ℕ };
 
-    ghost view = { λ t. t.characters };
+    ghost view = { λ t. whole t.pieces };
 
-    ghost invariant = { λ t. t.breaks ≡ breaks_of t.characters };
+    ghost invariant = { λ t. IsShort (whole t.pieces) };
 }
 
-// Whether a newline is among characters.
-fn has_newline(text: &[u8]) -> bool
-    ensures { result ≡ list_any is_newline text.now }
+// Adds what a stretch has from one place up to another.
+#[tactic(auto, using(crate::proofs::Parted::part_within))]
+fn push_part(text: &mut Txt, stretch: &Stretch, first: usize, last: usize) -> Result<(), AllocError>
+    requires { first ≤ last }
+    ensures { OnOk result (text.new ≡ text.old ++ part first last stretch.now) }
 {
-    for byte in text {
-        if *byte == b'\n' {
-            return true;
-        }
-    }
-    false
+    let bytes = stretch.as_bytes();
+    let len = bytes.len();
+    text.push_bytes(&bytes[first.min(len)..last.min(len)])?;
+    Ok(())
 }
 
 impl LinedText {
-    /// No characters.
-    pub(crate) fn new(alloc: Global) -> LinedText
-        ensures { result ≡ [] }
-    {
-        LinedText {
-            characters: GapText::new(alloc),
-            breaks: Breaks::new(alloc),
-        }
-    }
-
     /// The characters of a text.
     pub(crate) fn of(alloc: Global, text: &Txt) -> Result<LinedText, AllocError>
         ensures { IfOk result (λ t. t ≡ text.now) }
     {
+        let _short = text.as_bytes();
         Ok(LinedText {
-            characters: GapText::of(alloc, text)?,
-            breaks: Breaks::of(alloc, text.as_bytes())?,
+            pieces: Pieces::of(alloc, text)?,
         })
     }
 
@@ -79,16 +70,20 @@ impl LinedText {
         ensures value { result ≡ length self.now }
         ensures bound { result < 2 ^ 32 }
     {
-        self.characters.len()
+        self.pieces.front.len() + self.pieces.typed.len() + self.pieces.behind.len()
     }
 
-    /// The characters, in two pieces.
-    pub(crate) fn pieces(&self) -> (&[u8], &[u8])
-        ensures value { result.0.now ++ result.1.now ≡ self.now }
-        ensures text { IsText result.0.now × IsText result.1.now }
+    /// The characters, in three pieces, of which each stands behind the one before it.
+    pub(crate) fn pieces(&self) -> (&[u8], &[u8], &[u8])
+        ensures value { result.0.now ++ (result.1.now ++ result.2.now) ≡ self.now }
+        ensures text { IsText result.0.now × (IsText result.1.now × IsText result.2.now) }
         ensures short { IsShort self.now }
     {
-        self.characters.pieces()
+        (
+            self.pieces.front.as_bytes(),
+            self.pieces.typed.as_bytes(),
+            self.pieces.behind.as_bytes(),
+        )
     }
 
     /// The characters from one place up to another.
@@ -96,36 +91,68 @@ impl LinedText {
         requires { (first ≤ last) × (last ≤ length self.now) }
         ensures { IfOk result (λ t. t ≡ take (last - first) (drop first self.now)) }
     {
-        let text = self.characters.part(alloc, first, last)?;
+        let front = self.pieces.front.len();
+        let typed = front + self.pieces.typed.len();
+        let mut text = Txt::new(alloc);
+        push_part(&mut text, &self.pieces.front, first, last)?;
+        push_part(
+            &mut text,
+            &self.pieces.typed,
+            first.saturating_sub(front),
+            last.saturating_sub(front),
+        )?;
+        push_part(
+            &mut text,
+            &self.pieces.behind,
+            first.saturating_sub(typed),
+            last.saturating_sub(typed),
+        )?;
         Ok(text)
     }
 
-    // Where lines end.
-    #[tactic(auto, using(crate::proofs::Breaking::breaks_rise))]
-    fn breaks(&self) -> &Breaks
-        ensures value { result.now ≡ breaks_of self.now }
-        ensures rising { IsNonDecreasingBy (λ b. b) result.now }
-    {
-        &self.breaks
-    }
-
     /// How many newlines there are.
-    #[tactic(auto, using(crate::proofs::Breaking::count_all, crate::proofs::Breaking::few_breaks))]
     pub(crate) fn newlines(&self) -> usize
         ensures value { result ≡ count_by is_newline self.now }
         ensures bound { result ≤ length self.now }
     {
-        self.breaks().len()
+        let len = self.len();
+        self.newlines_before(len)
     }
 
     /// How many newlines stand before a place.
-    #[tactic(auto, using(crate::proofs::Breaking::count_before, crate::proofs::Breaking::few_breaks))]
     pub(crate) fn newlines_before(&self, place: usize) -> usize
         ensures value { result ≡ count_by is_newline (take place self.now) }
         ensures breaks { result ≡ below place (breaks_of self.now) }
         ensures bound { result ≤ length self.now }
     {
-        self.breaks().below(place)
+        let front = self.pieces.front.len();
+        let typed = front + self.pieces.typed.len();
+        self.pieces.front.newlines_before(place)
+            + self
+                .pieces
+                .typed
+                .newlines_before(place.saturating_sub(front))
+            + self
+                .pieces
+                .behind
+                .newlines_before(place.saturating_sub(typed))
+    }
+
+    // The place of the newline behind so many others.
+    fn break_at(&self, others: usize) -> Option<usize>
+        ensures { result ≡ slice_get (breaks_of self.now) others }
+    {
+        let front = self.pieces.front.newlines();
+        if others < front {
+            return self.pieces.front.break_at(0, others);
+        }
+        let begin = self.pieces.front.len();
+        let typed = front + self.pieces.typed.newlines();
+        if others < typed {
+            return self.pieces.typed.break_at(begin, others - front);
+        }
+        let begin = begin + self.pieces.typed.len();
+        self.pieces.behind.break_at(begin, others - typed)
     }
 
     /// The place at which the line behind so many others begins; behind the last line, the end.
@@ -137,8 +164,8 @@ impl LinedText {
         if lines == 0 {
             return 0;
         }
-        match self.breaks().get(lines - 1) {
-            Some(place) => *place + 1,
+        match self.break_at(lines - 1) {
+            Some(place) => place + 1,
             None => len + 1,
         }
     }
@@ -148,45 +175,13 @@ impl LinedText {
         ensures value { result ≡ line_break (length self.now) (breaks_of self.now) lines }
         ensures bound { result ≤ length self.now }
     {
-        match self.breaks().get(lines) {
-            Some(place) => *place,
+        match self.break_at(lines) {
+            Some(place) => place,
             None => self.len(),
         }
     }
 
-    // Where lines end when characters come in at a place.
-    fn breaks_with(&self, alloc: Global, place: usize, more: &[u8]) -> Result<Breaks, AllocError>
-        requires here { place ≤ length self.now }
-        requires short { IsShort more.now }
-        ensures { IfOk result (λ b. b ≡ breaks_of (spliced place more.now self.now)) }
-    {
-        let _len = self.len();
-        let breaks = self.breaks().with_more(alloc, place, more)?;
-        Ok(breaks)
-    }
-
-    // Where lines end when the characters between two places go out.
-    fn breaks_without(&self, alloc: Global, first: usize, last: usize) -> Result<Breaks, AllocError>
-        ensures { IfOk result (λ b. b ≡ breaks_of (cut first last self.now)) }
-    {
-        let breaks = self.breaks().without(alloc, first, last)?;
-        Ok(breaks)
-    }
-
-    // Puts more without a newline in at a place.
-    fn insert_inner(&mut self, alloc: Global, place: usize, more: &Txt) -> Result<(), AllocError>
-        requires here { place ≤ length self.old }
-        requires inner { list_any is_newline more.now ≡ false }
-        ensures ok { OnOk result (self.new ≡ spliced place more.now self.old) }
-        ensures err { OnErr result (self.new ≡ self.old) }
-    {
-        let _len = self.len();
-        self.characters.insert(alloc, place, more)?;
-        self.breaks.move_on(place, more.as_bytes().len());
-        Ok(())
-    }
-
-    /// Puts more in at a place.
+    /// Puts more in at a place. Too many characters are refused as memory is.
     pub(crate) fn insert(
         &mut self,
         alloc: Global,
@@ -197,30 +192,17 @@ impl LinedText {
         ensures ok { OnOk result (self.new ≡ spliced place more.now self.old) }
         ensures err { OnErr result (self.new ≡ self.old) }
     {
-        if !has_newline(more.as_bytes()) {
-            return self.insert_inner(alloc, place, more);
+        if more.as_bytes().len() > MAX_LEN - self.len() {
+            return Err(AllocError);
         }
-        let breaks = self.breaks_with(alloc, place, more.as_bytes())?;
-        self.characters.insert(alloc, place, more)?;
-        self.breaks = breaks;
-        Ok(())
-    }
-
-    // Takes what stands between two places out, where it has no newline.
-    fn delete_inner(&mut self, alloc: Global, first: usize, last: usize) -> Result<(), AllocError>
-        requires { below first (breaks_of self.old) ≡ below (max first last) (breaks_of self.old) }
-        ensures ok { OnOk result (self.new ≡ cut first last self.old) }
-        ensures err { OnErr result (self.new ≡ self.old) }
-    {
-        let len = self.len();
-        let behind = last.max(first).min(len);
-        self.characters.delete(alloc, first.min(len), behind)?;
-        self.breaks.move_back(first, last.saturating_sub(first));
+        let more = Stretch::of(alloc, more)?;
+        let moved = self.pieces.moved(alloc, place)?;
+        let pieces = moved.with(alloc, place, &more)?;
+        self.pieces = pieces;
         Ok(())
     }
 
     /// Takes what stands between two places out.
-    #[tactic(auto, using(crate::proofs::Gapped::cut_inside))]
     pub(crate) fn delete(
         &mut self,
         alloc: Global,
@@ -230,24 +212,22 @@ impl LinedText {
         ensures ok { OnOk result (self.new ≡ cut first last self.old) }
         ensures err { OnErr result (self.new ≡ self.old) }
     {
-        if self.newlines_before(first) == self.newlines_before(last.max(first)) {
-            return self.delete_inner(alloc, first, last);
-        }
         let len = self.len();
-        let breaks = self.breaks_without(alloc, first, last)?;
-        let behind = last.max(first).min(len);
-        self.characters.delete(alloc, first.min(len), behind)?;
-        self.breaks = breaks;
+        let last = last.max(first).min(len);
+        let first = first.min(len);
+        let place = self.pieces.front.len().max(first).min(last);
+        let moved = self.pieces.moved(alloc, place)?;
+        let pieces = moved.without(alloc, first, last)?;
+        self.pieces = pieces;
         Ok(())
     }
 
-    /// An equal text.
+    /// An equal text, in the same pieces.
     pub(crate) fn try_clone(&self) -> Result<LinedText, AllocError>
         ensures { IfOk result (λ t. t ≡ self.now) }
     {
         Ok(LinedText {
-            characters: self.characters.try_clone()?,
-            breaks: self.breaks.try_clone()?,
+            pieces: self.pieces.share()?,
         })
     }
 }

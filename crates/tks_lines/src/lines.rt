@@ -71,7 +71,7 @@ impl TextWidget {
         Ok(TextWidget {
             alloc,
             options,
-            text: LinedText::new(alloc),
+            text: LinedText::of(alloc, &Txt::new(alloc))?,
             tags: Tags::new(alloc),
             marks,
         })
@@ -93,10 +93,10 @@ impl TextWidget {
         self.text.len()
     }
 
-    /// Its characters, but for the last newline, in two pieces, of which the second stands behind the first.
-    pub fn pieces(&self) -> (&[u8], &[u8])
-        ensures value { result.0.now ++ result.1.now ≡ self.now.text }
-        ensures text { IsText result.0.now × IsText result.1.now }
+    /// Its characters, but for the last newline, in three pieces, of which each stands behind the one before it.
+    pub fn pieces(&self) -> (&[u8], &[u8], &[u8])
+        ensures value { result.0.now ++ (result.1.now ++ result.2.now) ≡ self.now.text }
+        ensures text { IsText result.0.now × (IsText result.1.now × IsText result.2.now) }
         ensures short { IsShort self.now.text }
     {
         self.text.pieces()

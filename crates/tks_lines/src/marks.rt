@@ -4,7 +4,7 @@ ghost use Rattle.std.specs.List.{AllByRecursion, list_any};
 ghost use Rattle.tks_text.specs.Short.{IsShort};
 ghost use Rattle.tks_lines.specs.Lines.{is_listed, is_mark, mark_named, goes_on, moved_on, moved_back, put_at, with_mark, without_marks, turned, turned_marks, cursor_name};
 
-use crate::gap::MAX_LEN;
+use crate::lined_text::MAX_LEN;
 use crate::parts::Mark;
 use std::alloc::{AllocError, Global};
 use std::marker::Model;

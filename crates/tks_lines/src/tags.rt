@@ -5,7 +5,7 @@ ghost use Rattle.tks_text.specs.Short.{IsShort};
 ghost use Rattle.tks_lines.specs.Lines.{Differ, is_tag, is_around, is_among, with_tag, with_tags, without_tags, tagged, grown, shrunk, painted, new_tag};
 
 use crate::flag_list::Flags;
-use crate::gap::MAX_LEN;
+use crate::lined_text::MAX_LEN;
 use crate::marks::is_listed;
 use crate::parts::Tag;
 use std::alloc::{AllocError, Global};

@@ -95,16 +95,31 @@ pub fn put_text(out: &mut Vec<u8>, text: &Txt) -> Result<(), AllocError>
     Ok(())
 }
 
-/// Adds a text that stands in two pieces, one behind the other.
-#[tactic(auto, using(crate::proofs::Puts::still, crate::proofs::Puts::put_behind, tks_text::proofs::Texts::text_append))]
-pub fn put_pieces(out: &mut Vec<u8>, front: &[u8], behind: &[u8]) -> Result<(), AllocError>
-    requires short { IsShort (front.now ++ behind.now) }
-    requires text { IsText front.now × IsText behind.now }
-    ensures puts { PutsSo result out.old.items out.new.items (spellings.text.write (front.now ++ behind.now)) }
-    ensures legal { OnOk result (spellings.text.Legal (front.now ++ behind.now)) }
+// Adds bytes that stand in two pieces, one behind the other.
+#[tactic(auto, using(crate::proofs::Puts::still, crate::proofs::Puts::put_behind))]
+fn put_both(out: &mut Vec<u8>, front: &[u8], behind: &[u8]) -> Result<(), AllocError>
+    ensures { PutsSo result out.old.items out.new.items (front.now ++ behind.now) }
 {
-    put_u32(out, (front.len() + behind.len()) as u32)?;
     put(out, front)?;
     put(out, behind)?;
+    Ok(())
+}
+
+/// Adds a text that stands in three pieces, one behind the other.
+#[tactic(auto, using(crate::proofs::Puts::still, crate::proofs::Puts::put_behind, tks_text::proofs::Texts::text_append))]
+pub fn put_pieces(
+    out: &mut Vec<u8>,
+    front: &[u8],
+    middle: &[u8],
+    behind: &[u8],
+) -> Result<(), AllocError>
+    requires short { IsShort (front.now ++ (middle.now ++ behind.now)) }
+    requires text { IsText front.now × (IsText middle.now × IsText behind.now) }
+    ensures puts { PutsSo result out.old.items out.new.items (spellings.text.write (front.now ++ (middle.now ++ behind.now))) }
+    ensures legal { OnOk result (spellings.text.Legal (front.now ++ (middle.now ++ behind.now))) }
+{
+    put_u32(out, (front.len() + middle.len() + behind.len()) as u32)?;
+    put(out, front)?;
+    put_both(out, middle, behind)?;
     Ok(())
 }

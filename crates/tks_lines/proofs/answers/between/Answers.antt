@@ -1,5 +1,5 @@
 use Rattle.std.proofs.Common.{◌≡◌, ◌-◌, min, length, take, drop, inl, inr, ap, ◌∙◌}
-use Rattle.tks_lines.proofs.Gapped.{told_inside, told_none}
+use Rattle.tks_lines.proofs.Told.{told_inside, told_none}
 use Rattle.tks_lines.proofs.answers.between.Goals as goal
 
 pub returns : goal.returns
