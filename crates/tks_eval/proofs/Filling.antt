@@ -21,7 +21,7 @@ use Rattle.tks_eval.specs.declared.frame.Frame.{Frame}
 use Rattle.tks_eval.specs.declared.words.Inner.{Inner}
 use Rattle.tks_eval.specs.declared.words.Inner.TheVariants as inner
 use Rattle.tks_eval.proofs.Runs.{appended_some, appended_on, appended_over}
-use Rattle.tks_eval.proofs.Values.{after_fails}
+use Rattle.tks_eval.proofs.After.{after_fails, given_after, given_same}
 
 -- an interrupt passes on
 pub fails_after : {X Y : Type 0} (why : Interrupt) (r : Result X Cause) (next : X → Result Y Cause) → FailsSo why r → FailsSo why (tcl.after r next)
@@ -109,27 +109,16 @@ module _ (limits : Limits) (variables : Variables) where
       word_falls expand parts rest words stand (filled limits variables parts []) (λ x. filled_falls parts [] x) (λ words. words_fall rest words stand) e
 
   module _ {S : Type 0} (inner : Level S) (state : S) (fuel : ℕ) where
-    given_after : {X Y : Type 0} (r : Result X Cause) (next : X → Result Y Cause) (then_does : Y → Outcome S)
-        → given limits (tcl.after r next) state variables fuel then_does ≡ given limits r state variables fuel (λ x. given limits (next x) state variables fuel then_does)
-    given_after (Ok x) next then_does = refl
-    given_after (Err (Fault fault)) next then_does = refl
-    given_after (Err OverLimit) next then_does = refl
-
-    given_same : {X : Type 0} (r : Result X Cause) (f g : X → Outcome S) → ((x : X) → f x ≡ g x) → given limits r state variables fuel f ≡ given limits r state variables fuel g
-    given_same (Ok x) f g h = h x
-    given_same (Err (Fault fault)) f g h = refl
-    given_same (Err OverLimit) f g h = refl
-
     -- the text of a word: first as far as it goes at once
     pub parts_filled : (parts : Parts) (made : List ℕ) → parts_do limits inner parts made state variables fuel
         ≡ given limits (filled limits variables parts made) state variables fuel (λ x. parts_do limits inner x.0 x.1 state variables fuel)
     parts_filled no_part made = refl
     parts_filled (char c rest) made =
-        given_same (appended limits made (c ∷ [])) _ _ (λ m. parts_filled rest m)
-        ∙ sym (given_after (appended limits made (c ∷ [])) (λ made. filled limits variables rest made) (λ x. parts_do limits inner x.0 x.1 state variables fuel))
+        given_same limits state variables fuel (appended limits made (c ∷ [])) _ _ (λ m. parts_filled rest m)
+        ∙ sym (given_after limits state variables fuel (appended limits made (c ∷ [])) (λ made. filled limits variables rest made) (λ x. parts_do limits inner x.0 x.1 state variables fuel))
     parts_filled (variable name rest) made =
-        given_same (with_value limits variables name made) _ _ (λ m. parts_filled rest m)
-        ∙ sym (given_after (with_value limits variables name made) (λ made. filled limits variables rest made) (λ x. parts_do limits inner x.0 x.1 state variables fuel))
+        given_same limits state variables fuel (with_value limits variables name made) _ _ (λ m. parts_filled rest m)
+        ∙ sym (given_after limits state variables fuel (with_value limits variables name made) (λ made. filled limits variables rest made) (λ x. parts_do limits inner x.0 x.1 state variables fuel))
     parts_filled (element name index rest) made = refl
     parts_filled (nested script rest) made = refl
 
@@ -165,8 +154,8 @@ module _ {S : Type 0} (host : Meaning S) (limits : Limits) where
         ≡ given limits (tcl.after r (λ x. made_or x.0 (Upto words expand x.0 x.1 rest)
         (tcl.after (words_in expand x.1) (λ more. words_made limits variables rest (words ++ more))))) state variables fuel words_go
     word_goes words expand rest (Ok (no_part, made)) h =
-        given_same limits variables level state fuel (words_in expand made) _ _ (λ more. h (words ++ more))
-        ∙ sym (given_after limits variables level state fuel (words_in expand made) (λ more. words_made limits variables rest (words ++ more)) words_go)
+        given_same limits state variables fuel (words_in expand made) _ _ (λ more. h (words ++ more))
+        ∙ sym (given_after limits state variables fuel (words_in expand made) (λ more. words_made limits variables rest (words ++ more)) words_go)
     word_goes words expand rest (Ok (char c parts, made)) h = refl
     word_goes words expand rest (Ok (variable name parts, made)) h = refl
     word_goes words expand rest (Ok (element name index parts, made)) h = refl

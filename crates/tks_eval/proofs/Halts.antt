@@ -12,17 +12,15 @@ use Rattle.tks_tcl.specs.declared.stop.Stop.{Stop}
 use Rattle.tks_tcl.specs.declared.stop.Stop.TheVariants as stop
 use Rattle.tks_eval.specs.Outcome.{Outcome, End, Stopped, Why, Next, Level, Answer, OutOfSteps, TooDeep, TooLarge, Meaning, after_step, fails, given}
 use Rattle.tks_eval.specs.Meets.{AnswersSo, StopsSo, FailsSo, TakesStep, TellsSo, ReadsSo, halt_of_interrupt, halt_of_failure}
-use Rattle.tks_eval.specs.Evaluation.{plain_does, host_does, evaluate, text_done, and_then, made_text, value_does, if_holds, after_truth, tested}
+use Rattle.tks_eval.specs.Evaluation.{plain_does, host_does, evaluate, if_holds, after_truth, tested}
 use Rattle.tks_tcl.specs.Plain as commands
 use Rattle.tks_text.specs.Fault.{fault_text, Gives}
 use Rattle.tks_text.specs.declared.fault.Failure.{Failure}
 use Rattle.tks_text.specs.declared.fault.Failure.TheVariants as failure
 use Rattle.tks_tcl.specs.Cause.{value_or_fault}
 use Rattle.tks_expr.specs.Operation.{truth_of}
-use Rattle.tks_expr.specs.Reading.{expr_of}
-use Rattle.tks_expr.specs.Value.{by_condition}
-use Rattle.tks_expr.specs.declared.tree.Link.{Link}
-use Rattle.tks_eval.specs.Values.{told_text, by_truth, links_do}
+use Rattle.tks_expr.specs.Compiled.{items_in}
+use Rattle.tks_eval.specs.Counting.{items_go}
 use Rattle.tks_eval.specs.Machine.{resume, GoesSo}
 use Rattle.tks_eval.specs.declared.halt.Halt.{Halt}
 use Rattle.tks_eval.specs.declared.halt.Halt.TheVariants as halt
@@ -30,7 +28,8 @@ use Rattle.tks_eval.specs.declared.machine.Machine.{Machine}
 use Rattle.tks_eval.specs.declared.frame.Frame.{Frame}
 use Rattle.tks_eval.specs.declared.frame.Frame.TheVariants as frame
 use Rattle.tks_eval.specs.declared.loops.Stage.TheVariants as stage
-use Rattle.tks_eval.proofs.Values.{value_stops, links_fail, after_fails}
+use Rattle.tks_eval.proofs.After.{after_fails}
+use Rattle.tks_eval.proofs.Counting.{expression_counts}
 
 module _ {S : Type 0} (host : Meaning S) (limits : Limits) where
   pub resume_stopped : (left : ℕ) (stack : List Frame) (why : Why) → resume host limits left stack (Stopped why) ≡ Stopped why
@@ -41,10 +40,8 @@ module _ {S : Type 0} (host : Meaning S) (limits : Limits) where
   resume_stopped left (frame.Element name made parts ∷ below) why = resume_stopped left below why
   resume_stopped left (frame.Catch name ∷ below) why = resume_stopped left below why
   resume_stopped left (frame.Each name body items ∷ below) why = resume_stopped left below why
-  resume_stopped left (frame.Value f ∷ below) why =
-      ap (resume host limits left below) (value_stops limits (evaluate host limits left) f why) ∙ resume_stopped left below why
-  resume_stopped left (frame.Made f ∷ below) why =
-      ap (resume host limits left below) (value_stops limits (evaluate host limits left) f why) ∙ resume_stopped left below why
+  resume_stopped left (frame.Value c ∷ below) why = resume_stopped left below why
+  resume_stopped left (frame.Whole ∷ below) why = resume_stopped left below why
   resume_stopped left (frame.Branch body rest ∷ below) why = resume_stopped left below why
   resume_stopped left (frame.Turns stage.Start loop ∷ below) why = resume_stopped left below why
   resume_stopped left (frame.Turns stage.Condition loop ∷ below) why = resume_stopped left below why
@@ -78,31 +75,20 @@ module _ {S : Type 0} (host : Meaning S) (limits : Limits) where
     fault_halts view value next (failure.Script fault) h = ap (λ v. resume host limits m.left m.stack (given limits (value_or_fault v) state variables m.fuel next)) h
     fault_halts view value next failure.NoMemory h = tt
 
-    -- the same of the text of an operand, with links behind it
-    pub text_halts : {X : Type 0} (view : X → List ℕ) (links : List Link) (value : Result (List ℕ) ScriptFault) (why : Failure) → Gives view (Err why) value
-        → GoesSo host limits (resume host limits m.left m.stack (links_do limits (evaluate host limits m.left) links (told_text limits (evaluate host limits m.left) value state variables m.fuel)))
-        (Err (halt_of_failure why)) m state variables
-    text_halts view links value (failure.Script fault) h =
-        ap (λ v. resume host limits m.left m.stack (links_do limits (evaluate host limits m.left) links (told_text limits (evaluate host limits m.left) v state variables m.fuel))) h
-        ∙ ap (resume host limits m.left m.stack) (links_fail limits (evaluate host limits m.left) links fault state variables m.fuel)
-    text_halts view links value failure.NoMemory h = tt
-
-    -- the same of its truth
-    pub truth_halts : {X : Type 0} (view : X → Bool) (links : List Link) (text : List ℕ) (first second : Next S) (why : Failure) → Gives view (Err why) (truth_of text)
-        → GoesSo host limits (resume host limits m.left m.stack (links_do limits (evaluate host limits m.left) links (by_truth limits (evaluate host limits m.left) text first second state variables m.fuel)))
-        (Err (halt_of_failure why)) m state variables
-    truth_halts view links text first second (failure.Script fault) h =
-        ap (λ v. resume host limits m.left m.stack (links_do limits (evaluate host limits m.left) links
-        (by_condition text_done (fails limits) and_then (made_text limits (evaluate host limits m.left)) v first second state variables m.fuel))) h
-        ∙ ap (resume host limits m.left m.stack) (links_fail limits (evaluate host limits m.left) links fault state variables m.fuel)
-    truth_halts view links text first second failure.NoMemory h = tt
+    -- the truth of a condition that isn't there
+    pub truth_halts : {X : Type 0} (view : X → Bool) (text : List ℕ) (first second : Next S) (why : Failure) → Gives view (Err why) (truth_of text)
+        → GoesSo host limits (resume host limits m.left m.stack (after_truth limits (End 0 text state variables m.fuel) first second)) (Err (halt_of_failure why)) m state variables
+    truth_halts view text first second (failure.Script fault) h =
+        ap (λ v. resume host limits m.left m.stack (given limits (value_or_fault v) state variables m.fuel (λ holds. if_holds holds first second state variables m.fuel))) h
+    truth_halts view text first second failure.NoMemory h = tt
 
     -- a condition that can't be read
-    pub test_halts : (condition : List ℕ) (first second : Next S) (fuel : ℕ) (why : Halt) → ReadsSo (expr_of condition) (Err why) fuel m.fuel
+    pub test_halts : (condition : List ℕ) (first second : Next S) (fuel : ℕ) (why : Halt) → ReadsSo (items_in condition) (Err why) fuel m.fuel
         → GoesSo host limits (resume host limits m.left m.stack (tested limits (evaluate host limits m.left) condition first second state variables fuel)) (Err why) m state variables
     test_halts condition first second fuel (halt.Fault fault) h =
         ap (λ f. resume host limits m.left m.stack (tested limits (evaluate host limits m.left) condition first second state variables f)) h.0
-        ∙ ap (λ v. resume host limits m.left m.stack (after_truth limits (given limits (value_or_fault v) state variables m.fuel (λ e. value_does limits (evaluate host limits m.left) e state variables m.fuel)) first second)) h.1
+        ∙ ap (λ o. resume host limits m.left m.stack (after_truth limits o first second)) (expression_counts limits state variables m.fuel (evaluate host limits m.left) condition)
+        ∙ ap (λ v. resume host limits m.left m.stack (after_truth limits (given limits (value_or_fault v) state variables m.fuel (λ items. items_go limits (evaluate host limits m.left) items [] state variables m.fuel)) first second)) h.1
         ∙ ap (resume host limits m.left m.stack) (after_fails limits fault state variables m.fuel
         (λ text state variables fuel. given limits (value_or_fault (truth_of text)) state variables fuel (λ holds. if_holds holds first second state variables fuel)))
     test_halts condition first second fuel (halt.Stop stop.Budget) h =

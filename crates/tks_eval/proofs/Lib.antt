@@ -1,4 +1,4 @@
-pub mod Values
+pub mod After
 pub mod Halts
 pub mod Halves
 pub mod Runs
@@ -10,7 +10,8 @@ pub mod Framing
 pub mod Grammar
 pub mod Parameters
 pub mod Filling
-pub mod Operands
+pub mod Counting
+pub mod Coming
 pub mod AtOnce
 pub mod Reaching
 pub mod Lent

@@ -1,5 +1,5 @@
 -- How far words and commands come at once, and what goes on behind it.
-use Rattle.std.proofs.Common.{◌≡◌, ◌==◌, ◌≤◌, ◌<◌, ◌+◌, ◌*◌, ℕ, suc, false, List, [], ◌∷◌, ◌++◌, length, Some, Result, Ok, Err, Bool, cond, refl, sym, subst, ap, ◌∙◌, arith}
+use Rattle.std.proofs.Common.{◌≡◌, ◌==◌, ◌≤◌, ◌<◌, ◌+◌, ◌*◌, ℕ, zero, suc, true, false, List, [], ◌∷◌, ◌++◌, length, Some, Result, Ok, Err, Bool, cond, refl, sym, subst, ap, ◌∙◌, arith}
 use Rattle.tks_text.specs.declared.limits.Limits.{Limits}
 use Rattle.tks_parse.specs.Tree.{Script, no_command, faulty, command, Words, word, Parts, no_part, nested, script_size, words_size, parts_size}
 use Rattle.tks_vars.specs.Variables.{Variables}
@@ -14,7 +14,7 @@ use Rattle.tks_eval.specs.Evaluation.{evaluate, parts_do, words_in, words_do, co
 use Rattle.tks_eval.specs.Filling.{filled, left_of, IsWord}
 use Rattle.tks_eval.specs.declared.words.Inner.{Inner}
 use Rattle.tks_eval.specs.declared.words.Inner.TheVariants as inner
-use Rattle.tks_eval.specs.Machine.{HaltsSo, FillsSo, GoesSo, ReachesSo, ReachFalls, WaitsAt, RunFalls, GoesOn, GoesBefore, IsBegun, IsDone, resume, called, reached_does, result_weight, stack_weight, waits_behind, behind_script}
+use Rattle.tks_eval.specs.Machine.{text_told, EndsAs, HaltsSo, FillsSo, GoesSo, ReachesAs, ReachesSo, ReachFalls, WaitsAt, RunFalls, GoesOn, GoesBefore, IsBegun, IsDone, resume, called, reached_does, result_weight, stack_weight, waits_behind, behind_script}
 use Rattle.tks_tcl.specs.declared.stop.Stop.{Stop}
 use Rattle.tks_tcl.specs.declared.stop.Stop.TheVariants as stop
 use Rattle.tks_parse.specs.View.{parts_of, words_of, first_words, behind}
@@ -31,7 +31,8 @@ use Rattle.tks_eval.specs.declared.reach.Reached.{Reached}
 use Rattle.tks_eval.specs.declared.reach.Reached.TheVariants as reached
 use Rattle.tks_eval.proofs.Filling.{parts_filled}
 use Rattle.tks_eval.proofs.Halts.{resume_stops, host_halts}
-use Rattle.tks_eval.proofs.Values.{after_done, after_fails}
+use Rattle.tks_eval.proofs.After.{after_done, after_fails, given_after}
+use Rattle.tks_eval.proofs.AtOnce.{ends_as}
 
 module _ {S : Type 0} (host : Meaning S) (limits : Limits) (state : S) (variables : Variables) (fuel : ℕ) where
   -- a value that isn't there
@@ -41,23 +42,16 @@ module _ {S : Type 0} (host : Meaning S) (limits : Limits) (state : S) (variable
   given_none value next interrupt.TooLarge h = ap (λ v. given limits v state variables fuel next) h
   given_none value next interrupt.NoMemory h = tt
 
-  -- what follows on a value that was made of another
-  given_of : {X Y : Type 0} (value : Result X Cause) (f : X → Y) (next : Y → Outcome S)
-      → given limits (tcl.after value (λ x. Ok (f x))) state variables fuel next ≡ given limits value state variables fuel (λ x. next (f x))
-  given_of (Ok x) f next = refl
-  given_of (Err (Fault fault)) f next = refl
-  given_of (Err OverLimit) f next = refl
-
   -- what follows on one that is there
   pub given_one : {X Y : Type 0} (value : Result X Cause) (f : X → Y) (y : Y) (next : Y → Outcome S) → tcl.after value (λ x. Ok (f x)) ≡ Ok y
       → given limits value state variables fuel (λ x. next (f x)) ≡ next y
-  given_one value f y next h = sym (given_of value f next) ∙ ap (λ r. given limits r state variables fuel next) h
+  given_one value f y next h = sym (given_after limits state variables fuel value (λ x. Ok (f x)) next) ∙ ap (λ r. given limits r state variables fuel next) h
 
   -- and on one that isn't
   pub given_none_of : {X Y : Type 0} (value : Result X Cause) (f : X → Y) (next : Y → Outcome S) (why : Interrupt) → FailsSo why (tcl.after value (λ x. Ok (f x)))
       → HaltsSo host limits (given limits value state variables fuel (λ x. next (f x))) (halt_of_interrupt why) state variables fuel
   given_none_of value f next why h =
-      subst (λ o. HaltsSo host limits o (halt_of_interrupt why) state variables fuel) (given_of value f next) (given_none (tcl.after value (λ x. Ok (f x))) next why h)
+      subst (λ o. HaltsSo host limits o (halt_of_interrupt why) state variables fuel) (given_after limits state variables fuel value (λ x. Ok (f x)) next) (given_none (tcl.after value (λ x. Ok (f x))) next why h)
 
   -- nothing follows where there is nothing to go on with
   pub halts_after : (whole : Outcome S) (next : List ℕ → Next S) (why : Halt) → HaltsSo host limits whole why state variables fuel
@@ -90,9 +84,28 @@ module _ {S : Type 0} (host : Meaning S) (limits : Limits) (state : S) where
       → code ≡ 0 → first_words rest ≡ Some words
       → after (End code text state variables fuel) (commands_do host limits level rest)
       ≡ after (words_do host limits level words [] state variables fuel) (commands_do host limits level (behind rest))
-  commands_then level rest words code text variables fuel zero here =
-      ap (λ k. after (End k text state variables fuel) (commands_do host limits level rest)) zero
+  commands_then level rest words code text variables fuel none here =
+      ap (λ k. after (End k text state variables fuel) (commands_do host limits level rest)) none
       ∙ ap (λ script. commands_do host limits level script text state variables fuel) (first_then rest words here)
+
+  -- where a command or a fault is behind, nothing asks for the text of an end by code 0
+  commands_heard : (level : Level S) (rest : Script) (code : ℕ) (told text : List ℕ) (variables : Variables) (fuel : ℕ)
+      → (rest ≡ no_command → ⊥) → ((code ≡ 0 → ⊥) → told ≡ text)
+      → after (End code told state variables fuel) (commands_do host limits level rest) ≡ after (End code text state variables fuel) (commands_do host limits level rest)
+  commands_heard level rest (suc code) told text variables fuel more h =
+      ap (λ t. after (End (suc code) t state variables fuel) (commands_do host limits level rest)) (h (λ e. absurd (omega (arith, e))))
+  commands_heard level no_command zero told text variables fuel more h = absurd (more refl)
+  commands_heard level (faulty fault) zero told text variables fuel more h = refl
+  commands_heard level (command words rest) zero told text variables fuel more h = refl
+
+  -- so it is the same where that isn't asked for
+  pub commands_ended : (asked : Bool) (level : Level S) (rest : Script) (whole : Outcome S) (end : Ending) (variables : Variables) (fuel : ℕ)
+      → (asked ≡ false → rest ≡ no_command → ⊥) → EndsAs asked whole end state variables fuel
+      → after whole (commands_do host limits level rest) ≡ after (End end.code end.text state variables fuel) (commands_do host limits level rest)
+  commands_ended true level rest whole end variables fuel more h = ap (λ o. after o (commands_do host limits level rest)) h
+  commands_ended false level rest whole end variables fuel more h =
+      ap (λ o. after o (commands_do host limits level rest)) h.0
+      ∙ commands_heard level rest end.code (text_told whole) end.text variables fuel (more refl) h.1
 
   -- a command that goes on, where as many scripts may yet be opened in one another, and on the same stack
   pub goes_on_from : (there left : ℕ) (here stack : List Frame) (r : Reached) (result : Result Now Halt) (new : Machine) (variables : Variables) (fuel : ℕ) (state' : S) (variables' : Variables)
@@ -128,6 +141,33 @@ falls_on (reached.Counts e) result size fuel old new h k = (omega (arith, h, k),
 falls_on (reached.Calls given) result size fuel old new h k = (omega (arith, h, k), λ e. absurd (omega (arith, h, k, e)))
 falls_on (reached.Waits w) result size fuel old new h k =
     (omega (arith, h.0, k.0), λ e. let less = k.1 (omega (arith, h.0, k.0, e)) in let small = h.1 (omega (arith, h.0, k.0, e)) in omega (arith, less, small))
+
+module _ {S : Type 0} (host : Meaning S) (limits : Limits) (left : ℕ) (whole : Outcome S) (state : S) (variables : Variables) (fuel : ℕ) where
+  -- a command that is told whole, whether its text was asked for
+  pub reaches_as : (asked : Bool) (r : Reached) → whole ≡ reached_does host limits left r state variables fuel → ReachesAs host limits asked left whole r state variables fuel
+  reaches_as asked (reached.Ended end) h = ends_as asked whole end state variables fuel h
+  reaches_as asked (reached.Opens script) h = h
+  reaches_as asked (reached.Runs c given) h = h
+  reaches_as asked (reached.Counts e) h = h
+  reaches_as asked (reached.Calls given) h = h
+  reaches_as asked (reached.Waits w) h = h
+
+  -- one whose text was asked for, or that didn't end, is told whole
+  pub reaches_whole : (r : Reached) → ReachesAs host limits true left whole r state variables fuel → whole ≡ reached_does host limits left r state variables fuel
+  reaches_whole (reached.Ended end) h = h
+  reaches_whole (reached.Opens script) h = h
+  reaches_whole (reached.Runs c given) h = h
+  reaches_whole (reached.Counts e) h = h
+  reaches_whole (reached.Calls given) h = h
+  reaches_whole (reached.Waits w) h = h
+
+  pub reaches_begun : (asked : Bool) (r : Reached) → IsBegun r → ReachesAs host limits asked left whole r state variables fuel → whole ≡ reached_does host limits left r state variables fuel
+  reaches_begun asked (reached.Ended end) b h = absurd b
+  reaches_begun asked (reached.Opens script) b h = h
+  reaches_begun asked (reached.Runs c given) b h = h
+  reaches_begun asked (reached.Counts e) b h = h
+  reaches_begun asked (reached.Calls given) b h = h
+  reaches_begun asked (reached.Waits w) b h = h
 
 -- a command that didn't end
 pub begun : (r : Reached) → ((e : Ending) → r ≡ reached.Ended e → ⊥) → IsBegun r
@@ -199,8 +239,8 @@ waits_weigh no_command levels (frame.Nested made parts ∷ below) = omega arith
 waits_weigh no_command levels (frame.Element name made parts ∷ below) = omega arith
 waits_weigh no_command levels (frame.Catch name ∷ below) = omega arith
 waits_weigh no_command levels (frame.Each name body elements ∷ below) = omega arith
-waits_weigh no_command levels (frame.Value f ∷ below) = omega arith
-waits_weigh no_command levels (frame.Made f ∷ below) = omega arith
+waits_weigh no_command levels (frame.Value c ∷ below) = omega arith
+waits_weigh no_command levels (frame.Whole ∷ below) = omega arith
 waits_weigh no_command levels (frame.Branch body rest ∷ below) = omega arith
 waits_weigh no_command levels (frame.Turns stage loop ∷ below) = omega arith
 waits_weigh no_command levels (frame.Procedure k ∷ below) = omega arith
@@ -222,8 +262,8 @@ module _ {S : Type 0} (host : Meaning S) (limits : Limits) where
   waits_resume left no_command levels (frame.Element name made parts ∷ below) outcome = refl
   waits_resume left no_command levels (frame.Catch name ∷ below) outcome = refl
   waits_resume left no_command levels (frame.Each name body elements ∷ below) outcome = refl
-  waits_resume left no_command levels (frame.Value f ∷ below) outcome = refl
-  waits_resume left no_command levels (frame.Made f ∷ below) outcome = refl
+  waits_resume left no_command levels (frame.Value c ∷ below) outcome = refl
+  waits_resume left no_command levels (frame.Whole ∷ below) outcome = refl
   waits_resume left no_command levels (frame.Branch body rest ∷ below) outcome = refl
   waits_resume left no_command levels (frame.Turns stage loop ∷ below) outcome = refl
   waits_resume left no_command levels (frame.Procedure k ∷ below) outcome =
@@ -291,9 +331,9 @@ module _ {S : Type 0} (host : Meaning S) (limits : Limits) (left : ℕ) (state :
       ∙ ap (λ parts. words_do host limits (evaluate host limits left) (word false parts (words_of rest)) words state variables fuel) k
 
   -- where it waits
-  pub waits_reach : (words : List (List ℕ)) (rest : List Word) (script : Script) (result : Result Reached Halt) → WaitsAt words rest script result
-      → ReachesSo host limits left (result_then script rest words) result state variables fuel
-  waits_reach words rest script (Ok (reached.Waits w)) h =
+  pub waits_reach : (asked : Bool) (words : List (List ℕ)) (rest : List Word) (script : Script) (result : Result Reached Halt) → WaitsAt words rest script result
+      → ReachesSo host limits asked left (result_then script rest words) result state variables fuel
+  waits_reach asked words rest script (Ok (reached.Waits w)) h =
       ap (λ ws. result_then script rest ws) (sym h.0)
       ∙ ap (λ r. result_then script r w.value.words) (sym h.2)
       ∙ ap (λ parts. after (parts_do limits (evaluate host limits left) parts [] state variables fuel) (behind_word host limits state (evaluate host limits left) false (words_of w.value.rest) w.value.words)) (sym h.4)
@@ -301,12 +341,12 @@ module _ {S : Type 0} (host : Meaning S) (limits : Limits) (left : ℕ) (state :
       (behind_word host limits state (evaluate host limits left) false (words_of w.value.rest) w.value.words)) (sym h.3)
       ∙ ap (λ expand. after (parts_do limits (evaluate host limits left) (left_of (Some w.value.inner) (parts_of w.value.parts)) w.value.made state variables fuel)
       (behind_word host limits state (evaluate host limits left) expand (words_of w.value.rest) w.value.words)) (sym h.1)
-  waits_reach words rest script (Ok (reached.Ended end)) h = absurd h
-  waits_reach words rest script (Ok (reached.Opens s)) h = absurd h
-  waits_reach words rest script (Ok (reached.Runs c given)) h = absurd h
-  waits_reach words rest script (Ok (reached.Counts e)) h = absurd h
-  waits_reach words rest script (Ok (reached.Calls given)) h = absurd h
-  waits_reach words rest script (Err why) h = subst (λ k. HaltsSo host limits (result_then script rest words) k state variables fuel) (sym h) tt
+  waits_reach asked words rest script (Ok (reached.Ended end)) h = absurd h
+  waits_reach asked words rest script (Ok (reached.Opens s)) h = absurd h
+  waits_reach asked words rest script (Ok (reached.Runs c given)) h = absurd h
+  waits_reach asked words rest script (Ok (reached.Counts e)) h = absurd h
+  waits_reach asked words rest script (Ok (reached.Calls given)) h = absurd h
+  waits_reach asked words rest script (Err why) h = subst (λ k. HaltsSo host limits (result_then script rest words) k state variables fuel) (sym h) tt
 
 pub waits_fall : (words : List (List ℕ)) (rest : List Word) (script : Script) (result : Result Reached Halt) (size old new : ℕ) → WaitsAt words rest script result
     → 1 + parts_size (nested script no_part) + words_size (words_of rest) ≤ size → new ≤ old → ReachFalls result size old new

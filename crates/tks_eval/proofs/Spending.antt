@@ -19,14 +19,13 @@ use Rattle.tks_tcl.specs.Variables.{stores}
 use Rattle.tks_expr.specs.Tree.{Expr, Literal, Made, One, Two, Both, Either, Conditional}
 use Rattle.tks_expr.specs.Operation.{truth_of, applied, applied_unary, result_of}
 use Rattle.tks_expr.specs.Reading.{expr_of}
-use Rattle.tks_expr.specs.Value.{by_condition}
+use Rattle.tks_expr.specs.Value.{told, by_condition, truth_text}
 use Rattle.tks_eval.specs.Outcome.{Outcome, End, Stopped, OutOfSteps, TooLarge, Next, Level, Answer, Unknown, Comes, PassesLimit, Taken, Nothing, Takes, TooMuch, Meaning, after_step, after, after_taken, after_body, after_next, caught, appended, fails, given}
 use Rattle.tks_eval.specs.Names.{Control, control_named}
 use Rattle.tks_eval.specs.Names as control
 use Rattle.tks_eval.specs.Branches.{Test, Branches, Condition, branches}
 use Rattle.tks_eval.specs.Procedures.{entered, proc_form}
 use Rattle.tks_eval.specs.Evaluation.{Loop, element_name, with_value, words_in, foreach_form, text_done, and_then, done, without_frame, returned, at_global, global_does, after_script, scripts_do, plan_with, noted, thing_with, things_do, update_does, plan_does, parts_do, made_text, value_does, expression_does, if_holds, after_truth, tested, wrong_words, result_told, expr_does, script_does, branches_do, form_does, behind_body, turn_does, turns, loop_does, while_does, for_does, catch_ends, catch_does, each, settled, procedure_does, control_does, host_does, plain_does, command_does, call, words_do, commands_do, evaluate}
-use Rattle.tks_eval.specs.Values.{told_text, by_truth, truth_told}
 use Rattle.tks_eval.specs.declared.host.Due.{Due}
 use Rattle.tks_eval.specs.declared.host.Plan.{Plan}
 use Rattle.tks_eval.specs.declared.host.Plan.TheVariants as plan
@@ -159,7 +158,17 @@ module _ {S : Type 0} where
           (script_spends inner thrifty script bound state variables fuel h)
           (λ text s v u k. given_spends bound (appended limits made text) s v u (λ made. parts_do limits inner rest made s v u) k (λ made. parts_spend rest made bound s v u k))
 
-      told_spends : (value : Result (List ℕ) ScriptFault) (bound : ℕ) → Within bound (told_text limits inner value)
+      -- a text or an error, and what follows on the truth of one
+      abbrev told_text : Result (List ℕ) ScriptFault → Next S
+      told_text = told text_done (fails limits) and_then (made_text limits inner)
+
+      abbrev by_truth : List ℕ → Next S → Next S → Next S
+      by_truth text = by_condition text_done (fails limits) and_then (made_text limits inner) (truth_of text)
+
+      abbrev truth_told : List ℕ → Next S
+      truth_told = truth_text text_done (fails limits) and_then (made_text limits inner)
+
+      told_spends : (value : Result (List ℕ) ScriptFault) (bound : ℕ) → Within bound (told_text value)
       told_spends (Ok x) bound state variables fuel h = h
       told_spends (Err fault) bound state variables fuel h = fails_spends fault bound state variables fuel h
 
@@ -172,33 +181,33 @@ module _ {S : Type 0} where
       text_spends : (text : List ℕ) (bound : ℕ) → Within bound (text_done text)
       text_spends text bound state variables fuel h = h
 
-      truth_spends : (text : List ℕ) (bound : ℕ) → Within bound (truth_told limits inner text)
+      truth_spends : (text : List ℕ) (bound : ℕ) → Within bound (truth_told text)
       truth_spends text bound = by_condition_spends (truth_of text) (text_done (codes "1")) (text_done (codes "0")) bound (text_spends (codes "1") bound) (text_spends (codes "0") bound)
 
       value_spends : (e : Expr) (bound : ℕ) → Within bound (value_does limits inner e)
       value_spends (Literal text) bound state variables fuel h = h
       value_spends (Made parts) bound state variables fuel h = parts_spend parts [] bound state variables fuel h
       value_spends (One op a) bound state variables fuel h =
-          after_spends bound (value_does limits inner a state variables fuel) (λ x. told_text limits inner (applied_unary op x))
+          after_spends bound (value_does limits inner a state variables fuel) (λ x. told_text (applied_unary op x))
           (value_spends a bound state variables fuel h) (λ x. told_spends (applied_unary op x) bound)
       value_spends (Two op a b) bound state variables fuel h =
-          after_spends bound (value_does limits inner a state variables fuel) (λ x s v u. after (value_does limits inner b s v u) (λ y. told_text limits inner (applied op x y)))
+          after_spends bound (value_does limits inner a state variables fuel) (λ x s v u. after (value_does limits inner b s v u) (λ y. told_text (applied op x y)))
           (value_spends a bound state variables fuel h)
-          (λ x s v u k. after_spends bound (value_does limits inner b s v u) (λ y. told_text limits inner (applied op x y)) (value_spends b bound s v u k) (λ y. told_spends (applied op x y) bound))
+          (λ x s v u k. after_spends bound (value_does limits inner b s v u) (λ y. told_text (applied op x y)) (value_spends b bound s v u k) (λ y. told_spends (applied op x y) bound))
       value_spends (Both a b) bound state variables fuel h =
-          let right : Within bound (and_then (value_does limits inner b) (truth_told limits inner)) =
-          λ s v u k. after_spends bound (value_does limits inner b s v u) (truth_told limits inner) (value_spends b bound s v u k) (λ y. truth_spends y bound) in
-          after_spends bound (value_does limits inner a state variables fuel) (λ x. by_truth limits inner x (and_then (value_does limits inner b) (truth_told limits inner)) (text_done (codes "0")))
+          let right : Within bound (and_then (value_does limits inner b) (truth_told)) =
+          λ s v u k. after_spends bound (value_does limits inner b s v u) (truth_told) (value_spends b bound s v u k) (λ y. truth_spends y bound) in
+          after_spends bound (value_does limits inner a state variables fuel) (λ x. by_truth x (and_then (value_does limits inner b) (truth_told)) (text_done (codes "0")))
           (value_spends a bound state variables fuel h)
-          (λ x. by_condition_spends (truth_of x) (and_then (value_does limits inner b) (truth_told limits inner)) (text_done (codes "0")) bound right (text_spends (codes "0") bound))
+          (λ x. by_condition_spends (truth_of x) (and_then (value_does limits inner b) (truth_told)) (text_done (codes "0")) bound right (text_spends (codes "0") bound))
       value_spends (Either a b) bound state variables fuel h =
-          let right : Within bound (and_then (value_does limits inner b) (truth_told limits inner)) =
-          λ s v u k. after_spends bound (value_does limits inner b s v u) (truth_told limits inner) (value_spends b bound s v u k) (λ y. truth_spends y bound) in
-          after_spends bound (value_does limits inner a state variables fuel) (λ x. by_truth limits inner x (text_done (codes "1")) (and_then (value_does limits inner b) (truth_told limits inner)))
+          let right : Within bound (and_then (value_does limits inner b) (truth_told)) =
+          λ s v u k. after_spends bound (value_does limits inner b s v u) (truth_told) (value_spends b bound s v u k) (λ y. truth_spends y bound) in
+          after_spends bound (value_does limits inner a state variables fuel) (λ x. by_truth x (text_done (codes "1")) (and_then (value_does limits inner b) (truth_told)))
           (value_spends a bound state variables fuel h)
-          (λ x. by_condition_spends (truth_of x) (text_done (codes "1")) (and_then (value_does limits inner b) (truth_told limits inner)) bound (text_spends (codes "1") bound) right)
+          (λ x. by_condition_spends (truth_of x) (text_done (codes "1")) (and_then (value_does limits inner b) (truth_told)) bound (text_spends (codes "1") bound) right)
       value_spends (Conditional c a b) bound state variables fuel h =
-          after_spends bound (value_does limits inner c state variables fuel) (λ x. by_truth limits inner x (value_does limits inner a) (value_does limits inner b))
+          after_spends bound (value_does limits inner c state variables fuel) (λ x. by_truth x (value_does limits inner a) (value_does limits inner b))
           (value_spends c bound state variables fuel h)
           (λ x. by_condition_spends (truth_of x) (value_does limits inner a) (value_does limits inner b) bound (value_spends a bound) (value_spends b bound))
 

@@ -4,7 +4,7 @@ use Rattle.tks_text.specs.declared.limits.Limits.{Limits}
 use Rattle.tks_parse.specs.Tree.{Words, no_word, word, Parts, no_part, char, variable, element, nested}
 use Rattle.tks_parse.specs.View.{parts_of}
 use Rattle.tks_vars.specs.Variables.{Variables}
-use Rattle.tks_tcl.specs.Cause.{Cause, after, value_or_fault}
+use Rattle.tks_tcl.specs.Cause.{Cause, after}
 use Rattle.tks_eval.specs.Outcome.{appended}
 use Rattle.tks_eval.specs.Evaluation.{with_value, words_in}
 use Rattle.tks_eval.specs.declared.words.Inner.{Inner}
@@ -16,12 +16,6 @@ use Rattle.tks_eval.specs.declared.frame.Now.TheVariants as now
 use Rattle.tks_parse.specs.declared.tree.Part.{Part}
 use Rattle.tks_parse.specs.declared.tree.Word.{Word}
 use Rattle.tks_list.specs.Reading.{list_of}
-use Rattle.tks_expr.specs.Tree.{Expr, Literal, Made, One, Two, Both, Either, Conditional}
-use Rattle.tks_expr.specs.Operation.{applied, truth_of}
-use Rattle.tks_expr.specs.declared.operator.Binary.{Binary}
-use Rattle.tks_expr.specs.declared.sign.Join.{Join}
-use Rattle.tks_expr.specs.declared.sign.Join.TheVariants.{Of, And, Or}
-use Rattle.tks_expr.specs.declared.tree.Link.{Link}
 
 -- the parts behind the characters and the scalars that come first, and the text with these
 abbrev pub filled : Limits → Variables → Parts → List ℕ → Result (Parts × List ℕ) Cause
@@ -81,47 +75,3 @@ abbrev pub IsListWord : Limits → Variables → Word → List (List ℕ) → Ty
 IsListWord limits variables w list =
     IsWord limits variables w (text_filled (filled limits variables w.parts []))
     × (list_of (text_filled (filled limits variables w.parts [])) ≡ Some list)
-
--- ---- expressions
-
--- a text that nothing is left of, if it is one
-abbrev pub whole : Parts → List ℕ → Option (List ℕ)
-whole no_part made = Some made
-whole (char c rest) made = None
-whole (variable name rest) made = None
-whole (element name index rest) made = None
-whole (nested script rest) made = None
-
--- what comes of a text, if there is one
-abbrev pub if_made : {X : Type 0} → Option (List ℕ) → (List ℕ → Result (Option X) Cause) → Result (Option X) Cause
-if_made None next = Ok None
-if_made (Some text) next = next text
-
--- the text of an operator behind a left operand of this text, where the right one has a text
-abbrev pub right_made : Binary → List ℕ → Result (Option (List ℕ)) Cause → Result (Option (List ℕ)) Cause
-right_made op x right = after right (λ r. if_made r (λ y. after (value_or_fault (applied op x y)) (λ text. Ok (Some text))))
-
--- the text of a link, whose operands come to these; of `&&` and `||` there is none
-abbrev pub link_made : Join → Result (Option (List ℕ)) Cause → Result (Option (List ℕ)) Cause → Result (Option (List ℕ)) Cause
-link_made (Of op) right left = after left (λ l. if_made l (λ x. right_made op x right))
-link_made And right left = after left (λ l. Ok None)
-link_made Or right left = after left (λ l. Ok None)
-
--- the text of an expression that is made at once: of literals, variables, and operators between them
-abbrev pub value_made : Limits → Variables → Expr → Result (Option (List ℕ)) Cause
-value_made limits variables (Literal text) = Ok (Some text)
-value_made limits variables (Made parts) = after (filled limits variables parts []) (λ x. Ok (whole x.0 x.1))
-value_made limits variables (One op a) = Ok None
-value_made limits variables (Two op a b) = link_made (Of op) (value_made limits variables b) (value_made limits variables a)
-value_made limits variables (Both a b) = link_made And (value_made limits variables b) (value_made limits variables a)
-value_made limits variables (Either a b) = link_made Or (value_made limits variables b) (value_made limits variables a)
-value_made limits variables (Conditional c a b) = Ok None
-
--- the text of a chain behind its front
-abbrev pub links_made : Limits → Variables → List Link → Result (Option (List ℕ)) Cause → Result (Option (List ℕ)) Cause
-links_made limits variables [] left = left
-links_made limits variables (link ∷ links) left = links_made limits variables links (link_made link.join (value_made limits variables link.right) left)
-
--- whether a text that is made holds as a condition
-abbrev pub truth_made : Result (Option (List ℕ)) Cause → Result (Option Bool) Cause
-truth_made made = after made (λ o. if_made o (λ text. after (value_or_fault (truth_of text)) (λ holds. Ok (Some holds))))

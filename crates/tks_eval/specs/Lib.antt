@@ -3,7 +3,7 @@ pub mod Names
 pub mod Procedures
 pub mod Branches
 pub mod Evaluation
-pub mod Values
+pub mod Counting
 pub mod Loops
 pub mod Laws
 pub mod Grammar

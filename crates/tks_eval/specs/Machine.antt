@@ -10,30 +10,31 @@ use Rattle.tks_vars.specs.Variables.{Variables}
 use Rattle.tks_tcl.specs.Plain as commands
 use Rattle.tks_tcl.specs.Plain.{plain}
 use Rattle.tks_tcl.specs.Cause.{Cause}
-use Rattle.tks_tcl.specs.Meets.{text_of}
+use Rattle.tks_tcl.specs.Meets.{text_of, AnswersSo}
 use Rattle.tks_eval.specs.Outcome.{Outcome, End, Stopped, Meaning, Next, Level, after, after_body, caught, appended, fails, given}
-use Rattle.tks_expr.specs.Tree.{Expr, Literal, Made, One, Two, Both, Either, Conditional}
-use Rattle.tks_expr.specs.declared.tree.Link.{Link}
-use Rattle.tks_eval.specs.Evaluation.{Loop, loop_does, element_name, with_value, parts_do, words_in, words_do, commands_do, evaluate, control_does, host_does, value_does, after_truth, branches_do, catch_ends, each, settled, without_frame, returned, after_script, scripts_do, noted, update_does, plan_does, procedure_does, result_told}
+use Rattle.tks_expr.specs.declared.items.Item.{Item}
+use Rattle.tks_expr.specs.declared.items.Item.TheVariants as item
+use Rattle.tks_eval.specs.Evaluation.{Loop, loop_does, element_name, with_value, parts_do, words_in, words_do, commands_do, evaluate, control_does, host_does, after_truth, branches_do, catch_ends, each, settled, without_frame, returned, after_script, scripts_do, noted, update_does, plan_does, procedure_does, result_told}
 use Rattle.tks_eval.specs.Filling.{left_of, Stand, All, Upto, words_made}
 use Rattle.tks_eval.specs.Names.{Control, control_named}
 use Rattle.tks_eval.specs.Names as control
-use Rattle.tks_eval.specs.Values.{after_value}
+use Rattle.tks_eval.specs.Counting.{counts_on}
 use Rattle.tks_eval.specs.Loops.{after_stage}
 use Rattle.tks_eval.specs.Meets.{StopsSo}
 use Rattle.tks_eval.specs.declared.control.Control.{Control as Coded}
 use Rattle.tks_eval.specs.declared.control.Control.TheVariants as coded
 use Rattle.tks_eval.specs.declared.frame.Frame.{Frame}
 use Rattle.tks_eval.specs.declared.frame.Frame.TheVariants as frame
-use Rattle.tks_eval.specs.declared.expressions.ValueFrame.{ValueFrame}
-use Rattle.tks_eval.specs.declared.expressions.ValueFrame.TheVariants as value
+use Rattle.tks_eval.specs.declared.expressions.Waits.{Waits}
+use Rattle.tks_eval.specs.declared.expressions.Counted.{Counted}
+use Rattle.tks_eval.specs.declared.expressions.Counted.TheVariants as counted
 use Rattle.tks_eval.specs.declared.loops.Stage.{Stage}
 use Rattle.tks_eval.specs.declared.loops.Stage.TheVariants as stage
 use Rattle.tks_eval.specs.declared.loops.Turn.{Turn}
 use Rattle.tks_eval.specs.declared.loops.Turn.TheVariants as turn
 use Rattle.tks_eval.specs.declared.frame.Ending.{Ending}
 use Rattle.tks_eval.specs.declared.frame.Now.{Now}
-use Rattle.tks_eval.specs.declared.frame.Now.TheVariants.{Open, Index, Value, Planned, At}
+use Rattle.tks_eval.specs.declared.frame.Now.TheVariants.{Open, Index, Counts, Planned, At}
 use Rattle.tks_eval.specs.declared.host.Plan.{Plan}
 use Rattle.tks_eval.specs.declared.host.Plan.TheVariants as plan
 use Rattle.tks_eval.specs.declared.machine.Machine.{Machine}
@@ -46,6 +47,7 @@ use Rattle.tks_eval.specs.declared.reach.Reached.{Reached}
 use Rattle.tks_eval.specs.declared.reach.Reached.TheVariants as reached
 use Rattle.tks_eval.specs.declared.halt.Halt.{Halt}
 use Rattle.tks_eval.specs.declared.halt.Halt.TheVariants as halt
+use Rattle.tks_tcl.specs.declared.stop.Stop.{Stop}
 use Rattle.tks_tcl.specs.declared.stop.Stop.TheVariants as stops
 
 -- the command that the code means
@@ -92,6 +94,12 @@ AnswersAs true answer end variables = answer ≡ Some (commands.Answers end.code
 AnswersAs false answer end variables =
     (answer ≡ Some (commands.Answers end.code (text_of answer) variables)) × ((end.code ≡ 0 → ⊥) → text_of answer ≡ end.text)
 
+-- what was answered, from old variables to new ones, is the definition's; want of memory may come anywhere
+abbrev pub PlainlySo : Bool → Result (Option Ending) Stop → Variables → Variables → Option commands.Answer → Type 0
+PlainlySo asked (Ok (Some end)) old new answer = AnswersAs asked answer end new
+PlainlySo asked (Ok None) old new answer = AnswersSo (Ok None) old new answer
+PlainlySo asked (Err why) old new answer = AnswersSo (Err why) old new answer
+
 -- words that are all made are those of a command that runs no script, and ends with this code and this text
 abbrev pub AnswersWords : Limits → Variables → Words → ℕ → List ℕ → Type 0
 AnswersWords limits variables words code text =
@@ -120,9 +128,8 @@ module _ {S : Type 0} (host : Meaning S) (limits : Limits) where
       parts_do limits (evaluate host limits left) (parts_of parts) made state variables fuel))
   after_frame left (frame.Catch name) outcome = caught outcome (catch_ends limits name)
   after_frame left (frame.Each name body elements) outcome = after_body outcome (each limits (evaluate host limits left) name body elements)
-  after_frame left (frame.Value f) outcome = after_value limits (evaluate host limits left) f outcome
-  after_frame left (frame.Made f) outcome =
-      after_value limits (evaluate host limits left) f (behind_script limits (evaluate host limits left) no_part [] outcome)
+  after_frame left (frame.Value c) outcome = counts_on limits (evaluate host limits left) c outcome
+  after_frame left frame.Whole outcome = result_told limits outcome
   after_frame left (frame.Branch body rest) outcome =
       after_truth limits outcome (evaluate host limits left (script_of body)) (branches_do limits (evaluate host limits left) rest.otherwise rest.tests)
   after_frame left (frame.Turns stage loop) outcome = after_stage limits (evaluate host limits left) stage loop outcome
@@ -146,11 +153,17 @@ module _ {S : Type 0} (host : Meaning S) (limits : Limits) where
   resume left [] outcome = outcome
   resume left (frame ∷ below) outcome = resume (left_below left frame) below (after_frame left frame outcome)
 
+  -- an expression that waits
+  abbrev pub waits_do : ℕ → Waits → Next S
+  waits_do left w state variables fuel =
+      counts_on limits (evaluate host limits left) w.counting
+      (parts_do limits (evaluate host limits left) (left_of (Some w.inner) (parts_of w.parts)) w.made state variables fuel)
+
   -- the end on top
   abbrev pub outcome_now : ℕ → Now → Next S
   outcome_now left (Open script) state variables fuel = evaluate host limits left script state variables fuel
   outcome_now left (Index parts) state variables fuel = parts_do limits (evaluate host limits left) (parts_of parts) [] state variables fuel
-  outcome_now left (Value e) state variables fuel = value_does limits (evaluate host limits left) e state variables fuel
+  outcome_now left (Counts w) state variables fuel = waits_do left w.value state variables fuel
   outcome_now left (Planned p) state variables fuel = plan_does host limits (evaluate host limits left) p state variables fuel
   outcome_now left (At ended) state variables fuel = End ended.code ended.text state variables fuel
 
@@ -164,6 +177,12 @@ module _ {S : Type 0} (host : Meaning S) (limits : Limits) where
   abbrev pub HaltsSo : Outcome S → Halt → S → Variables → ℕ → Type 0
   HaltsSo whole (halt.Fault fault) state variables fuel = whole ≡ fails limits fault state variables fuel
   HaltsSo whole (halt.Stop why) state variables fuel = StopsSo whole why
+
+  -- how far an expression came at once
+  abbrev pub CountsSo : ℕ → Outcome S → Result Counted Halt → S → Variables → ℕ → Type 0
+  CountsSo left whole (Ok (counted.Value value)) state variables fuel = whole ≡ End 0 value state variables fuel
+  CountsSo left whole (Ok (counted.Waits w)) state variables fuel = whole ≡ waits_do left w.value state variables fuel
+  CountsSo left whole (Err why) state variables fuel = HaltsSo whole why state variables fuel
 
   -- how far a word was made at once
   abbrev pub FillsSo : ℕ → Outcome S → Result Filled Halt → S → Variables → ℕ → Type 0
@@ -199,14 +218,19 @@ module _ {S : Type 0} (host : Meaning S) (limits : Limits) where
   reached_does left (reached.Ended end) state variables fuel = End end.code end.text state variables fuel
   reached_does left (reached.Opens script) state variables fuel = evaluate host limits left script state variables fuel
   reached_does left (reached.Runs c given) state variables fuel = control_called (evaluate host limits left) (control_of c) (given_words given) state variables fuel
-  reached_does left (reached.Counts e) state variables fuel = result_told limits (value_does limits (evaluate host limits left) e state variables fuel)
+  reached_does left (reached.Counts w) state variables fuel = result_told limits (waits_do left w.value state variables fuel)
   reached_does left (reached.Calls given) state variables fuel = called (evaluate host limits left) (given_words given) state variables fuel
   reached_does left (reached.Waits w) state variables fuel = waiting_does left w.value state variables fuel
 
-  -- how far a command came at once
-  abbrev pub ReachesSo : ℕ → Outcome S → Result Reached Halt → S → Variables → ℕ → Type 0
-  ReachesSo left whole (Ok came) state variables fuel = whole ≡ reached_does left came state variables fuel
-  ReachesSo left whole (Err why) state variables fuel = HaltsSo whole why state variables fuel
+  -- how far a command came at once; where its text isn't asked for, another one may stand for that of an end by code 0
+  abbrev pub ReachesAs : Bool → ℕ → Outcome S → Reached → S → Variables → ℕ → Type 0
+  ReachesAs asked left whole (reached.Ended end) state variables fuel = EndsAs asked whole end state variables fuel
+  ReachesAs asked left whole came state variables fuel = whole ≡ reached_does left came state variables fuel
+
+  -- the same, or there is nothing to go on with
+  abbrev pub ReachesSo : Bool → ℕ → Outcome S → Result Reached Halt → S → Variables → ℕ → Type 0
+  ReachesSo asked left whole (Ok came) state variables fuel = ReachesAs asked left whole came state variables fuel
+  ReachesSo asked left whole (Err why) state variables fuel = HaltsSo whole why state variables fuel
 
   -- how far the commands of a script came at once, and what is behind them
   abbrev pub RunsSo : ℕ → Outcome S → Result Reached Halt → Script → S → Variables → ℕ → Type 0
@@ -240,26 +264,13 @@ waits_behind rest levels stack = frame.Commands rest levels ∷ stack
 
 -- ---- what is left to do before the next step
 
-abbrev pub value_weight : Expr → ℕ
-value_weight (Literal text) = 1
-value_weight (Made parts) = 4 * parts_size parts + 2
-value_weight (One op a) = value_weight a + 2
-value_weight (Two op a b) = value_weight a + value_weight b + 5
-value_weight (Both a b) = value_weight a + value_weight b + 5
-value_weight (Either a b) = value_weight a + value_weight b + 5
-value_weight (Conditional c a b) = value_weight c + value_weight a + value_weight b + 4
+abbrev pub items_weight : List Item → ℕ
+items_weight [] = 0
+items_weight (item.Make parts ∷ rest) = 4 * parts_size parts + 3 + items_weight rest
+items_weight (i ∷ rest) = items_weight rest
 
-abbrev pub links_weight : List Link → ℕ
-links_weight [] = 1
-links_weight (link ∷ links) = value_weight link.right + 3 + links_weight links
-
-abbrev pub value_frame_weight : ValueFrame → ℕ
-value_frame_weight (value.Link link links) = links_weight (link ∷ links)
-value_frame_weight (value.Right operator x links) = links_weight links + 1
-value_frame_weight (value.Truth links) = links_weight links + 1
-value_frame_weight (value.Signs signs) = 1
-value_frame_weight (value.Conditional a b) = value_weight a + value_weight b + 1
-value_frame_weight value.Whole = 1
+abbrev pub waits_weight : Waits → ℕ
+waits_weight w = items_weight w.counting.0 + 4 * parts_size (left_of (Some w.inner) (parts_of w.parts)) + 2
 
 abbrev pub text_weight : List ℕ → ℕ
 text_weight text = 4 * script_size (script_of text) + 2
@@ -275,8 +286,8 @@ loop_weight stage.Body loop = optional_weight loop.next + 2
 loop_weight stage.Next loop = 1
 
 abbrev pub frame_weight : Frame → ℕ
-frame_weight (frame.Value f) = value_frame_weight f
-frame_weight (frame.Made f) = value_frame_weight f + 2
+frame_weight (frame.Value c) = items_weight c.0 + 1
+frame_weight frame.Whole = 1
 frame_weight (frame.Branch body rest) = text_weight body + optional_weight rest.otherwise + 1
 frame_weight (frame.Turns stage loop) = loop_weight stage loop
 frame_weight (frame.Commands rest levels) = 4 * script_size rest + 1
@@ -304,7 +315,7 @@ plan_weight (plan.Update due) = 1
 abbrev pub now_weight : Now → ℕ
 now_weight (Open script) = 4 * script_size script + 2
 now_weight (Index parts) = 4 * parts_size (parts_of parts) + 1
-now_weight (Value e) = value_weight e
+now_weight (Counts w) = waits_weight w.value
 now_weight (Planned p) = plan_weight p
 now_weight (At ended) = 0
 
@@ -316,6 +327,12 @@ result_weight (Err why) = 0
 abbrev pub Falls : Result Now Halt → ℕ → Machine → Machine → Type 0
 Falls result weight old new =
     (new.fuel ≤ old.fuel) × (new.fuel ≡ old.fuel → result_weight result + stack_weight new.stack < weight + stack_weight old.stack)
+
+-- less is left of an expression that waits than there was
+abbrev pub CountFalls : Result Counted Halt → List Item × List (List ℕ) → Type 0
+CountFalls (Ok (counted.Value value)) c = Unit {0}
+CountFalls (Ok (counted.Waits w)) c = waits_weight w.value < items_weight c.0 + 1
+CountFalls (Err why) c = Unit {0}
 
 -- a step was taken while a word was made, or no more is left of it than this
 abbrev pub FillFalls : Result Filled Halt → ℕ → ℕ → ℕ → Type 0
@@ -340,7 +357,7 @@ abbrev pub ReachFalls : Result Reached Halt → ℕ → ℕ → ℕ → Type 0
 ReachFalls (Ok (reached.Ended end)) size old new = new ≤ old
 ReachFalls (Ok (reached.Opens script)) size old new = new < old
 ReachFalls (Ok (reached.Runs c given)) size old new = new < old
-ReachFalls (Ok (reached.Counts e)) size old new = new < old
+ReachFalls (Ok (reached.Counts w)) size old new = new < old
 ReachFalls (Ok (reached.Calls given)) size old new = new < old
 ReachFalls (Ok (reached.Waits w)) size old new = (new ≤ old) × (new ≡ old → waiting_weight w.value ≤ 4 * size)
 ReachFalls (Err why) size old new = new ≤ old
@@ -350,7 +367,7 @@ abbrev pub RunFalls : Result Reached Halt → ℕ → ℕ → ℕ → ℕ → Ty
 RunFalls (Ok (reached.Ended end)) size behind old new = new ≤ old
 RunFalls (Ok (reached.Opens script)) size behind old new = new < old
 RunFalls (Ok (reached.Runs c given)) size behind old new = new < old
-RunFalls (Ok (reached.Counts e)) size behind old new = new < old
+RunFalls (Ok (reached.Counts w)) size behind old new = new < old
 RunFalls (Ok (reached.Calls given)) size behind old new = new < old
 RunFalls (Ok (reached.Waits w)) size behind old new = (new ≤ old) × (new ≡ old → waiting_weight w.value + 4 * behind ≤ 4 * size)
 RunFalls (Err why) size behind old new = new ≤ old
@@ -360,7 +377,7 @@ abbrev pub IsDone : Result Reached Halt → Script → Type 0
 IsDone (Ok (reached.Ended end)) rest = end.code ≡ 0 → first_words rest ≡ None
 IsDone (Ok (reached.Opens script)) rest = Unit {0}
 IsDone (Ok (reached.Runs c given)) rest = Unit {0}
-IsDone (Ok (reached.Counts e)) rest = Unit {0}
+IsDone (Ok (reached.Counts w)) rest = Unit {0}
 IsDone (Ok (reached.Calls given)) rest = Unit {0}
 IsDone (Ok (reached.Waits w)) rest = Unit {0}
 IsDone (Err why) rest = Unit {0}
@@ -370,7 +387,7 @@ abbrev pub IsBegun : Reached → Type 0
 IsBegun (reached.Ended end) = ⊥
 IsBegun (reached.Opens script) = Unit {0}
 IsBegun (reached.Runs c given) = Unit {0}
-IsBegun (reached.Counts e) = Unit {0}
+IsBegun (reached.Counts w) = Unit {0}
 IsBegun (reached.Calls given) = Unit {0}
 IsBegun (reached.Waits w) = Unit {0}
 
@@ -379,7 +396,7 @@ abbrev pub GoesOn : Reached → Result Now Halt → Machine → Machine → Type
 GoesOn (reached.Ended end) result old new = Falls result 1 old new
 GoesOn (reached.Opens script) result old new = new.fuel ≤ old.fuel
 GoesOn (reached.Runs c given) result old new = new.fuel ≤ old.fuel
-GoesOn (reached.Counts e) result old new = new.fuel ≤ old.fuel
+GoesOn (reached.Counts w) result old new = new.fuel ≤ old.fuel
 GoesOn (reached.Calls given) result old new = new.fuel ≤ old.fuel
 GoesOn (reached.Waits w) result old new = Falls result (waiting_weight w.value) old new
 
@@ -388,6 +405,6 @@ abbrev pub GoesBefore : Reached → ℕ → Result Now Halt → Machine → Mach
 GoesBefore (reached.Ended end) weight result old new = ⊥
 GoesBefore (reached.Opens script) weight result old new = new.fuel ≤ old.fuel
 GoesBefore (reached.Runs c given) weight result old new = new.fuel ≤ old.fuel
-GoesBefore (reached.Counts e) weight result old new = new.fuel ≤ old.fuel
+GoesBefore (reached.Counts w) weight result old new = new.fuel ≤ old.fuel
 GoesBefore (reached.Calls given) weight result old new = new.fuel ≤ old.fuel
 GoesBefore (reached.Waits w) weight result old new = Falls result (waiting_weight w.value + weight) old new

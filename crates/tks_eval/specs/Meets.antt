@@ -1,14 +1,13 @@
 -- What the code's answers say of the definitions.
-use Rattle.std.specs.Prelude.{◌≡◌, ◌≤◌, ℕ, suc, true, false, Option, Some, None, Result, Ok, Err}
+use Rattle.std.specs.Prelude.{◌≡◌, ◌≤◌, ℕ, suc, true, false, List, Option, Some, None, Result, Ok, Err}
 use Rattle.tks_text.specs.Fault.{fault_text}
 use Rattle.tks_text.specs.declared.fault.ScriptFault.{ScriptFault}
 use Rattle.tks_text.specs.declared.limits.Limits.{Limits}
 use Rattle.tks_text.specs.declared.fault.Failure.{Failure}
 use Rattle.tks_text.specs.declared.fault.Failure.TheVariants as failure
 use Rattle.tks_vars.specs.Variables.{Variables}
-use Rattle.tks_expr.specs.Tree.{Expr}
-use Rattle.tks_tcl.specs.Cause.{Cause}
-use Rattle.tks_tcl.specs.Meets as tcl
+use Rattle.tks_expr.specs.declared.items.Item.{Item}
+use Rattle.tks_expr.specs.declared.items.Items.{Items}
 use Rattle.tks_tcl.specs.declared.interrupt.Interrupt.{Interrupt}
 use Rattle.tks_tcl.specs.declared.interrupt.Interrupt.TheVariants as interrupt
 use Rattle.tks_tcl.specs.declared.stop.Stop.{Stop}
@@ -62,18 +61,6 @@ TellsSo fault (halt.Fault told) = told ≡ fault
 TellsSo fault (halt.Stop stop.NoMemory) = Unit {0}
 TellsSo fault (halt.Stop why) = ⊥
 
--- ---- what is made at once
-
--- what there is is what was made; where there is nothing, nothing is told
-abbrev pub StandsAs : {Y : Type 0} → Option Y → Result (Option Y) Cause → Type 0
-StandsAs None made = Unit {0}
-StandsAs (Some y) made = made ≡ Ok (Some y)
-
--- what a call returned, seen by view, is what was made, if it is told; or why it can't be made
-abbrev pub StandsSo : {X Y : Type 0} → (X → Option Y) → Result X Interrupt → Result (Option Y) Cause → Type 0
-StandsSo view (Ok x) made = StandsAs (view x) made
-StandsSo view (Err why) made = tcl.FailsSo why made
-
 -- ---- ends
 
 -- a stop is the definition's; want of memory may come anywhere
@@ -102,8 +89,8 @@ TakesStep (Err stop.Budget) old new = (old ≡ 0) × (new ≡ 0)
 TakesStep (Err why) old new = ⊥
 
 -- a step is taken, and then a condition is read
-abbrev pub ReadsSo : Result Expr ScriptFault → Result Expr Halt → ℕ → ℕ → Type 0
-ReadsSo read (Ok e) old new = (old ≡ suc new) × (read ≡ Ok e)
+abbrev pub ReadsSo : Result (List Item) ScriptFault → Result Items Halt → ℕ → ℕ → Type 0
+ReadsSo read (Ok items) old new = (old ≡ suc new) × (read ≡ Ok items)
 ReadsSo read (Err (halt.Fault fault)) old new = (old ≡ suc new) × (read ≡ Err fault)
 ReadsSo read (Err (halt.Stop stop.Budget)) old new = (old ≡ 0) × (new ≡ 0)
 ReadsSo read (Err (halt.Stop stop.NoMemory)) old new = new ≤ old

@@ -6,7 +6,7 @@ ghost use Rattle.tks_parse.specs.View.{words_of, words_of_command};
 ghost use Rattle.tks_eval.specs.Outcome.{End};
 ghost use Rattle.tks_eval.specs.Evaluation.{evaluate, words_do, call};
 ghost use Rattle.tks_eval.specs.Filling.{All, words_made, IsWord, IsListWord};
-ghost use Rattle.tks_eval.specs.Machine.{EndsAs, AnswersAs, AnswersWords};
+ghost use Rattle.tks_eval.specs.Machine.{EndsAs, AnswersAs, PlainlySo, AnswersWords};
 ghost use Rattle.tks_tcl.specs.Plain.{plain};
 
 use crate::commands::all_fit;
@@ -22,8 +22,8 @@ use tks_list::{Elements, LEAST_KEPT, read};
 use tks_parse::{Command, Part, Script, Word};
 use tks_share::Shared;
 use tks_tcl::{
-    ListTable, Quiet, is_word, lindex_answer, llength_answer, lrange_answer, plain, plain_quietly,
-    return_answer,
+    ListTable, Quiet, Stop, is_word, lindex_answer, llength_answer, lrange_answer, plain,
+    plain_quietly, return_answer,
 };
 use tks_text::{Limits, Seq, Txt, fits};
 use tks_vars::Vars;
@@ -253,7 +253,32 @@ pub fn answer_at_once(
     }
 }
 
-// The end of a command of these words that runs no script. Nothing where something refuses.
+/// The end of a command of these words that runs no script. Where the text of an end by code 0 isn't asked for, it may be
+/// another one.
+pub fn plain_end(
+    alloc: Global,
+    lists: &mut ListTable,
+    variables: &mut Vars,
+    words: &[Txt],
+    asked: bool,
+    limits: &Limits,
+) -> Result<Option<Ending>, Stop>
+    ensures { PlainlySo asked result variables.old variables.new (plain limits.now words.now variables.old) }
+{
+    if asked {
+        let Some((code, text)) = plain(alloc, lists, variables, words, limits)? else {
+            return Ok(None);
+        };
+        return Ok(Some(Ending { code, text }));
+    }
+    match plain_quietly(alloc, lists, variables, words, limits)? {
+        None => Ok(None),
+        Some(Quiet::Done) => Ok(Some(Ending::silent(alloc))),
+        Some(Quiet::Ended(code, text)) => Ok(Some(Ending { code, text })),
+    }
+}
+
+// The same. Nothing where something refuses.
 fn plain_at_once(
     alloc: Global,
     lists: &mut ListTable,
@@ -265,16 +290,9 @@ fn plain_at_once(
     ensures some { IfSome result (λ end. AnswersAs asked (plain limits.now words.now variables.old) end variables.new) }
     ensures none { IfNone result (variables.new ≡ variables.old) }
 {
-    if asked {
-        return match plain(alloc, lists, variables, words, limits) {
-            Ok(Some((code, text))) => Some(Ending { code, text }),
-            _ => None,
-        };
-    }
-    match plain_quietly(alloc, lists, variables, words, limits) {
-        Ok(Some(Quiet::Done)) => Some(Ending::silent(alloc)),
-        Ok(Some(Quiet::Ended(code, text))) => Some(Ending { code, text }),
-        _ => None,
+    match plain_end(alloc, lists, variables, words, asked, limits) {
+        Ok(end) => end,
+        Err(_) => None,
     }
 }
 

@@ -7,7 +7,7 @@ ghost use Rattle.tks_eval.specs.Evaluation.{evaluate, script_does, if_holds, tes
 ghost use Rattle.tks_eval.specs.Machine.{resume, frame_weight, optional_weight, GoesSo, Falls};
 ghost use Rattle.tks_eval.specs.declared.frame.Frame.TheVariants as frame;
 
-use crate::expressions::{holds_at_once, value_at_once};
+use crate::expressions::Counted;
 use crate::frame::{Ending, Frame, Now};
 use crate::halt::{Halt, error_about};
 use crate::host::Host;
@@ -15,7 +15,7 @@ use crate::machine::Machine;
 use crate::rest::Rest;
 use std::alloc::{AllocError, Global};
 use std::marker::Model;
-use tks_expr::truth_of;
+use tks_expr::{Value, truth_of};
 use tks_tcl::is_word;
 use tks_text::{ErrorNumber, Limits, Txt};
 use tks_vars::Vars;
@@ -215,17 +215,21 @@ impl Machine {
         ensures spends { self.new.fuel ≤ self.old.fuel }
         ensures goes { GoesSo H.meaning limits.now (resume H.meaning limits.now self.old.left self.old.stack (tested limits.now (evaluate H.meaning limits.now self.old.left) condition.now (evaluate H.meaning limits.now self.old.left (script_of body.now)) (script_does (evaluate H.meaning limits.now self.old.left) (option_copied otherwise.entry)) (H.state host.now) variables.now self.old.fuel)) result self.new (H.state host.now) variables.now }
     {
-        let expr = self.read_condition(alloc, condition)?;
-        if let Some(holds) = holds_at_once(alloc, &expr, variables, limits)? {
-            return self.open_chosen(alloc, host, variables, body, otherwise, holds, limits);
-        }
+        let items = self.read_condition(alloc, condition)?;
+        let waits = match self.value(alloc, host, &items, variables, limits)? {
+            Counted::Value(value) => {
+                let holds = value.holds()?;
+                return self.open_chosen(alloc, host, variables, body, otherwise, holds, limits);
+            }
+            Counted::Waits(waits) => waits,
+        };
         let body = body.try_clone()?;
         let rest = Branches {
             tests: Rest::new(alloc),
             otherwise: body_again(otherwise)?,
         };
         self.stack.push(Frame::Branch { body, rest })?;
-        Ok(Now::Value(expr))
+        Ok(Now::Counts(waits))
     }
 
     // Goes on with the branches that are left of an `if`.
@@ -247,13 +251,17 @@ impl Machine {
             None => self.open_otherwise(alloc, host, variables, otherwise.as_ref(), limits),
             Some(test) => {
                 let Test { condition, body } = test;
-                let expr = self.read_condition(alloc, &condition)?;
+                let items = self.read_condition(alloc, &condition)?;
                 let rest = Branches { tests, otherwise };
-                if let Some(text) = value_at_once(alloc, &expr, variables, limits)? {
-                    return self.after_test(alloc, host, variables, body, rest, text, limits);
+                match self.value(alloc, host, &items, variables, limits)? {
+                    Counted::Value(value) => {
+                        self.after_test(alloc, host, variables, body, rest, value, limits)
+                    }
+                    Counted::Waits(waits) => {
+                        self.stack.push(Frame::Branch { body, rest })?;
+                        Ok(Now::Counts(waits))
+                    }
                 }
-                self.stack.push(Frame::Branch { body, rest })?;
-                Ok(Now::Value(expr))
             }
         }
     }
@@ -276,7 +284,7 @@ impl Machine {
         }
     }
 
-    // Goes on with an `if`, a condition of which came to this text at once.
+    // Goes on with an `if`, a condition of which came to this value at once.
     #[tactic(auto, using(crate::proofs::Halts::fault_halts))]
     fn after_test<H: Host>(
         &mut self,
@@ -285,18 +293,19 @@ impl Machine {
         variables: &Vars,
         body: Txt,
         rest: Branches,
-        text: Txt,
+        value: Value,
         limits: &Limits,
     ) -> Result<Now, Halt>
         ensures spends { self.new.fuel ≤ self.old.fuel }
-        ensures goes { GoesSo H.meaning limits.now (resume H.meaning limits.now self.old.left (frame.Branch body rest ∷ self.old.stack) (End 0 text (H.state host.now) variables.now self.old.fuel)) result self.new (H.state host.now) variables.now }
+        ensures goes { GoesSo H.meaning limits.now (resume H.meaning limits.now self.old.left (frame.Branch body rest ∷ self.old.stack) (End 0 value (H.state host.now) variables.now self.old.fuel)) result self.new (H.state host.now) variables.now }
     {
-        if truth_of(&text)? {
+        if value.holds()? {
             return Ok(Now::Open(self.table.parsed().script(alloc, &body)?));
         }
         if rest.tests.is_empty() {
             return self.open_otherwise(alloc, host, variables, rest.otherwise.as_ref(), limits);
         }
+        let text = value.into_text(alloc)?;
         self.stack.push(Frame::Branch { body, rest })?;
         Ok(Now::At(Ending { code: 0, text }))
     }

@@ -83,7 +83,8 @@ impl Machine {
             let Some(command) = rest.first() else {
                 return Ok(Reached::Ended(end));
             };
-            let reached = self.reach_command(alloc, host, variables, command, limits)?;
+            let asked = rest.is_last();
+            let reached = self.reach_command(alloc, host, variables, command, asked, limits)?;
             rest.skip();
             match reached {
                 Reached::Ended(ended) => end = ended,

@@ -2,12 +2,11 @@
 ghost use Rattle.std.specs.Prelude.{◌≡◌, []};
 
 use crate::branches::Branches;
-use crate::expressions::ValueFrame;
+use crate::expressions::{Counting, Waits};
 use crate::host::{Due, Plan};
 use crate::loops::{Loop, Stage};
 use crate::rest::Rest;
 use std::alloc::Global;
-use tks_expr::Expr;
 use tks_parse::{Part, Remaining, RemainingScript, Script, Word};
 use tks_text::{Seq, Txt};
 
@@ -65,10 +64,10 @@ pub enum Frame {
         body: Txt,
         elements: Rest<Txt>,
     },
-    /// An expression, at an operand.
-    Value(ValueFrame),
-    /// An expression, at an operand that is the result of a script.
-    Made(ValueFrame),
+    /// An expression, at a text.
+    Value(Counting),
+    /// `expr`, at its expression.
+    Whole,
     /// `if`, at a condition, with its body and the branches behind it.
     Branch {
         body: Txt,
@@ -106,8 +105,8 @@ pub enum Now {
     Open(Script),
     /// An index to make.
     Index(Remaining<Part>),
-    /// An expression, to be evaluated.
-    Value(Expr),
+    /// An expression that waits.
+    Counts(Box<Waits>),
     /// What the host wants done.
     Planned(Plan),
     /// An end, for the frame on top.

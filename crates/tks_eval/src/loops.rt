@@ -1,6 +1,6 @@
 //! `while`, `for` and `foreach`, a turn at a time.
 ghost use Rattle.std.specs.Prelude.{◌≡◌, ◌≤◌, ◌<◌, ◌+◌, ◌∷◌, IfOk, option_copied};
-ghost use Rattle.tks_expr.specs.Reading.{expr_of};
+ghost use Rattle.tks_expr.specs.Compiled.{items_in};
 ghost use Rattle.tks_eval.specs.Outcome.{End};
 ghost use Rattle.tks_eval.specs.Meets.{ReadsSo};
 ghost use Rattle.tks_eval.specs.Evaluation.{evaluate, if_holds, turn_does, behind_body, loop_does, done, while_does, for_does};
@@ -8,7 +8,7 @@ ghost use Rattle.tks_eval.specs.Machine.{resume, loop_weight, optional_weight, G
 ghost use Rattle.tks_eval.specs.declared.frame.Frame.TheVariants as frame;
 ghost use Rattle.tks_eval.specs.declared.loops.Stage.TheVariants as stages;
 
-use crate::expressions::holds_at_once;
+use crate::expressions::Counted;
 use crate::frame::{Ending, Frame, Now};
 use crate::halt::{Halt, error_about};
 use crate::host::Host;
@@ -16,7 +16,7 @@ use crate::machine::Machine;
 use std::alloc::{AllocError, Global};
 use std::marker::Model;
 use std::rc::Rc;
-use tks_expr::{Expr, truth_of};
+use tks_expr::{Items, truth_of};
 use tks_parse_table::{KnownExpr, KnownScript};
 use tks_text::{ErrorNumber, Limits, Txt};
 use tks_vars::Vars;
@@ -159,13 +159,13 @@ impl Machine {
     }
 
     // Takes a step, and reads a condition that is known.
-    fn read_known(&mut self, alloc: Global, condition: &KnownExpr) -> Result<Expr, Halt>
-        ensures reads { ReadsSo (expr_of condition.now) result self.old.fuel self.new.fuel }
+    fn read_known(&mut self, alloc: Global, condition: &KnownExpr) -> Result<Items, Halt>
+        ensures reads { ReadsSo (items_in condition.now) result self.old.fuel self.new.fuel }
         ensures kept { self.new ≡ record self.old { fuel = self.new.fuel } }
     {
         self.take_step()?;
-        let expr = condition.expr(alloc)?;
-        Ok(expr)
+        let items = condition.items(alloc)?;
+        Ok(items)
     }
 
     // Goes on with the next turn of a loop, and those behind it that are made at once.
@@ -207,11 +207,16 @@ impl Machine {
         ensures kept { self.new ≡ record self.old { fuel = self.new.fuel } }
         ensures goes { TurnsSo H.meaning limits.now self.old.left turns.now (loop_does limits.now (evaluate H.meaning limits.now self.old.left) turns.now (H.state host.now) variables.old self.old.fuel) result (H.state host.now) variables.new self.new.fuel }
     {
-        let expr = self.read_known(alloc, turns.condition())?;
-        match holds_at_once(alloc, &expr, variables, limits)? {
-            None => Ok(Turn::Waits(Stage::Condition, Now::Value(expr))),
-            Some(false) => Ok(Turn::Ended(Ending::silent(alloc))),
-            Some(true) => self.body_at_once(alloc, host, variables, turns, limits),
+        let items = self.read_known(alloc, turns.condition())?;
+        match self.value(alloc, host, &items, variables, limits)? {
+            Counted::Waits(waits) => Ok(Turn::Waits(Stage::Condition, Now::Counts(waits))),
+            Counted::Value(value) => {
+                if value.holds()? {
+                    self.body_at_once(alloc, host, variables, turns, limits)
+                } else {
+                    Ok(Turn::Ended(Ending::silent(alloc)))
+                }
+            }
         }
     }
 

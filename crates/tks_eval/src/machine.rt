@@ -138,7 +138,9 @@ impl Machine {
                         Some(frame) => self.resume(alloc, host, variables, frame, end, limits),
                     },
                     Now::Open(script) => self.open(alloc, host, variables, script, limits),
-                    Now::Value(expr) => self.open_value(alloc, host, variables, expr, limits),
+                    Now::Counts(waits) => {
+                        self.open_waits(host, variables, Box::into_inner(waits), limits)
+                    }
                     Now::Index(parts) => {
                         self.fill(alloc, host, variables, Txt::new(alloc), parts, limits)
                     }
@@ -263,8 +265,10 @@ impl Machine {
                 body,
                 elements,
             } => self.after_element(alloc, host, variables, name, body, elements, end, limits),
-            Frame::Value(frame) => self.after_value(alloc, host, variables, frame, end, limits),
-            Frame::Made(frame) => self.after_made(alloc, host, variables, frame, end, limits),
+            Frame::Value(counting) => {
+                self.after_value(alloc, host, variables, counting, end, limits)
+            }
+            Frame::Whole => self.after_whole(alloc, host, variables, end, limits),
             Frame::Branch { body, rest } => {
                 self.after_branch(alloc, host, variables, body, rest, end, limits)
             }

@@ -1,17 +1,18 @@
 //! How far commands come at once: without a frame, and without a script being opened.
 ghost use Rattle.std.specs.Prelude.{◌≡◌, ◌≤◌, suc, false, [], IfOk, IfSome, IfNone, Ok, option_copied};
 ghost use Rattle.tks_parse.specs.Tree.{Script, nested, no_part, words_size};
+ghost use Rattle.tks_parse.specs.Reading.{script_of};
 ghost use Rattle.tks_parse.specs.View.{parts_of, words_of, words_of_command};
 ghost use Rattle.tks_eval.specs.Outcome.{End};
-ghost use Rattle.tks_eval.specs.Evaluation.{evaluate, call, words_do, if_does, expr_does, expression_does, result_told, control_does, script_does};
-ghost use Rattle.tks_eval.specs.Machine.{resume, control_of, given_words, reached_does, waiting_does, waiting_weight, ReachesSo, ReachFalls, WaitsAt, GoesOn, GoesSo, Falls};
+ghost use Rattle.tks_eval.specs.Evaluation.{evaluate, call, words_do, tested, if_does, expr_does, expression_does, result_told, control_does, script_does};
+ghost use Rattle.tks_eval.specs.Machine.{resume, control_of, given_words, reached_does, waiting_does, waiting_weight, ReachesAs, ReachesSo, ReachFalls, WaitsAt, GoesOn, GoesSo, Falls};
 ghost use Rattle.tks_eval.specs.declared.reach.Reached.TheVariants as reached;
 
-use crate::at_once::{answer_at_once, lent};
+use crate::at_once::{answer_at_once, lent, plain_end};
 use crate::branches::one_test;
 use crate::commands::all_fit;
 use crate::control::Control;
-use crate::expressions::{ValueFrame, holds_at_once, value_at_once};
+use crate::expressions::{Counted, Waits};
 use crate::frame::{Ending, Frame, Now};
 use crate::halt::Halt;
 use crate::host::Host;
@@ -20,9 +21,8 @@ use crate::rest::Rest;
 use crate::words::{Filled, Inner, add_words, fill_up, only_script};
 use std::alloc::{AllocError, Global};
 use std::rc::Rc;
-use tks_expr::{Expr, into_result};
 use tks_parse::{Command, Part, Remaining, Script, Word};
-use tks_tcl::{Stop, plain};
+use tks_tcl::Stop;
 use tks_text::{Limits, Seq, Txt, fits};
 use tks_vars::Vars;
 
@@ -90,8 +90,8 @@ pub enum Reached {
     Opens(Script),
     /// Its step is taken, and it is one that runs scripts.
     Runs(Control, Given),
-    /// Its step is taken, and it is an `expr` of this expression.
-    Counts(Expr),
+    /// Its step is taken, and it is an `expr`, whose expression waits.
+    Counts(Box<Waits>),
     /// Its step is taken, and it is the host's or a procedure.
     Calls(Given),
     /// One of its words waits.
@@ -151,18 +151,20 @@ fn waits_at(
 }
 
 impl Machine {
-    /// Makes the words of a command, and calls it, as far as that goes at once.
+    /// Makes the words of a command, and calls it, as far as that goes at once. Where the text of an end by code 0 isn't asked
+    /// for, it may be another one.
     pub fn reach_command<H: Host>(
         &mut self,
         alloc: Global,
         host: &H,
         variables: &mut Vars,
         command: &Command,
+        asked: bool,
         limits: &Limits,
     ) -> Result<Reached, Halt>
         ensures kept { self.new ≡ record self.old { fuel = self.new.fuel } }
         ensures falls { ReachFalls result (words_size (words_of_command command.now)) self.old.fuel self.new.fuel }
-        ensures goes { ReachesSo H.meaning limits.now self.old.left (words_do H.meaning limits.now (evaluate H.meaning limits.now self.old.left) (words_of_command command.now) [] (H.state host.now) variables.old self.old.fuel) result (H.state host.now) variables.new self.new.fuel }
+        ensures goes { ReachesSo H.meaning limits.now asked self.old.left (words_do H.meaning limits.now (evaluate H.meaning limits.now self.old.left) (words_of_command command.now) [] (H.state host.now) variables.old self.old.fuel) result (H.state host.now) variables.new self.new.fuel }
     {
         match command {
             Command::Ready(words) => {
@@ -170,7 +172,7 @@ impl Machine {
                     return Err(Halt::Stop(Stop::TooLarge));
                 }
                 let words = Given::Ready(words.clone()?);
-                self.begin(alloc, host, variables, words, limits)
+                self.begin(alloc, host, variables, words, asked, limits)
             }
             Command::Made(words) => {
                 let given = words.as_ref().as_slice();
@@ -178,7 +180,15 @@ impl Machine {
                     return Ok(Reached::Ended(end));
                 }
                 let words = Remaining::all(words.clone()?);
-                self.reach(alloc, host, variables, Seq::new(alloc), words, limits)
+                self.reach(
+                    alloc,
+                    host,
+                    variables,
+                    Seq::new(alloc),
+                    words,
+                    asked,
+                    limits,
+                )
             }
         }
     }
@@ -206,7 +216,7 @@ impl Machine {
         Some(end)
     }
 
-    /// Makes the words that are left of a command, and calls it, as far as that goes at once.
+    /// Makes the words that are left of a command, and calls it, in the same way.
     pub fn reach<H: Host>(
         &mut self,
         alloc: Global,
@@ -214,11 +224,12 @@ impl Machine {
         variables: &mut Vars,
         words: Seq<Txt>,
         rest: Remaining<Word>,
+        asked: bool,
         limits: &Limits,
     ) -> Result<Reached, Halt>
         ensures kept { self.new ≡ record self.old { fuel = self.new.fuel } }
         ensures falls { ReachFalls result (words_size (words_of rest)) self.old.fuel self.new.fuel }
-        ensures goes { ReachesSo H.meaning limits.now self.old.left (words_do H.meaning limits.now (evaluate H.meaning limits.now self.old.left) (words_of rest) words (H.state host.now) variables.old self.old.fuel) result (H.state host.now) variables.new self.new.fuel }
+        ensures goes { ReachesSo H.meaning limits.now asked self.old.left (words_do H.meaning limits.now (evaluate H.meaning limits.now self.old.left) (words_of rest) words (H.state host.now) variables.old self.old.fuel) result (H.state host.now) variables.new self.new.fuel }
     {
         let mut words = words;
         let mut rest = rest;
@@ -264,7 +275,7 @@ impl Machine {
                 }
             }
         }
-        self.begin(alloc, host, variables, Given::Made(words), limits)
+        self.begin(alloc, host, variables, Given::Made(words), asked, limits)
     }
 
     // Takes the step of a command, whose words are there, and calls it where that can be done at once.
@@ -274,11 +285,12 @@ impl Machine {
         host: &H,
         variables: &mut Vars,
         words: Given,
+        asked: bool,
         limits: &Limits,
     ) -> Result<Reached, Halt>
         ensures kept { self.new ≡ record self.old { fuel = self.new.fuel } }
         ensures falls { ReachFalls result 0 self.old.fuel self.new.fuel }
-        ensures goes { ReachesSo H.meaning limits.now self.old.left (call H.meaning limits.now (evaluate H.meaning limits.now self.old.left) (given_words words) (H.state host.now) variables.old self.old.fuel) result (H.state host.now) variables.new self.new.fuel }
+        ensures goes { ReachesSo H.meaning limits.now asked self.old.left (call H.meaning limits.now (evaluate H.meaning limits.now self.old.left) (given_words words) (H.state host.now) variables.old self.old.fuel) result (H.state host.now) variables.new self.new.fuel }
     {
         let given = words.as_slice();
         let Some((command, rest)) = given.split_first() else {
@@ -287,14 +299,14 @@ impl Machine {
         self.take_step()?;
         if let Some(control) = Control::named(command) {
             return match self.control_at_once(
-                alloc, host, variables, control, command, rest, limits,
+                alloc, host, variables, control, command, rest, asked, limits,
             ) {
                 Some(reached) => Ok(reached),
                 None => Ok(Reached::Runs(control, words)),
             };
         }
-        match plain(alloc, self.table.lists(), variables, given, limits)? {
-            Some((code, text)) => Ok(Reached::Ended(Ending { code, text })),
+        match plain_end(alloc, self.table.lists(), variables, given, asked, limits)? {
+            Some(end) => Ok(Reached::Ended(end)),
             None => Ok(Reached::Calls(words)),
         }
     }
@@ -308,17 +320,18 @@ impl Machine {
         control: Control,
         command: &Txt,
         words: &[Txt],
+        asked: bool,
         limits: &Limits,
     ) -> Option<Reached>
         ensures kept { self.new ≡ record self.old { fuel = self.new.fuel } }
         ensures spends { self.new.fuel ≤ self.old.fuel }
         ensures none { IfNone result ((variables.new ≡ variables.old) × (self.new.fuel ≡ self.old.fuel)) }
         ensures short { IfSome result (λ reached. ReachFalls (Ok reached) 0 (suc self.old.fuel) self.new.fuel) }
-        ensures some { IfSome result (λ reached. control_does H.meaning limits.now (evaluate H.meaning limits.now self.old.left) (control_of control) command.now words.now (H.state host.now) variables.old self.old.fuel ≡ reached_does H.meaning limits.now self.old.left reached (H.state host.now) variables.new self.new.fuel) }
+        ensures some { IfSome result (λ reached. ReachesAs H.meaning limits.now asked self.old.left (control_does H.meaning limits.now (evaluate H.meaning limits.now self.old.left) (control_of control) command.now words.now (H.state host.now) variables.old self.old.fuel) reached (H.state host.now) variables.new self.new.fuel) }
     {
         match control {
             Control::Expr => self.reach_expr(alloc, host, variables, command, words, limits),
-            Control::If => self.if_at_once(alloc, host, variables, command, words, limits),
+            Control::If => self.if_at_once(alloc, host, variables, command, words, asked, limits),
             _ => None,
         }
     }
@@ -358,15 +371,15 @@ impl Machine {
         ensures short { IfSome result (λ reached. ReachFalls (Ok reached) 0 (suc self.old.fuel) self.new.fuel) }
         ensures some { IfSome result (λ reached. result_told limits.now (expression_does limits.now (evaluate H.meaning limits.now self.old.left) text.now (H.state host.now) variables.now self.old.fuel) ≡ reached_does H.meaning limits.now self.old.left reached (H.state host.now) variables.now self.new.fuel) }
     {
-        let Ok(expr) = self.table.parsed().expr(alloc, text) else {
+        let Ok(items) = self.table.parsed().expr(alloc, text) else {
             return None;
         };
-        match value_at_once(alloc, &expr, variables, limits) {
-            Ok(Some(value)) => match into_result(alloc, value) {
+        match self.value(alloc, host, &items, variables, limits) {
+            Ok(Counted::Value(value)) => match value.into_result(alloc) {
                 Ok(text) => Some(Reached::Ended(Ending { code: 0, text })),
                 Err(_) => None,
             },
-            Ok(None) => Some(Reached::Counts(expr)),
+            Ok(Counted::Waits(waits)) => Some(Reached::Counts(waits)),
             Err(_) => None,
         }
     }
@@ -379,33 +392,58 @@ impl Machine {
         variables: &mut Vars,
         command: &Txt,
         words: &[Txt],
+        asked: bool,
         limits: &Limits,
     ) -> Option<Reached>
         ensures kept { self.new ≡ record self.old { fuel = self.new.fuel } }
         ensures spends { self.new.fuel ≤ self.old.fuel }
         ensures none { IfNone result ((variables.new ≡ variables.old) × (self.new.fuel ≡ self.old.fuel)) }
         ensures short { IfSome result (λ reached. ReachFalls (Ok reached) 0 (suc self.old.fuel) self.new.fuel) }
-        ensures some { IfSome result (λ reached. if_does limits.now (evaluate H.meaning limits.now self.old.left) command.now words.now (H.state host.now) variables.old self.old.fuel ≡ reached_does H.meaning limits.now self.old.left reached (H.state host.now) variables.new self.new.fuel) }
+        ensures some { IfSome result (λ reached. ReachesAs H.meaning limits.now asked self.old.left (if_does limits.now (evaluate H.meaning limits.now self.old.left) command.now words.now (H.state host.now) variables.old self.old.fuel) reached (H.state host.now) variables.new self.new.fuel) }
     {
         let (condition, body, otherwise) = one_test(words)?;
         if self.fuel == 0 {
             return None;
         }
-        let Ok(expr) = self.table.parsed().expr(alloc, condition) else {
+        self.fuel -= 1;
+        let reached = self.branch_at_once(
+            alloc, host, variables, condition, body, otherwise, asked, limits,
+        );
+        if reached.is_none() {
+            self.fuel += 1;
+        }
+        reached
+    }
+
+    // The body that a condition chooses, whose step is taken.
+    fn branch_at_once<H: Host>(
+        &mut self,
+        alloc: Global,
+        host: &H,
+        variables: &mut Vars,
+        condition: &Txt,
+        body: &Txt,
+        otherwise: Option<&Txt>,
+        asked: bool,
+        limits: &Limits,
+    ) -> Option<Reached>
+        ensures kept { self.new ≡ record self.old { fuel = self.new.fuel } }
+        ensures spends { self.new.fuel ≤ self.old.fuel }
+        ensures none { IfNone result ((variables.new ≡ variables.old) × (self.new.fuel ≡ self.old.fuel)) }
+        ensures short { IfSome result (λ reached. ReachFalls (Ok reached) 0 (suc self.old.fuel) self.new.fuel) }
+        ensures some { IfSome result (λ reached. ReachesAs H.meaning limits.now asked self.old.left (tested limits.now (evaluate H.meaning limits.now self.old.left) condition.now (evaluate H.meaning limits.now self.old.left (script_of body.now)) (script_does (evaluate H.meaning limits.now self.old.left) (option_copied otherwise.entry)) (H.state host.now) variables.old (suc self.old.fuel)) reached (H.state host.now) variables.new self.new.fuel) }
+    {
+        let Ok(items) = self.table.parsed().expr(alloc, condition) else {
             return None;
         };
-        let Ok(Some(holds)) = holds_at_once(alloc, &expr, variables, limits) else {
+        let Ok(Counted::Value(value)) = self.value(alloc, host, &items, variables, limits) else {
+            return None;
+        };
+        let Ok(holds) = value.holds() else {
             return None;
         };
         let chosen = if holds { Some(body) } else { otherwise };
-        self.fuel -= 1;
-        match self.script_at_once(alloc, host, variables, chosen, limits) {
-            Some(reached) => Some(reached),
-            None => {
-                self.fuel += 1;
-                None
-            }
-        }
+        self.script_at_once(alloc, host, variables, chosen, asked, limits)
     }
 
     // The script of a text that may be left out, as far as it comes at once. None only for want of memory.
@@ -415,13 +453,14 @@ impl Machine {
         host: &H,
         variables: &mut Vars,
         text: Option<&Txt>,
+        asked: bool,
         limits: &Limits,
     ) -> Option<Reached>
         ensures kept { self.new ≡ record self.old { fuel = self.new.fuel } }
         ensures spends { self.new.fuel ≤ self.old.fuel }
         ensures none { IfNone result ((variables.new ≡ variables.old) × (self.new.fuel ≡ self.old.fuel)) }
         ensures short { IfSome result (λ reached. ReachFalls (Ok reached) 0 (suc self.old.fuel) self.new.fuel) }
-        ensures some { IfSome result (λ reached. script_does (evaluate H.meaning limits.now self.old.left) (option_copied text.entry) (H.state host.now) variables.old self.old.fuel ≡ reached_does H.meaning limits.now self.old.left reached (H.state host.now) variables.new self.new.fuel) }
+        ensures some { IfSome result (λ reached. ReachesAs H.meaning limits.now asked self.old.left (script_does (evaluate H.meaning limits.now self.old.left) (option_copied text.entry) (H.state host.now) variables.old self.old.fuel) reached (H.state host.now) variables.new self.new.fuel) }
     {
         let Some(text) = text else {
             return Some(Reached::Ended(Ending::silent(alloc)));
@@ -429,7 +468,7 @@ impl Machine {
         let Ok(script) = self.table.parsed().script(alloc, text) else {
             return None;
         };
-        match self.run_at_once(alloc, host, variables, &script, true, limits) {
+        match self.run_at_once(alloc, host, variables, &script, asked, limits) {
             Some(end) => Some(Reached::Ended(end)),
             None => Some(Reached::Opens(script)),
         }
@@ -454,9 +493,9 @@ impl Machine {
             Reached::Runs(control, words) => {
                 self.run_control(alloc, host, variables, control, words, limits)
             }
-            Reached::Counts(expr) => {
-                self.stack.push(Frame::Value(ValueFrame::Whole))?;
-                self.open_value(alloc, host, variables, expr, limits)
+            Reached::Counts(waits) => {
+                self.stack.push(Frame::Whole)?;
+                self.open_waits(host, variables, Box::into_inner(waits), limits)
             }
             Reached::Calls(words) => {
                 let levels = self.left;

@@ -372,7 +372,7 @@ impl Machine {
         }
         let mut words = words;
         add_words(alloc, &mut words, expand, end.text)?;
-        let reached = self.reach(alloc, host, variables, words, rest, limits)?;
+        let reached = self.reach(alloc, host, variables, words, rest, true, limits)?;
         self.go_on(alloc, host, variables, reached, limits)
     }
 }

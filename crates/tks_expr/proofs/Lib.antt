@@ -11,3 +11,4 @@ pub mod Shifts
 pub mod Divisions
 pub mod Conditions
 pub mod Decimals
+pub mod Compiled

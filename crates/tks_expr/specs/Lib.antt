@@ -9,3 +9,4 @@ pub mod Expression
 pub mod Arithmetic
 pub mod Operation
 pub mod Value
+pub mod Compiled

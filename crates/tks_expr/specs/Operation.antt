@@ -115,15 +115,29 @@ compares binary.SameText = true
 compares binary.OtherText = true
 compares operator = false
 
--- the integer that an operator gives for two texts
+-- the integer that an operator gives for two integers
+abbrev pub of_integers : Binary → ℤ → ℤ → Result ℤ ScriptFault
+of_integers binary.Multiply x y = in_range (x *ℤ y)
+of_integers binary.Divide x y = division_by y (quotient x y)
+of_integers binary.Remainder x y = division_by y (remainder x y)
+of_integers binary.Add x y = in_range (x +ℤ y)
+of_integers binary.Subtract x y = in_range (x -ℤ y)
+of_integers binary.ShiftLeft x y = shift_by y (λ n. x *ℤ pos (2 ^ n))
+of_integers binary.ShiftRight x y = shift_by y (λ n. quotient x (pos (2 ^ n)))
+of_integers binary.Less x y = Ok (truth (is_lt (int_cmp x y)))
+of_integers binary.Greater x y = Ok (truth (is_gt (int_cmp x y)))
+of_integers binary.AtMost x y = Ok (truth (is_le (int_cmp x y)))
+of_integers binary.AtLeast x y = Ok (truth (is_ge (int_cmp x y)))
+of_integers binary.Equal x y = Ok (truth (int_eq x y))
+of_integers binary.NotEqual x y = Ok (truth (not (int_eq x y)))
+of_integers binary.SameText x y = Ok (truth (int_eq x y))
+of_integers binary.OtherText x y = Ok (truth (not (int_eq x y)))
+of_integers binary.BitAnd x y = Ok (bits_of_both x y)
+of_integers binary.BitXor x y = Ok (bits_of_one x y)
+of_integers binary.BitOr x y = Ok (bits_of_any x y)
+
+-- and for two texts
 abbrev pub binary_value : Binary → List ℕ → List ℕ → Result ℤ ScriptFault
-binary_value binary.Multiply a b = on_integers a b (λ x y. in_range (x *ℤ y))
-binary_value binary.Divide a b = on_integers a b (λ x y. division_by y (quotient x y))
-binary_value binary.Remainder a b = on_integers a b (λ x y. division_by y (remainder x y))
-binary_value binary.Add a b = on_integers a b (λ x y. in_range (x +ℤ y))
-binary_value binary.Subtract a b = on_integers a b (λ x y. in_range (x -ℤ y))
-binary_value binary.ShiftLeft a b = on_integers a b (λ x y. shift_by y (λ n. x *ℤ pos (2 ^ n)))
-binary_value binary.ShiftRight a b = on_integers a b (λ x y. shift_by y (λ n. quotient x (pos (2 ^ n))))
 binary_value binary.Less a b = compared a b is_lt
 binary_value binary.Greater a b = compared a b is_gt
 binary_value binary.AtMost a b = compared a b is_le
@@ -132,16 +146,19 @@ binary_value binary.Equal a b = compared a b is_eq
 binary_value binary.NotEqual a b = compared a b (λ o. not (is_eq o))
 binary_value binary.SameText a b = Ok (truth (same_text a b))
 binary_value binary.OtherText a b = Ok (truth (not (same_text a b)))
-binary_value binary.BitAnd a b = on_integers a b (λ x y. Ok (bits_of_both x y))
-binary_value binary.BitXor a b = on_integers a b (λ x y. Ok (bits_of_one x y))
-binary_value binary.BitOr a b = on_integers a b (λ x y. Ok (bits_of_any x y))
+binary_value operator a b = on_integers a b (of_integers operator)
 
--- the integer that an operator gives for a text
+-- the integer that an operator gives for an integer
+abbrev pub of_integer : Unary → ℤ → Result ℤ ScriptFault
+of_integer unary.Minus x = in_range (neg_ℤ x)
+of_integer unary.Plus x = Ok x
+of_integer unary.Complement x = Ok (complement x)
+of_integer unary.Not x = Ok (truth (int_eq x (pos 0)))
+
+-- and for a text
 abbrev pub unary_value : Unary → List ℕ → Result ℤ ScriptFault
-unary_value unary.Minus a = after (integer_in a) (λ x. in_range (neg_ℤ x))
-unary_value unary.Plus a = integer_in a
-unary_value unary.Complement a = after (integer_in a) (λ x. Ok (complement x))
 unary_value unary.Not a = after (truth_of a) (λ holds. Ok (truth (not holds)))
+unary_value operator a = after (integer_in a) (of_integer operator)
 
 -- an integer in decimal
 abbrev pub in_decimal : Result ℤ ScriptFault → Result (List ℕ) ScriptFault

@@ -65,29 +65,6 @@ impl Model for Expr {
     ghost size_decreases = { λ e h. Prim.omega (arith, node_falls e.node.value) };
 }
 
-impl Link {
-    /// The same link, whose operand is held once more.
-    pub fn share(&self) -> Result<Link, AllocError>
-        ensures { IfOk result (λ link. link ≡ self.now) }
-    {
-        Ok(Link {
-            join: self.join,
-            right: self.right.share()?,
-        })
-    }
-}
-
-/// The same links, whose operands are held once more.
-pub fn share_links(alloc: Global, links: &[Link]) -> Result<Vec<Link>, AllocError>
-    ensures { IfOk result (λ copy. copy.items ≡ links.now) }
-{
-    let mut copy = Vec::new(alloc);
-    for link in links {
-        copy.push(link.share()?)?;
-    }
-    Ok(copy)
-}
-
 impl Expr {
     /// The expression with this at its root.
     pub fn new(alloc: Global, node: Node) -> Result<Expr, AllocError>

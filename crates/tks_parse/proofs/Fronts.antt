@@ -1,5 +1,5 @@
 -- The command at the front of a script, and what is behind it.
-use Rattle.std.proofs.Common.{◌≡◌, ℕ, drop, length, List, [], ◌∷◌, ◌≤◌, Option, Some, None, refl, arith}
+use Rattle.std.proofs.Common.{◌≡◌, ℕ, ◌-◌, drop, length, List, [], ◌∷◌, ◌≤◌, Option, Some, None, refl, arith}
 use Rattle.std.proofs.lemmas.List.{length-drop}
 use Rattle.tks_text.specs.declared.fault.ScriptFault.{ScriptFault}
 use Rattle.tks_parse.specs.declared.tree.Command.{Command}
@@ -23,3 +23,24 @@ none_of_empty (c ∷ rest) fault e = absurd cc
 
 pub at_end_of_empty : (at : ℕ) (commands : List Command) (fault : Option ScriptFault) → at ≤ length commands → script_of_commands (drop at commands) fault ≡ no_command → at ≡ length commands
 at_end_of_empty at commands fault within e = omega (arith, within, length-drop at commands, none_of_empty (drop at commands) fault e)
+
+-- where neither a command nor a fault is behind the command at the front
+pub none_behind : (at : ℕ) (commands : List Command) (fault : Option ScriptFault) → length commands - at ≤ 1 → fault ≡ None → behind (script_of_commands (drop at commands) fault) ≡ no_command
+none_behind at commands fault one none = alone (drop at commands) fault (omega (arith, one, length-drop at commands)) none
+  where
+    alone : (commands : List Command) (fault : Option ScriptFault) → length commands ≤ 1 → fault ≡ None → behind (script_of_commands commands fault) ≡ no_command
+    alone [] None h e = refl
+    alone [] (Some f) h e = absurd cc
+    alone (c ∷ []) None h e = refl
+    alone (c ∷ []) (Some f) h e = absurd cc
+    alone (c ∷ d ∷ rest) fault h e = absurd (omega (arith, h))
+
+pub behind_none : (at : ℕ) (commands : List Command) (fault : Option ScriptFault) → behind (script_of_commands (drop at commands) fault) ≡ no_command → (length commands - at ≤ 1) × (fault ≡ None)
+behind_none at commands fault e = let a = alone (drop at commands) fault e in (omega (arith, a.0, length-drop at commands), a.1)
+  where
+    alone : (commands : List Command) (fault : Option ScriptFault) → behind (script_of_commands commands fault) ≡ no_command → (length commands ≤ 1) × (fault ≡ None)
+    alone [] None e = (omega arith, refl)
+    alone [] (Some f) e = absurd cc
+    alone (c ∷ []) None e = (omega arith, refl)
+    alone (c ∷ []) (Some f) e = absurd cc
+    alone (c ∷ d ∷ rest) fault e = absurd cc

@@ -88,6 +88,15 @@ impl RemainingScript {
         self.at == contents.commands.len() && contents.fault.is_none()
     }
 
+    /// Whether neither a command nor a fault is left behind the first command.
+    #[tactic(auto, using(crate::proofs::Fronts::none_behind, crate::proofs::Fronts::behind_none))]
+    pub fn is_last(&self) -> bool
+        ensures { result ≡ true ↔ behind self.now ≡ no_command }
+    {
+        let contents = self.contents.as_ref();
+        contents.commands.len() - self.at <= 1 && contents.fault.is_none()
+    }
+
     /// The fault behind the commands that are left, copied.
     #[tactic(auto, using(crate::proofs::Fronts::fault_alone))]
     pub fn fault(&self) -> Result<Option<ScriptFault>, AllocError>

@@ -214,6 +214,15 @@ impl Parts {
         }
     }
 
+    /// The same parts, held once more.
+    pub fn share(&self) -> Result<Parts, AllocError>
+        ensures { IfOk result (λ p. p ≡ self.now) }
+    {
+        Ok(Parts {
+            parts: self.parts.clone()?,
+        })
+    }
+
     /// The parts, to go on in.
     pub fn remaining(&self) -> Result<Remaining<Part>, AllocError>
         ensures { IfOk result (λ parts. parts_of parts ≡ self.now) }

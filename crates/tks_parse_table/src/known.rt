@@ -1,13 +1,13 @@
 //! Texts together with what they spell: scripts and expressions.
 ghost use Rattle.std.specs.Prelude.{◌≡◌, IfOk, IfSome, Ok};
 ghost use Rattle.tks_parse.specs.Reading.{script_of};
-ghost use Rattle.tks_expr.specs.Reading.{expr_of};
+ghost use Rattle.tks_expr.specs.Compiled.{items_in};
 ghost use Rattle.tks_text.specs.Fault.{Gives};
 
 use crate::places::Known;
 use std::alloc::{AllocError, Global};
 use std::marker::Model;
-use tks_expr::{Expr, parse_expr};
+use tks_expr::{Items, parse_items};
 use tks_parse::Script;
 use tks_text::{Failure, Txt};
 
@@ -75,60 +75,60 @@ impl Known for KnownScript {
 #[derive(Drop)]
 pub struct KnownExpr {
     text: Txt,
-    expr: Option<Expr>,
+    items: Option<Items>,
 }
 
 impl Model for KnownExpr {
     ghost use Rattle.std.specs.Prelude.{List, ℕ, ◌≡◌, IfSome, Ok};
-    ghost use Rattle.tks_expr.specs.Reading.{expr_of};
+    ghost use Rattle.tks_expr.specs.Compiled.{items_in};
 
     ghost Value = { List ℕ };
 
     ghost view = { λ k. k.text };
 
-    ghost invariant = { λ k. IfSome k.expr (λ e. expr_of k.text ≡ Ok e) };
+    ghost invariant = { λ k. IfSome k.items (λ i. items_in k.text ≡ Ok i) };
 }
 
 impl KnownExpr {
-    /// This text, with its expression, if that is there.
-    pub(crate) fn new(text: &Txt, expr: Option<Expr>) -> Result<KnownExpr, AllocError>
-        requires { IfSome expr (λ e. expr_of text.now ≡ Ok e) }
+    /// This text, with the items of its expression, if they are there.
+    pub(crate) fn new(text: &Txt, items: Option<Items>) -> Result<KnownExpr, AllocError>
+        requires { IfSome items (λ i. items_in text.now ≡ Ok i) }
         ensures { IfOk result (λ k. k ≡ text.now) }
     {
         Ok(KnownExpr {
             text: text.try_clone()?,
-            expr,
+            items,
         })
     }
 
-    /// The expression.
-    pub fn expr(&self, alloc: Global) -> Result<Expr, Failure>
-        ensures { Gives (λ e. e) result (expr_of self.now) }
+    /// The items of the expression.
+    pub fn items(&self, alloc: Global) -> Result<Items, Failure>
+        ensures { Gives (λ i. i) result (items_in self.now) }
     {
-        match &self.expr {
-            Some(expr) => Ok(expr.share()?),
-            None => parse_expr(alloc, &self.text),
+        match &self.items {
+            Some(items) => Ok(items.share()?),
+            None => parse_items(alloc, &self.text),
         }
     }
 }
 
 impl Known for KnownExpr {
     ghost use Rattle.std.specs.Prelude.{◌≡◌, Ok};
-    ghost use Rattle.tks_expr.specs.Reading.{expr_of};
+    ghost use Rattle.tks_expr.specs.Compiled.{items_in};
 
-    type Tree = Expr;
+    type Tree = Items;
 
     ghost text_of = { λ known. known };
 
-    ghost spells = { λ text expr. expr_of text ≡ Ok expr };
+    ghost spells = { λ text items. items_in text ≡ Ok items };
 
     fn text(&self) -> &Txt {
         &self.text
     }
 
-    fn tree(&self) -> Option<Expr> {
-        match self.expr.as_ref()?.share() {
-            Ok(expr) => Some(expr),
+    fn tree(&self) -> Option<Items> {
+        match self.items.as_ref()?.share() {
+            Ok(items) => Some(items),
             Err(_) => None,
         }
     }

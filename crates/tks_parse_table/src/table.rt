@@ -1,6 +1,6 @@
 //! A table of scripts and expressions that were parsed, each found by its text.
 ghost use Rattle.std.specs.Prelude.{◌≡◌, IfOk, Ok};
-ghost use Rattle.tks_expr.specs.Reading.{expr_of};
+ghost use Rattle.tks_expr.specs.Compiled.{items_in};
 ghost use Rattle.tks_parse.specs.Reading.{script_of};
 ghost use Rattle.tks_text.specs.Fault.{Gives};
 
@@ -8,7 +8,7 @@ use crate::known::{KnownExpr, KnownScript};
 use crate::places::Places;
 use std::alloc::{AllocError, Global};
 use std::marker::Model;
-use tks_expr::{Expr, parse_expr};
+use tks_expr::{Items, parse_items};
 use tks_parse::{Script, parse};
 use tks_text::{Failure, Txt};
 
@@ -66,24 +66,24 @@ impl ParseTable {
     }
 
     // Keeps an expression under its text.
-    fn keep_expr(&mut self, text: &Txt, expr: &Expr) -> Result<(), AllocError>
-        requires { expr_of text.now ≡ Ok expr.now }
+    fn keep_expr(&mut self, text: &Txt, items: &Items) -> Result<(), AllocError>
+        requires { items_in text.now ≡ Ok items.now }
     {
-        let known = KnownExpr::new(text, Some(expr.share()?))?;
+        let known = KnownExpr::new(text, Some(items.share()?))?;
         self.exprs.keep(known);
         Ok(())
     }
 
-    /// The expression that a text spells, parsed where it isn't kept, and then kept where memory serves.
-    pub fn expr(&mut self, alloc: Global, text: &Txt) -> Result<Expr, Failure>
-        ensures { Gives (λ e. e) result (expr_of text.now) }
+    /// The items of the expression that a text spells, parsed where it isn't kept, and then kept where memory serves.
+    pub fn expr(&mut self, alloc: Global, text: &Txt) -> Result<Items, Failure>
+        ensures { Gives (λ items. items) result (items_in text.now) }
     {
-        if let Some(expr) = self.exprs.find(text) {
-            return Ok(expr);
+        if let Some(items) = self.exprs.find(text) {
+            return Ok(items);
         }
-        let expr = parse_expr(alloc, text)?;
-        let _ = self.keep_expr(text, &expr);
-        Ok(expr)
+        let items = parse_items(alloc, text)?;
+        let _ = self.keep_expr(text, &items);
+        Ok(items)
     }
 
     /// A text with the script that it spells.
@@ -99,7 +99,7 @@ impl ParseTable {
         ensures { IfOk result (λ k. k ≡ text.now) }
     {
         match self.expr(alloc, text) {
-            Ok(expr) => KnownExpr::new(text, Some(expr)),
+            Ok(items) => KnownExpr::new(text, Some(items)),
             Err(Failure::Script(_)) => KnownExpr::new(text, None),
             Err(Failure::NoMemory) => Err(AllocError),
         }

@@ -4,7 +4,7 @@ use Rattle.tks_eval.specs.Outcome.{after}
 use Rattle.tks_eval.specs.Evaluation.{evaluate, commands_do}
 use Rattle.tks_eval.specs.Machine.{resume, called, given_words, GoesSo}
 use Rattle.tks_eval.proofs.Reaching.{waits_resume}
-use Rattle.tks_eval.proofs.Values.{after_done}
+use Rattle.tks_eval.proofs.After.{after_done}
 use Rattle.tks_eval.proofs.machine.Machine.call_before.Goals as goal
 
 pub returns-then-is_empty-clause-goes : goal.returns-then-is_empty-clause-goes

@@ -6,6 +6,7 @@ use Rattle.tks_eval.specs.Outcome.{Stopped, TooLarge}
 use Rattle.tks_eval.specs.Evaluation.{evaluate, call, words_do}
 use Rattle.tks_eval.specs.Machine.{ReachesSo}
 use Rattle.tks_eval.proofs.Filling.{ready_do}
+use Rattle.tks_eval.proofs.AtOnce.{ends_as}
 use Rattle.tks_eval.proofs.machine.Machine.reach_command.Goals as goal
 
 pub returns-then-not-all_fit-clause-goes : goal.returns-then-not-all_fit-clause-goes
@@ -37,7 +38,7 @@ returns-in_ok-clone-in-Ready-clause-goes g c =
     ∙ ready_do host limits level state variables m.fuel words
     ∙ ap (λ b. cond b (call host limits level words state variables m.fuel) (Stopped TooLarge)) fit
     ∙ ap (λ ws. call host limits level ws state variables m.fuel) (sym same) in
-    subst (λ o. ReachesSo host limits m.left o c.begin.result state c.begin.new.variables c.begin.new.self.fuel) (sym does) c.begin.ensures.goes
+    subst (λ o. ReachesSo host limits c.args.asked m.left o c.begin.result state c.begin.new.variables c.begin.new.self.fuel) (sym does) c.begin.ensures.goes
 
 pub returns-in_ok-clone-in-Made-clause-goes : goal.returns-in_ok-clone-in-Made-clause-goes
 returns-in_ok-clone-in-Made-clause-goes g c =
@@ -52,4 +53,14 @@ returns-in_ok-clone-in-Made-clause-goes g c =
     ∙ ap (λ ws. words_do host limits level (words_of ws) [] state variables m.fuel) (sym words)
     ∙ ap (λ made. words_do host limits level (words_of c.all-words.result) made state variables m.fuel) (sym c.new.ensures) in
     let goes = rw (c.answer.ensures.kept, c.answer.ensures.same, c.in_default.ensures.none) at c.reach.ensures.goes in
-    subst (λ o. ReachesSo host limits m.left o c.reach.result state c.reach.new.variables c.reach.new.self.fuel) (sym does) goes
+    subst (λ o. ReachesSo host limits c.args.asked m.left o c.reach.result state c.reach.new.variables c.reach.new.self.fuel) (sym does) goes
+
+pub returns-in-Some-clause-goes : goal.returns-in-Some-clause-goes
+returns-in-Some-clause-goes g c =
+    let host = g.H.Host.meaning in
+    let limits = c.args.limits.now in
+    let m = c.args.self.now in
+    let level = evaluate host limits m.left in
+    let state = g.H.Host.state c.args.host.now in
+    let end = c.in-Some.end in
+    ends_as c.args.asked (words_do host limits level (words_of_command c.args.command.now) [] state c.args.variables.now m.fuel) end state c.answer.new.variables c.answer.new.self.fuel (search rules)

@@ -1,18 +1,20 @@
-use Rattle.std.proofs.Common.{◌≡◌, [], Ok, Err, Some, true, false, rules, sym, subst, ap, ◌∙◌}
+use Rattle.std.proofs.Common.{◌≡◌, [], Ok, Err, true, false, rules, sym, subst, ap, ◌∙◌}
+use Rattle.tks_expr.specs.Operation.{truth_of}
 use Rattle.tks_eval.specs.Outcome.{End}
-use Rattle.tks_eval.specs.Evaluation.{evaluate, turn_does, loop_does, done}
-use Rattle.tks_eval.specs.Filling.{value_made, truth_made}
-use Rattle.tks_eval.specs.Machine.{TurnsSo}
-use Rattle.tks_eval.specs.Meets.{halt_of_interrupt}
+use Rattle.tks_eval.specs.Evaluation.{evaluate, after_truth, turn_does, loop_does, done}
+use Rattle.tks_eval.specs.Counting.{items_go}
+use Rattle.tks_eval.specs.Machine.{HaltsSo, TurnsSo}
+use Rattle.tks_eval.specs.Meets.{halt_of_failure}
 use Rattle.tks_eval.specs.declared.frame.Ending.{Ending}
 use Rattle.tks_eval.proofs.AtOnce.{turn_halts}
-use Rattle.tks_eval.proofs.Operands.{truth_is, holds_halts}
+use Rattle.tks_eval.proofs.Coming.{condition_is, condition_halts, halted_turn}
+use Rattle.tks_eval.proofs.Halts.{truth_halts}
 use Rattle.tks_eval.proofs.Spending.{evaluate_spends}
 use Rattle.tks_eval.proofs.Turns.{loop_unrolls, tested_reads}
 use Rattle.tks_eval.proofs.machine.Machine.turn.Goals as goal
 
-pub returns-in_err-holds_at_once-clause-goes : goal.returns-in_err-holds_at_once-clause-goes
-returns-in_err-holds_at_once-clause-goes g c =
+pub returns-in_err-waits-clause-goes : goal.returns-in_err-waits-clause-goes
+returns-in_err-waits-clause-goes g c =
     let host = g.H.Host.meaning in
     let limits = c.args.limits.now in
     let turns = c.args.turns.now in
@@ -22,34 +24,19 @@ returns-in_err-holds_at_once-clause-goes g c =
     let body = turn_does inner turns (loop_does limits inner turns) in
     let state = g.H.Host.state c.args.host.now in
     let variables = c.args.variables.now in
+    let items = c.in_ok-items.items in
     let condition : c.condition.result.now ≡ turns.condition = c.condition.ensures in
-    let read = rw condition at c.in_ok-expr.ensures.reads.1 in
-    let e = c.in_ok-expr.expr in
+    let read = rw condition at c.in_ok-items.ensures.reads.1 in
     let tests = loop_unrolls limits inner (evaluate_spends host limits old.left) turns state variables old.fuel
-    ∙ tested_reads limits inner turns.condition body done state variables old.fuel less e c.in_ok-expr.ensures.reads.0 read in
-    let why = c.in_err-holds_at_once.field-0.0 in
-    let halts = turn_halts host limits old.left less turns _ (halt_of_interrupt why) state variables
-    (holds_halts host limits (record { stack = []; left = old.left; fuel = less; table = tt }) state variables e body done why c.in_err-holds_at_once.ensures) in
-    let whole = subst (λ o. TurnsSo host limits old.left turns o (Err (halt_of_interrupt why)) state variables less) (sym tests) halts in
+    ∙ tested_reads limits inner turns.condition body done state variables old.fuel less items c.in_ok-items.ensures.reads.0 read in
+    let why = c.in_err-waits.field-0.0 in
+    let comes = rw c.read_known.ensures.kept at c.in_err-waits.ensures in
+    let halts = condition_halts host limits (items_go limits inner items [] state variables less) body done why state variables less comes in
+    let whole = halted_turn host limits old.left turns _ why state variables less (subst (λ o. HaltsSo host limits o why state variables less) (sym tests) halts) in
     search rules
 
-pub returns-in-None-clause-goes : goal.returns-in-None-clause-goes
-returns-in-None-clause-goes g c =
-    let host = g.H.Host.meaning in
-    let limits = c.args.limits.now in
-    let turns = c.args.turns.now in
-    let old = c.args.self.now in
-    let inner = evaluate host limits old.left in
-    let body = turn_does inner turns (loop_does limits inner turns) in
-    let state = g.H.Host.state c.args.host.now in
-    let variables = c.args.variables.now in
-    let condition : c.condition.result.now ≡ turns.condition = c.condition.ensures in
-    let read = rw condition at c.in_ok-expr.ensures.reads.1 in
-    loop_unrolls limits inner (evaluate_spends host limits old.left) turns state variables old.fuel
-    ∙ tested_reads limits inner turns.condition body done state variables old.fuel c.read_known.new.self.fuel c.in_ok-expr.expr c.in_ok-expr.ensures.reads.0 read
-
-pub returns-in-Some-false-clause-goes : goal.returns-in-Some-false-clause-goes
-returns-in-Some-false-clause-goes g c =
+pub returns-in-Waits-clause-goes : goal.returns-in-Waits-clause-goes
+returns-in-Waits-clause-goes g c =
     let host = g.H.Host.meaning in
     let limits = c.args.limits.now in
     let turns = c.args.turns.now in
@@ -60,13 +47,57 @@ returns-in-Some-false-clause-goes g c =
     let state = g.H.Host.state c.args.host.now in
     let variables = c.args.variables.now in
     let condition : c.condition.result.now ≡ turns.condition = c.condition.ensures in
-    let read = rw condition at c.in_ok-expr.ensures.reads.1 in
-    let e = c.in_ok-expr.expr in
-    let made : truth_made (value_made limits variables e) ≡ Ok (Some false) = search rules in
+    let read = rw condition at c.in_ok-items.ensures.reads.1 in
+    let comes = rw (c.in-Waits.is, c.read_known.ensures.kept) at c.in_ok-waits.ensures in
     loop_unrolls limits inner (evaluate_spends host limits old.left) turns state variables old.fuel
-    ∙ tested_reads limits inner turns.condition body done state variables old.fuel less e c.in_ok-expr.ensures.reads.0 read
-    ∙ truth_is limits variables inner state less e false body done made
-    ∙ ap (λ (end : Ending). End end.code end.text state variables less) (sym c.silent.ensures)
+    ∙ tested_reads limits inner turns.condition body done state variables old.fuel less c.in_ok-items.items c.in_ok-items.ensures.reads.0 read
+    ∙ ap (λ o. after_truth limits o body done) comes
+
+pub returns-in_err-holds-in-Value-clause-goes : goal.returns-in_err-holds-in-Value-clause-goes
+returns-in_err-holds-in-Value-clause-goes g c =
+    let host = g.H.Host.meaning in
+    let limits = c.args.limits.now in
+    let turns = c.args.turns.now in
+    let old = c.args.self.now in
+    let less = c.read_known.new.self.fuel in
+    let inner = evaluate host limits old.left in
+    let body = turn_does inner turns (loop_does limits inner turns) in
+    let state = g.H.Host.state c.args.host.now in
+    let variables = c.args.variables.now in
+    let value = c.in-Value.value in
+    let condition : c.condition.result.now ≡ turns.condition = c.condition.ensures in
+    let read = rw condition at c.in_ok-items.ensures.reads.1 in
+    let comes = rw (c.in-Value.is, c.read_known.ensures.kept) at c.in_ok-waits.ensures in
+    let tests = loop_unrolls limits inner (evaluate_spends host limits old.left) turns state variables old.fuel
+    ∙ tested_reads limits inner turns.condition body done state variables old.fuel less c.in_ok-items.items c.in_ok-items.ensures.reads.0 read
+    ∙ ap (λ o. after_truth limits o body done) comes in
+    let why = c.in_err-holds-in-Value.field-0.0 in
+    let halts = turn_halts host limits old.left less turns _ (halt_of_failure why) state variables
+    (truth_halts host limits (record { stack = []; left = old.left; fuel = less; table = tt }) state variables (λ b. b) value body done why c.in_err-holds-in-Value.ensures) in
+    let whole = subst (λ o. TurnsSo host limits old.left turns o (Err (halt_of_failure why)) state variables less) (sym tests) halts in
+    search rules
+
+pub returns-then-branch-clause-goes : goal.returns-then-branch-clause-goes
+returns-then-branch-clause-goes g c =
+    let host = g.H.Host.meaning in
+    let limits = c.args.limits.now in
+    let turns = c.args.turns.now in
+    let old = c.args.self.now in
+    let less = c.read_known.new.self.fuel in
+    let inner = evaluate host limits old.left in
+    let body = turn_does inner turns (loop_does limits inner turns) in
+    let state = g.H.Host.state c.args.host.now in
+    let variables = c.args.variables.now in
+    let value = c.in-Value.value in
+    let condition : c.condition.result.now ≡ turns.condition = c.condition.ensures in
+    let read = rw condition at c.in_ok-items.ensures.reads.1 in
+    let comes = rw (c.in-Value.is, c.read_known.ensures.kept) at c.in_ok-waits.ensures in
+    let holds : truth_of value ≡ Ok true = search rules in
+    let tests = loop_unrolls limits inner (evaluate_spends host limits old.left) turns state variables old.fuel
+    ∙ tested_reads limits inner turns.condition body done state variables old.fuel less c.in_ok-items.items c.in_ok-items.ensures.reads.0 read
+    ∙ ap (λ o. after_truth limits o body done) comes ∙ condition_is limits value true body done state variables less holds in
+    let goes = rw c.read_known.ensures.kept at c.body_at_once.ensures.goes in
+    rw tests goes
 
 pub returns-clause-goes : goal.returns-clause-goes
 returns-clause-goes g c =
@@ -79,12 +110,12 @@ returns-clause-goes g c =
     let body = turn_does inner turns (loop_does limits inner turns) in
     let state = g.H.Host.state c.args.host.now in
     let variables = c.args.variables.now in
+    let value = c.in-Value.value in
     let condition : c.condition.result.now ≡ turns.condition = c.condition.ensures in
-    let read = rw condition at c.in_ok-expr.ensures.reads.1 in
-    let e = c.in_ok-expr.expr in
-    let made : truth_made (value_made limits variables e) ≡ Ok (Some true) = search rules in
-    let tests = loop_unrolls limits inner (evaluate_spends host limits old.left) turns state variables old.fuel
-    ∙ tested_reads limits inner turns.condition body done state variables old.fuel less e c.in_ok-expr.ensures.reads.0 read
-    ∙ truth_is limits variables inner state less e true body done made in
-    let goes = rw c.read_known.ensures.kept at c.body_at_once.ensures.goes in
-    rw tests goes
+    let read = rw condition at c.in_ok-items.ensures.reads.1 in
+    let comes = rw (c.in-Value.is, c.read_known.ensures.kept) at c.in_ok-waits.ensures in
+    let holds : truth_of value ≡ Ok false = search rules in
+    loop_unrolls limits inner (evaluate_spends host limits old.left) turns state variables old.fuel
+    ∙ tested_reads limits inner turns.condition body done state variables old.fuel less c.in_ok-items.items c.in_ok-items.ensures.reads.0 read
+    ∙ ap (λ o. after_truth limits o body done) comes ∙ condition_is limits value false body done state variables less holds
+    ∙ ap (λ (end : Ending). End end.code end.text state variables less) (sym c.silent.ensures)
