@@ -49,6 +49,10 @@ pub record AsksAlone (x : Windows) (number : ℕ) (size : Extent) : Type 0 where
   pub alone : link_of kept.widget ≡ None
   pub asks : widgets.requested kept.widget ≡ size
 
+-- no room is asked for so: no window has the number, or its widget shows a global
+abbrev pub AsksNoneAlone : Windows → ℕ → Type 0
+AsksNoneAlone x number = (size : Extent) → AsksAlone x number size → ⊥
+
 -- there are two extents, and they are the same
 abbrev pub AreSame : Option Extent → Option Extent → Type 0
 AreSame (Some first) (Some second) = first ≡ second

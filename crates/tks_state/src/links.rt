@@ -36,14 +36,16 @@ fn switch_value<'a>(variables: &'a Vars, caption: &Caption) -> Option<&'a Txt>
 
 // Whether two sizes are the same.
 pub(crate) fn are_same(first: Extent, second: Extent) -> bool
-    ensures { result ≡ true → first ≡ second }
+    ensures same { result ≡ true → first ≡ second }
+    ensures where_same { first ≡ second → result ≡ true }
 {
     first.width == second.width && first.height == second.height
 }
 
 /// Whether there are two extents, and they are the same.
 pub(crate) fn are_same_if_any(first: Option<Extent>, second: Option<Extent>) -> bool
-    ensures { result ≡ true → AreSame first second }
+    ensures same { result ≡ true → AreSame first second }
+    ensures where_same { AreSame first second → result ≡ true }
 {
     match (first, second) {
         (Some(first), Some(second)) => are_same(first, second),
@@ -145,7 +147,8 @@ impl Widget {
 
     // Whether an option has one value for both.
     fn has_same(&self, other: &Widget, name: OptionName) -> bool
-        ensures { result ≡ true → value_in (options_of self.now).values name ≡ value_in (options_of other.now).values name }
+        ensures same { result ≡ true → value_in (options_of self.now).values name ≡ value_in (options_of other.now).values name }
+        ensures where_same { value_in (options_of self.now).values name ≡ value_in (options_of other.now).values name → result ≡ true }
     {
         let Some(own) = self.options().value(name) else {
             return other.options().value(name).is_none();

@@ -1,5 +1,5 @@
 //! The windows: the tree of their numbers, paths and classes, and what is kept of each.
-ghost use Rattle.std.specs.Prelude.{◌≡◌, true, option_map, if◌then◌else◌, Some, None, IfOk, IfSome, OnOk, OnErr, map};
+ghost use Rattle.std.specs.Prelude.{◌≡◌, true, option_map, if◌then◌else◌, Some, None, IfOk, IfSome, IfNone, OnOk, OnErr, map};
 ghost use Rattle.tks_text.specs.Fault.{Gives};
 ghost use Rattle.tks_tree.specs.Meets.{MakesSo};
 ghost use Rattle.tks_share.specs.Lists.{Rises};
@@ -7,7 +7,7 @@ ghost use Rattle.tks_state.specs.Widget.{class_of};
 ghost use Rattle.tks_state.specs.Windows.{kept_of, replaced, with_widget_at, with_tags_at, called_at, called, packed_at, forgotten_at, propagating, first_windows, created, destroyed, changed, tagged, packed, unpacked, with_propagation};
 ghost use Rattle.tks_state.specs.Asking.{AsksSo, changed_at, changed_in};
 ghost use Rattle.tks_state.specs.EventLoop.{Stay};
-ghost use Rattle.tks_state.specs.Laid.{AsksAlone};
+ghost use Rattle.tks_state.specs.Laid.{AsksAlone, AsksNoneAlone};
 ghost use Rattle.tks_state.specs.WellFormed.{WellFormedWindows, mark_of};
 ghost use Rattle.tks_tree.specs.WellFormed.{is_widget_class};
 ghost use Rattle.tks_state.specs.Restoring.{are_windows};
@@ -338,7 +338,8 @@ impl Windows {
 
     /// How much room the widget of a window asks for, where it shows no global.
     pub(crate) fn asked_alone(&self, window: WindowId) -> Option<Extent>
-        ensures { IfSome result (AsksAlone self.now window) }
+        ensures some { IfSome result (AsksAlone self.now window) }
+        ensures none { IfNone result (AsksNoneAlone self.now window) }
     {
         let kept = self.get(window)?;
         let widget = kept.widget.get();

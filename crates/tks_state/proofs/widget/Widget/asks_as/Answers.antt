@@ -8,4 +8,4 @@ returns c same variables =
     let own = c.args.self.now in
     let other = c.args.other.now in
     asks_alone variables variables own other (not_linked (link_of own) (sym c.if-is_linked.ensures)) (not_linked (link_of other) (sym c.if-is_linked-2.ensures))
-    (sym c.requested.ensures ∙ c.are_same.ensures same ∙ c.requested-2.ensures)
+    (sym c.requested.ensures ∙ c.are_same.ensures.same same ∙ c.requested-2.ensures)

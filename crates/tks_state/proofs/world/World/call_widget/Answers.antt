@@ -27,7 +27,7 @@ invariant_of-self-in-Ok-Changes c =
       subst (λ (t : tree.Windows). all_in t.windows w.event_loop ≡ true) (sym c.change.ensures.tree) c.self.invariant.1,
       c.self.invariant.2,
       subst (ArePlaces now w.grid) (sym places) (kept_if_stays now w.grid stays w.places (λ same.
-          let rooms = rooms_same w.windows now c.args.window c.asked_alone-before.result c.asked_alone.result (c.are_same_if_any-stays.ensures same) c.asked_alone-before.ensures c.asked_alone.ensures in
+          let rooms = rooms_same w.windows now c.args.window c.asked_alone-before.result c.asked_alone.result (c.are_same_if_any-stays.ensures.same same) c.asked_alone-before.ensures.some c.asked_alone.ensures.some in
           change_stays w.windows now w.grid c.args.window (changed c.in-Ok-Changes.change) c.in_ok-said-in-Ok-Changes.said rooms.0 w.places c.in_ok-said-in-Ok-Changes.ensures.value rooms.1 rooms.2 c.self.invariant.3)),
     )
 
