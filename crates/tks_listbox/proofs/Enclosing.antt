@@ -3,8 +3,8 @@ use Rattle.std.proofs.Common.{◌≡◌, ℕ, zero, suc, ◌+◌, ◌-◌, ◌<�
 use Rattle.std.proofs.lemmas.Bool.{cases_lt}
 use Rattle.std.proofs.lemmas.Bool.Decides.{nat_tests}
 use Rattle.std.proofs.lemmas.List.{length-append, length-map, length-take-le, length-drop, get_or_append_left, get_or-append_right, get_or-take, get_or-drop, get_or-map, get_or_default, same_lists}
-use Rattle.tks_listbox.specs.Listbox.{HasActive, new_item, moved_on, among, turned, turned_in, selected_from}
-use Rattle.tks_listbox.specs.Bounds.{no_item, is_on, Encloses, nowhere, come_in, with_range, without_range, turned_range}
+use Rattle.tks_listbox.specs.Listbox.{HasActive, new_item, moved_on, moved_back, among, turned, turned_in, selected_from}
+use Rattle.tks_listbox.specs.Bounds.{no_item, is_on, Encloses, nowhere, come_in, go_out, with_range, without_range, turned_range}
 use Rattle.tks_listbox.specs.declared.item.Item.{Item}
 use Rattle.tks_listbox.specs.declared.bounds.Bounds.{Bounds}
 use Rattle.tks_listbox.proofs.Among.{none_turned}
@@ -112,6 +112,33 @@ module _ (place : ℕ) (texts : List (List ℕ)) (items : List Item) (b : Bounds
           there past i (inl s) = h.around i s.1
           there past i (inr s) = let a = h.around (i - length texts) s.1 in absurd (omega (arith, a.1, s.0))
       by false e = moved (nat_le place b.front) refl (grind (arith, nat_tests))
+
+-- ---- items that go out
+
+module _ (front behind : ℕ) (items : List Item) (b : Bounds) (some : front < behind) (within : behind ≤ length items) (h : Encloses b items) where
+  abbrev fewer : List Item
+  fewer = take front items ++ drop behind items
+
+  fewer_long : length fewer ≡ front + (length items - behind)
+  fewer_long = omega (arith, length-append (take front items) (drop behind items), length-take-le front items (omega arith), length-drop behind items)
+
+  went_out : Encloses (go_out front behind b) fewer
+  went_out =
+      record {
+        order = omega (arith, h.order);
+        within = omega (arith, fewer_long, h.within);
+        around = λ i e. there i e (cases_lt i front);
+      }
+    where
+      there : (i : ℕ) → is_on fewer i ≡ true → (i < front) ⊎ (front ≤ i) → ((go_out front behind b).front ≤ i) × (i < (go_out front behind b).behind)
+      there i e (inl early) =
+          let a = h.around i (sym (same_on _ _ (in_front front behind items [] no_item (omega arith) i early)) ∙ e) in
+          (omega (arith, a.0, early), omega (arith, a.1, early))
+      there i e (inr late) =
+          let at : behind + (i - front - 0) ≡ behind + (i - front) = omega arith in
+          let same = same_on _ _ (in_rest front behind items [] no_item (omega arith) i (omega arith) ∙ ap (λ n. get_or items n no_item) at) in
+          let a = h.around (behind + (i - front)) (sym same ∙ e) in
+          (omega (arith, a.0, late), omega (arith, a.1, late))
 
 -- ---- items that are selected, or taken out of the selection
 
@@ -334,6 +361,10 @@ pub around_more : (place : ℕ) (texts : List (List ℕ)) (items new : List Item
     → Encloses b items → Encloses c new
 around_more place texts items new b c within e f h = subst (Encloses c) (sym e) (subst (λ d. Encloses d (take place items ++ (map new_item texts ++ drop place items))) (sym f) (came_in place texts items b within h))
 
+pub around_less : (front behind : ℕ) (items new : List Item) (b c : Bounds) → front < behind → behind ≤ length items → new ≡ take front items ++ drop behind items → c ≡ go_out front behind b
+    → Encloses b items → Encloses c new
+around_less front behind items new b c some within e f h = subst (Encloses c) (sym e) (subst (λ d. Encloses d (take front items ++ drop behind items)) (sym f) (went_out front behind items b some within h))
+
 pub around_turned : (on : Bool) (front behind : ℕ) (items new : List Item) (b c : Bounds) → behind ≤ length items → new ≡ turned_in on front behind items → c ≡ turned_range on front behind b
     → Encloses b items → Encloses c new
 around_turned on front behind items new b c within e f h = subst (Encloses c) (sym e) (subst (λ d. Encloses d (turned_in on front behind items)) (sym f) (turned_so front behind items b within h on))
@@ -356,6 +387,19 @@ active_on place active texts items new within e h =
         goes : (t : Bool) → (if t then active + length texts else active) < max 1 (length new)
         goes true = omega (arith, low, long)
         goes false = omega (arith, low, long)
+
+pub active_back : (front behind active : ℕ) (items new : List Item) → front < behind → behind ≤ length items → new ≡ take front items ++ drop behind items
+    → HasActive items active → HasActive new (moved_back front behind (length items) active)
+active_back front behind active items new some within e h = by (nat_lt active front) refl (nat_le behind active) refl
+  where
+    long : length new ≡ front + (length items - behind)
+    long = ap length e ∙ omega (arith, length-append (take front items) (drop behind items), length-take-le front items (omega arith), length-drop behind items)
+
+    by : (s : Bool) → nat_lt active front ≡ s → (t : Bool) → nat_le behind active ≡ t
+        → (if s then active else (if t then active - (behind - front) else min front (length items - (behind - front) - 1))) < max 1 (length new)
+    by true x t y = let early : active < front = grind (arith, nat_tests) in omega (arith, early, long)
+    by false x true y = let late : behind ≤ active = grind (arith, nat_tests) in omega (arith, late, long, h)
+    by false x false y = omega (arith, long, h)
 
 pub active_there : (on : Bool) (front behind active : ℕ) (items new : List Item) → behind ≤ length items → new ≡ turned_in on front behind items → HasActive items active → HasActive new active
 active_there on front behind active items new within e h = omega (arith, h, ap length e ∙ turned_long on front behind items within)

@@ -35,12 +35,12 @@ module _ {X : Type 0} where
   from_end (y ∷ xs) zero is = cc
   from_end (y ∷ xs) (suc i) is = from_end xs i is
 
-  get_left : (l m : List X) (i : ℕ) → i < length l → slice_get (l ++ m) i ≡ slice_get l i
+  pub get_left : (l m : List X) (i : ℕ) → i < length l → slice_get (l ++ m) i ≡ slice_get l i
   get_left [] m i h = absurd (omega (arith, h))
   get_left (x ∷ l) m zero h = refl
   get_left (x ∷ l) m (suc i) h = get_left l m i (omega (arith, h))
 
-  get_right : (l m : List X) (i : ℕ) → length l ≤ i → slice_get (l ++ m) i ≡ slice_get m (i - length l)
+  pub get_right : (l m : List X) (i : ℕ) → length l ≤ i → slice_get (l ++ m) i ≡ slice_get m (i - length l)
   get_right [] m i h = ap (slice_get m) (omega arith)
   get_right (x ∷ l) m zero h = absurd (omega (arith, h))
   get_right (x ∷ l) m (suc i) h = get_right l m i (omega (arith, h)) ∙ ap (slice_get m) (omega arith)
@@ -136,7 +136,7 @@ module _ {X : Type 0} (l : List X) (x : X) (r es : List X) (is : es ≡ l ++ x �
 
 -- where the item of a number stands
 module _ {X : Type 0} (number : X → ℕ) where
-  rises_left : (low : ℕ) (l m : List X) → Rises number low (l ++ m) → Rises number low l
+  pub rises_left : (low : ℕ) (l m : List X) → Rises number low (l ++ m) → Rises number low l
   rises_left low [] m r = tt
   rises_left low (y ∷ l) m r = (r.0, rises_left (number y + 1) l m r.1)
 
@@ -189,6 +189,95 @@ module _ {X : Type 0} (number : X → ℕ) where
 
     from_zero : (m : List X) → position is_it m ≡ position_from is_it 0 m
     from_zero m = position_from-zero is_it m
+
+    -- a list in two
+    lower : (low high : ℕ) (m : List X) → low ≤ high → Rises number high m → Rises number low m
+    lower low high [] h r = tt
+    lower low high (y ∷ m) h r = (omega (arith, h, r.0), r.1)
+
+    pub rises_behind : (low : ℕ) (l m : List X) → Rises number low (l ++ m) → Rises number low m
+    rises_behind low [] m r = r
+    rises_behind low (y ∷ l) m r = lower low (number y + 1) m (omega (arith, r.0)) (rises_behind (number y + 1) l m r.1)
+
+    found_above : (low k i : ℕ) (m : List X) → Rises number low m → position_from is_it k m ≡ Some i → low ≤ n
+    found_above low k i [] r e = cc
+    found_above low k i (y ∷ m) r e = by (number y == n) refl (found_above (number y + 1) (k + 1) i m r.1) e
+      where
+        by : (b : Bool) → (number y == n) ≡ b → (position_from is_it (k + 1) m ≡ Some i → number y + 1 ≤ n) → cond b (Some k) (position_from is_it (k + 1) m) ≡ Some i → low ≤ n
+        by true here rest same = omega (arith, r.0, eqb-true (number y) n here)
+        by false apart rest same = omega (arith, r.0, rest same)
+
+    none_before : (low i : ℕ) (l m : List X) → Rises number low (l ++ m) → position_from is_it 0 m ≡ Some i → NoneHas l
+    none_before low i [] m r e = tt
+    none_before low i (y ∷ l) m r e =
+        (ne_eqb (number y) n (λ s. omega (arith, s, found_above (number y + 1) 0 i m (rises_behind (number y + 1) l m r.1) e)), none_before (number y + 1) i l m r.1 e)
+
+    -- one that is found behind isn't before it
+    pub not_before : (low i : ℕ) (l m : List X) → Rises number low (l ++ m) → position is_it m ≡ Some i → position is_it l ≡ None
+    not_before low i l m r e = from_zero l ∙ nowhere 0 l (none_before low i l m r (sym (from_zero m) ∙ e))
+
+    sought_first : (k i : ℕ) (l m : List X) → position_from is_it k l ≡ Some i → position_from is_it k (l ++ m) ≡ Some i
+    sought_first k i [] m e = cc
+    sought_first k i (y ∷ l) m e = by (number y == n) (sought_first (k + 1) i l m) e
+      where
+        by : (b : Bool) → (position_from is_it (k + 1) l ≡ Some i → position_from is_it (k + 1) (l ++ m) ≡ Some i)
+            → cond b (Some k) (position_from is_it (k + 1) l) ≡ Some i → cond b (Some k) (position_from is_it (k + 1) (l ++ m)) ≡ Some i
+        by true rest same = same
+        by false rest same = rest same
+
+    sought_behind : (k : ℕ) (l m : List X) → position_from is_it k l ≡ None → position_from is_it k (l ++ m) ≡ position_from is_it (k + length l) m
+    sought_behind k [] m e = ap (λ j. position_from is_it j m) (omega arith)
+    sought_behind k (y ∷ l) m e = by (number y == n) (sought_behind (k + 1) l m) e
+      where
+        by : (b : Bool) → (position_from is_it (k + 1) l ≡ None → position_from is_it (k + 1) (l ++ m) ≡ position_from is_it (k + 1 + length l) m)
+            → cond b (Some k) (position_from is_it (k + 1) l) ≡ None
+            → cond b (Some k) (position_from is_it (k + 1) (l ++ m)) ≡ position_from is_it (k + suc (length l)) m
+        by true rest same = cc
+        by false rest same = rest same ∙ ap (λ j. position_from is_it j m) (omega arith)
+
+    pub stands_first : (i : ℕ) (l m : List X) → position is_it l ≡ Some i → position is_it (l ++ m) ≡ Some i
+    stands_first i l m e = from_zero (l ++ m) ∙ sought_first 0 i l m (sym (from_zero l) ∙ e)
+
+    pub stands_behind : (l m : List X) → position is_it l ≡ None → position is_it (l ++ m) ≡ option_map (λ j. length l + j) (position is_it m)
+    stands_behind l m e =
+        from_zero (l ++ m) ∙ sought_behind 0 l m (sym (from_zero l) ∙ e) ∙ ap (λ k. position_from is_it k m) (omega arith)
+        ∙ later (length l) 0 m ∙ ap (option_map (λ j. length l + j)) (sym (from_zero m))
+
+    -- a number below that of the first item, or above that of the last, no item has
+    pub below_first : (low : ℕ) (xs : List X) (x : X) → Rises number low xs → slice_get xs 0 ≡ Some x → n < number x → position is_it xs ≡ None
+    below_first low [] x r is h = cc
+    below_first low (y ∷ xs) x r is h =
+        let same : y ≡ x = cc in
+        from_zero (y ∷ xs) ∙ nowhere 0 (y ∷ xs) (behind_has_none (number y) (y ∷ xs) (omega arith, r.1) (omega (arith, h, ap number same)))
+
+    all_below : (low : ℕ) (xs : List X) (i : ℕ) (x : X) → Rises number low xs → slice_get xs i ≡ Some x → length xs ≡ i + 1 → number x < n → (low ≤ number x) × NoneHas xs
+    all_below low [] i x r is many h = cc
+    all_below low (y ∷ []) zero x r is many h =
+        let same : y ≡ x = cc in
+        (omega (arith, r.0, ap number same), (ne_eqb (number y) n (λ e. omega (arith, e, h, ap number same)), tt))
+    all_below low (y ∷ z ∷ xs) zero x r is many h = absurd (omega (arith, many))
+    all_below low (y ∷ xs) (suc i) x r is many h =
+        let rest = all_below (number y + 1) xs i x r.1 is (omega (arith, many)) h in
+        (omega (arith, r.0, rest.0), (ne_eqb (number y) n (λ e. omega (arith, e, h, rest.0)), rest.1))
+
+    pub above_last : (low : ℕ) (xs : List X) (i : ℕ) (x : X) → Rises number low xs → slice_get xs i ≡ Some x → length xs ≡ i + 1 → number x < n → position is_it xs ≡ None
+    above_last low xs i x r is many h = from_zero xs ∙ nowhere 0 xs (all_below low xs i x r is many h).1
+
+    stands_from : (k low i : ℕ) (xs : List X) (x : X) → Rises number low xs → slice_get xs i ≡ Some x → number x ≡ n → (low ≤ n) × (position_from is_it k xs ≡ Some (k + i))
+    stands_from k low i [] x r is e = cc
+    stands_from k low zero (y ∷ xs) x r is e =
+        let same : y ≡ x = cc in
+        (omega (arith, r.0, ap number same, e), ap (λ b. cond b (Some k) (position_from is_it (k + 1) xs)) (eq-eqb (number y) n (ap number same ∙ e)) ∙ ap (λ j. Some j) (omega arith))
+    stands_from k low (suc i) (y ∷ xs) x r is e =
+        let rest = stands_from (k + 1) (number y + 1) i xs x r.1 is e in (
+          omega (arith, r.0, rest.0),
+          ap (λ b. cond b (Some k) (position_from is_it (k + 1) xs)) (ne_eqb (number y) n (λ same. omega (arith, same, rest.0)))
+              ∙ rest.1 ∙ ap (λ j. Some j) (omega arith),
+        )
+
+    -- an item of the number stands at its place
+    pub stands_at : (low i : ℕ) (xs : List X) (x : X) → Rises number low xs → slice_get xs i ≡ Some x → number x ≡ n → position is_it xs ≡ Some i
+    stands_at low i xs x r is e = from_zero xs ∙ (stands_from 0 low i xs x r is e).1 ∙ ap (λ j. Some j) (omega arith)
 
     -- taking out the item of the number is leaving out those of the number
     abbrev isnt_it : X → Bool

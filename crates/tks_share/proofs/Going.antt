@@ -6,7 +6,9 @@ use Rattle.std.specs.Cmp.Lexicographic.{nat_list_cmp_total}
 use Rattle.std.specs.FinMap.Entries.{is_sorted, below_all}
 use Rattle.tks_share.specs.Names.{order, behind}
 use Rattle.tks_share.specs.Tree.{front}
-use Rattle.tks_share.specs.Maps.{rest_of}
+use Rattle.tks_share.specs.Going.{those_ahead}
+use Rattle.tks_share.specs.declared.iter.Ahead.{Ahead}
+use Rattle.tks_share.specs.declared.iter.Ahead.TheVariants as ahead
 use Rattle.tks_share.proofs.Sides.{first, second, less, later_under, under_less}
 
 lesser : (r : Ordering) → is_lt r ≡ true → r ≡ Less
@@ -15,6 +17,11 @@ lesser Equal e = cc
 lesser Greater e = cc
 
 module _ {V : Type 0} where
+  -- the entries from this one on
+  abbrev rest_of : List (List ℕ × V) → Option (List ℕ × V) → List (List ℕ × V)
+  rest_of all None = []
+  rest_of all (Some e) = e ∷ behind e.0 all
+
   -- behind the first entry stand the others
   others : (e : List ℕ × V) (es : List (List ℕ × V)) → T (below_all order e.0 es) → behind e.0 (e ∷ es) ≡ es
   others e es h =
@@ -26,7 +33,7 @@ module _ {V : Type 0} where
         behind_all : (x : List ℕ) (m : List (List ℕ × V)) → Rattle.tks_share.proofs.Sides.IsUnder order x m → behind x m ≡ m
         behind_all x m p = later_under order x m p
 
-  pub begun : (es : List (List ℕ × V)) (next : Option (List ℕ × V)) → T (is_sorted order es) → next ≡ front es → rest_of es next ≡ es
+  begun : (es : List (List ℕ × V)) (next : Option (List ℕ × V)) → T (is_sorted order es) → next ≡ front es → rest_of es next ≡ es
   begun [] next s e = ap (rest_of []) e
   begun (x ∷ es) next s e = ap (rest_of (x ∷ es)) e ∙ ap (λ l. x ∷ l) (others x es (first _ _ s))
 
@@ -46,10 +53,14 @@ module _ {V : Type 0} where
   passed x name es (Some e) h is =
       ap (λ r. e ∷ cond (is_lt r) (x ∷ behind e.0 es) (behind e.0 es)) (nat_list_cmp_total.antisymm e.0 x.0 ∙ ap ordering_reverse (below_first x.0 name es e h is))
 
-  pub goes_on : (es : List (List ℕ × V)) (name : List ℕ) (next : Option (List ℕ × V)) → T (is_sorted order es) → next ≡ front (behind name es) → rest_of es next ≡ behind name es
+  goes_on : (es : List (List ℕ × V)) (name : List ℕ) (next : Option (List ℕ × V)) → T (is_sorted order es) → next ≡ front (behind name es) → rest_of es next ≡ behind name es
   goes_on [] name next s is = ap (rest_of []) is
   goes_on (x ∷ es) name next s is =
       elim (is_lt (order name x.0)) as (λ b. is_lt (order name x.0) ≡ b → next ≡ front (cond b (x ∷ behind name es) (behind name es)) → rest_of (x ∷ es) next ≡ cond b (x ∷ behind name es) (behind name es)) [
         | true ↦ λ p same. ap (rest_of (x ∷ es)) same ∙ ap (λ l. x ∷ l) (others x es (first _ _ s) ∙ sym (later_under order name es (under_less order nat_list_cmp_total name x.0 es (lesser _ p) (first _ _ s))))
         | false ↦ λ p same. passed x name es next (first _ _ s) same ∙ goes_on es name next (second _ _ s) same
       ] refl is
+
+  pub steps : (es : List (List ℕ × V)) (from : Ahead) (e : List ℕ × V) → T (is_sorted order es) → Some e ≡ front (those_ahead from es) → those_ahead from es ≡ e ∷ behind e.0 es
+  steps es ahead.All e s is = sym (begun es (Some e) s is)
+  steps es (ahead.Behind name) e s is = sym (goes_on es name.now (Some e) s is)

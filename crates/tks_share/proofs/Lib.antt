@@ -5,3 +5,5 @@ pub mod Going
 pub mod AtPlace
 pub mod Alike
 pub mod Members
+pub mod InLine
+pub mod InRow

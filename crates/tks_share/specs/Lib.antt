@@ -6,3 +6,5 @@ pub mod Lending
 pub mod Maps
 pub mod Lists
 pub mod Parts
+pub mod Rows
+pub mod Going

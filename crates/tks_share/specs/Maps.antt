@@ -1,8 +1,8 @@
 -- Maps from names to values, as contracts see them.
-use Rattle.std.specs.Prelude.{◌≡◌, ℕ, List, [], ◌∷◌, Option, Some, None}
+use Rattle.std.specs.Prelude.{◌≡◌, ℕ, List, Some}
 use Rattle.std.specs.Borrow.{Bor}
 use Rattle.std.specs.FinMap as map
-use Rattle.tks_share.specs.Names.{order, behind}
+use Rattle.tks_share.specs.Names.{order}
 
 -- finite maps from names to values
 abbrev pub Map : Type 0 → Type 0
@@ -20,8 +20,3 @@ module _ {V : Type 0} where
   -- an entry that is given, as it is seen
   abbrev pub entry_seen : Bor (List ℕ) × Bor V → List ℕ × V
   entry_seen e = (e.0.now, e.1.now)
-
-  -- the entries that are still to come, where this is the next one
-  abbrev pub rest_of : List (List ℕ × V) → Option (List ℕ × V) → List (List ℕ × V)
-  rest_of all None = []
-  rest_of all (Some e) = e ∷ behind e.0 all

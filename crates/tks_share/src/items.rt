@@ -2,17 +2,17 @@
 ghost use Rattle.std.specs.Iterator.{YieldsFirstRef, item_count};
 ghost use Rattle.tks_share.specs.Lists.{Fits};
 
-use crate::places::{self, Part};
+use crate::line::{self, Line, Reached};
+use crate::places::Part;
 use crate::shared::Shared;
-use crate::tree::Tree;
 use std::marker::Model;
 
 /// The items of a list that are still to come, in order.
 #[derive(Drop)]
 pub struct Items<'a, T> {
-    tree: &'a Tree<Shared<T>>,
+    line: &'a Line<Shared<T>>,
     next: usize,
-    // A part with the next ones, so that few forks are gone through for each.
+    // A part of the tree with the next ones, so that few forks are gone through for each.
     part: Part<'a, Shared<T>>,
 }
 
@@ -25,44 +25,40 @@ impl<'a, T> Model for Items<'a, T> {
 
     ghost coded = { coded_list T.code };
 
-    ghost view = { λ i. drop i.next i.tree.now };
+    ghost view = { λ i. drop i.next i.line.now };
 
     ghost use Rattle.tks_share.specs.Parts.{Follows};
 
-    ghost invariant = { λ i. Fits i.tree.now × Follows i.part i.next i.tree.now };
+    ghost invariant = { λ i. Fits i.line.now × Follows i.part i.next i.line.now };
 }
 
 impl<'a, T: Drop> Items<'a, T> {
     ghost use Rattle.std.specs.Prelude.{◌≡◌, drop};
 
-    // The items of a tree.
-    pub(crate) fn of(tree: &'a Tree<Shared<T>>) -> Items<'a, T>
-        requires { Fits tree.now }
-        ensures { result ≡ tree.now }
+    // The items of a line.
+    pub(crate) fn of(line: &'a Line<Shared<T>>) -> Items<'a, T>
+        requires { Fits line.now }
+        ensures { result ≡ line.now }
     {
-        Items::from_index(tree, 0)
+        Items::from_index(line, 0)
     }
 
     /// The same, from here on once more.
     pub fn again(&self) -> Items<'a, T>
         ensures { result ≡ self.now }
     {
-        Items::from_index(self.tree, self.next)
+        Items::from_index(self.line, self.next)
     }
 
-    // The items of a tree from an index on.
-    fn from_index(tree: &'a Tree<Shared<T>>, next: usize) -> Items<'a, T>
-        requires { Fits tree.now }
-        ensures { result ≡ drop next tree.now }
+    // The items of a line from an index on.
+    fn from_index(line: &'a Line<Shared<T>>, next: usize) -> Items<'a, T>
+        requires { Fits line.now }
+        ensures { result ≡ drop next line.now }
     {
         Items {
-            tree,
+            line,
             next,
-            part: Part {
-                tree,
-                place: 0,
-                left: 0,
-            },
+            part: line::nothing(line),
         }
     }
 }
@@ -75,13 +71,8 @@ impl<'a, T: Drop> Iterator for Items<'a, T> {
     ghost remaining = { item_count (λ i. i) };
 
     fn next(&mut self) -> Option<&'a T> {
-        let part = places::part_with(&self.part, self.tree, self.next)?;
-        let item = places::at(part.tree, part.place)?;
-        self.part = Part {
-            tree: part.tree,
-            place: part.place + 1,
-            left: part.left - 1,
-        };
+        let Reached { item, part } = line::reach(&self.part, self.line, self.next)?;
+        self.part = part;
         self.next += 1;
         Some(item.get())
     }

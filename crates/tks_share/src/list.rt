@@ -6,26 +6,26 @@ ghost use Rattle.tks_share.specs.Lists.{Fits, Rises, Says, IsParted, leading};
 use crate::change::Change;
 use crate::copied::Copied;
 use crate::items::Items;
+use crate::line::{self, Line};
 use crate::map::MAX_LEN;
 use crate::numbered::Numbered;
-use crate::places;
 use crate::share::Share;
 use crate::shared::Shared;
-use crate::tree::Tree;
 use std::alloc::{AllocError, Global};
 use std::marker::Model;
 
-/// A list of fewer than 2^32 items by their places. Copies share what they have in common, so to make one costs next to nothing; a change costs
-/// as much as the items on one way down a balanced tree.
+/// A list of fewer than 2^32 items by their places. Copies share what they have in common, so to make one costs next to nothing; a change of
+/// one of the few items at either end costs as much as these, however many others there are, and any other as much as the items on
+/// one way down a balanced tree.
 pub struct SharedList<T> {
     alloc: Global,
-    tree: Tree<Shared<T>>,
+    line: Line<Shared<T>>,
 }
 
 // Written out, so that to let go of it is one step for whoever owns it.
 impl<T: Drop> Drop for SharedList<T> {
     fn drop(self) {
-        let SharedList { alloc: _, tree: _ } = self;
+        let SharedList { alloc: _, line: _ } = self;
     }
 }
 
@@ -38,9 +38,9 @@ impl<T> Model for SharedList<T> {
 
     ghost coded = { coded_list T.code };
 
-    ghost view = { λ l. l.tree };
+    ghost view = { λ l. l.line };
 
-    ghost invariant = { λ l. Fits l.tree };
+    ghost invariant = { λ l. Fits l.line };
 }
 
 impl<T: Drop> SharedList<T> {
@@ -50,7 +50,7 @@ impl<T: Drop> SharedList<T> {
     {
         SharedList {
             alloc,
-            tree: Tree::new(),
+            line: Line::new(),
         }
     }
 
@@ -71,7 +71,7 @@ impl<T: Drop> SharedList<T> {
     {
         Ok(SharedList {
             alloc: self.alloc,
-            tree: self.tree.share()?,
+            line: self.line.share()?,
         })
     }
 
@@ -80,14 +80,14 @@ impl<T: Drop> SharedList<T> {
         ensures value { result ≡ length self.now }
         ensures short { Fits self.now }
     {
-        self.tree.count()
+        self.line.count()
     }
 
     /// The item at an index.
     pub fn get(&self, index: usize) -> Option<&T>
         ensures { option_copied result ≡ slice_get self.now index }
     {
-        match places::at(&self.tree, index) {
+        match self.line.at(index) {
             None => None,
             Some(item) => Some(item.get()),
         }
@@ -102,7 +102,8 @@ impl<T: Drop> SharedList<T> {
             return Err(AllocError);
         }
         let item = Shared::new(self.alloc, item)?;
-        places::put_behind(&mut self.tree, self.alloc, item, Tree::new())
+        let end = self.line.count();
+        self.line.insert(self.alloc, end, item)
     }
 
     /// Puts an item into the place of the one at an index.
@@ -112,7 +113,7 @@ impl<T: Drop> SharedList<T> {
         ensures err { OnErr result (self.new ≡ self.old) }
     {
         let item = Shared::new(self.alloc, item)?;
-        places::set(&mut self.tree, index, item)
+        self.line.set(index, item)
     }
 
     /// Puts an item before the one at an index, or at the end. One too many is refused as memory is.
@@ -125,7 +126,7 @@ impl<T: Drop> SharedList<T> {
             return Err(AllocError);
         }
         let item = Shared::new(self.alloc, item)?;
-        places::insert(&mut self.tree, self.alloc, index, item)
+        self.line.insert(self.alloc, index, item)
     }
 
     /// Takes out the item at an index, and hands it out. It is held on to and not copied, since other lists may hold it too.
@@ -135,11 +136,11 @@ impl<T: Drop> SharedList<T> {
         ensures ok { OnOk result (self.new ≡ remove self.old index) }
         ensures err { OnErr result (self.new ≡ self.old) }
     {
-        let Some(item) = places::at(&self.tree, index) else {
+        let Some(item) = self.line.at(index) else {
             unreachable!()
         };
         let item = item.share()?;
-        places::remove(&mut self.tree, index)?;
+        self.line.remove(index)?;
         Ok(item)
     }
 
@@ -150,7 +151,7 @@ impl<T: Drop> SharedList<T> {
     {
         Ok(SharedList {
             alloc: self.alloc,
-            tree: places::kept(&self.tree, self.alloc, &keep)?,
+            line: line::kept(&self.line, self.alloc, &keep)?,
         })
     }
 
@@ -171,14 +172,14 @@ impl<T: Drop> SharedList<T> {
         ensures place { (p : T → Bool) → Says (F.post accepts) p → IsParted p self.now → result ≡ leading p self.now }
         ensures within { result ≤ length self.now }
     {
-        places::partition_point(&self.tree, &accepts)
+        line::partition_point(&self.line, &accepts)
     }
 
     /// The items in order.
     pub fn iter(&self) -> Items<'_, T>
         ensures { result ≡ self.now }
     {
-        Items::of(&self.tree)
+        Items::of(&self.line)
     }
 }
 
@@ -196,7 +197,7 @@ impl<T: Copied> SharedList<T> {
         ensures none { IfOk result (λ o. IfNone o ((self.new ≡ self.old) × (slice_get self.old index ≡ None))) }
         ensures err { OnErr result (self.new ≡ self.old) }
     {
-        places::change(&mut self.tree, self.alloc, index, change)
+        line::change(&mut self.line, self.alloc, index, change)
     }
 }
 
@@ -206,7 +207,7 @@ impl<T: Numbered> SharedList<T> {
         requires { Rises T.number_of 0 self.now }
         ensures { result ≡ position (λ x. T.number_of x == number) self.now }
     {
-        places::place_of(&self.tree, number)
+        line::place_of(&self.line, number)
     }
 
     /// Takes out the item of a number, if there is one. Numbers must rise.
@@ -215,10 +216,10 @@ impl<T: Numbered> SharedList<T> {
         ensures ok { OnOk result (self.new ≡ filter (λ x. not (T.number_of x == number)) self.old) }
         ensures err { OnErr result (self.new ≡ self.old) }
     {
-        let Some(index) = places::place_of(&self.tree, number) else {
+        let Some(index) = line::place_of(&self.line, number) else {
             return Ok(());
         };
-        places::remove(&mut self.tree, index)
+        self.line.remove(index)
     }
 }
 

@@ -139,7 +139,7 @@ impl<V: Drop> SharedMap<V> {
     }
 
     /// The names that come behind this one, with what is under each, in the names' order.
-    pub fn iter_behind(&self, name: &[u8]) -> Iter<'_, V>
+    pub fn iter_behind<'a>(&'a self, name: &'a [u8]) -> Iter<'a, V>
         ensures { result ≡ behind name.now (map.entries self.now) }
     {
         Iter::behind(&self.tree, name)

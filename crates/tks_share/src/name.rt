@@ -42,10 +42,15 @@ impl Name {
         ensures { result ≡ order bytes.now self.now }
     {
         let name = self.bytes.as_slice();
-        // Most names that differ do so in their first byte.
+        // Most names that differ do so in their first byte, and paths, which all begin with a dot, in their second.
         if let ([first, ..], [own, ..]) = (bytes, name) {
             if first != own {
                 return first.cmp(own);
+            }
+        }
+        if let ([_, second, ..], [_, own, ..]) = (bytes, name) {
+            if second != own {
+                return second.cmp(own);
             }
         }
         // Most names that are looked up are there, and to be equal costs less to find than an order.

@@ -44,8 +44,8 @@ pub(crate) struct Part<'a, E> {
 /// How many items a part has that is gone over as one.
 const FEW: usize = 16;
 
-// A part that has the item at an index: with few others, if the item isn't the root of many.
-fn part_at<E>(tree: &Tree<E>, index: usize) -> Option<Part<'_, E>>
+/// A part that has the item at an index: with few others, if the item isn't the root of many.
+pub(crate) fn part_at<E>(tree: &Tree<E>, index: usize) -> Option<Part<'_, E>>
     ensures some { IfSome result (λ p. Fits tree.now → Follows p index tree.now × (0 < p.left) × (index + p.left ≤ length tree.now)) }
     ensures none { IfNone result (Fits tree.now → slice_get tree.now index ≡ None) }
 {
@@ -76,27 +76,6 @@ fn part_at<E>(tree: &Tree<E>, index: usize) -> Option<Part<'_, E>>
     } else {
         part_at(&fork.right, index - place - 1)
     }
-}
-
-/// The same part where it has the item at an index, else another that has, if there is one.
-pub(crate) fn part_with<'a, E>(
-    part: &Part<'a, E>,
-    tree: &'a Tree<E>,
-    index: usize,
-) -> Option<Part<'a, E>>
-    requires fits { Fits tree.now }
-    requires follows { Follows part.now index tree.now }
-    ensures some { IfSome result (λ p. Follows p index tree.now × (0 < p.left)) }
-    ensures none { IfNone result (slice_get tree.now index ≡ None) }
-{
-    if part.left == 0 {
-        return part_at(tree, index);
-    }
-    Some(Part {
-        tree: part.tree,
-        place: part.place,
-        left: part.left,
-    })
 }
 
 /// Puts an item into the place of the one at an index.
@@ -271,8 +250,8 @@ fn joined<E: Share>(
     }
 }
 
-// Those of a tree, and those of another.
-fn appended<E: Share>(
+/// Those of a tree, and those of another.
+pub(crate) fn appended<E: Share>(
     alloc: Global,
     left: Tree<E>,
     mut right: Tree<E>,
