@@ -6,6 +6,7 @@ ghost use Rattle.tks_bind.specs.History as history;
 ghost use Rattle.tks_bind.specs.VirtualEvents.{added, deleted, deleted_sequence};
 ghost use Rattle.tks_state.specs.Events.{max_faults, first_events, with_fault, held, without_those_of, without_those_of_all};
 ghost use Rattle.tks_tree.specs.Windows.{without};
+ghost use Rattle.tks_tree.specs.Within.{AreThoseIn};
 ghost use Rattle.tks_state.specs.WellFormed.{WellFormedEvents};
 
 use crate::class_bindings::first_bindings;
@@ -170,15 +171,20 @@ impl Events {
         self.virtuals.event_delete_sequence(name, sequence)
     }
 
-    /// The same without the bindings of a window, and of those that stand in it.
-    pub fn left(&self, tree: &Tree, window: WindowId) -> Result<Events, AllocError>
+    /// The same without the bindings of a window, and of those that stand in it, which have these numbers.
+    pub fn left(
+        &self,
+        tree: &Tree,
+        window: WindowId,
+        gone: &[WindowId],
+    ) -> Result<Events, AllocError>
+        requires { AreThoseIn tree.now window gone.now }
         ensures { IfOk result (λ x. x ≡ record self.now { bindings = held tree.now.windows (without tree.now window).windows self.now.bindings }) }
     {
         // What holds of all windows is asked for here.
         let _ = tree.len();
-        let gone = tree.within(window)?;
         let mut left = self.share()?;
-        drop_all(&mut left.bindings, tree, &gone)?;
+        drop_all(&mut left.bindings, tree, gone)?;
         Ok(left)
     }
 

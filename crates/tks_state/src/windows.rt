@@ -2,6 +2,7 @@
 ghost use Rattle.std.specs.Prelude.{◌≡◌, true, option_map, if◌then◌else◌, Some, None, IfOk, IfSome, IfNone, OnOk, OnErr, map};
 ghost use Rattle.tks_text.specs.Fault.{Gives};
 ghost use Rattle.tks_tree.specs.Meets.{MakesSo};
+ghost use Rattle.tks_tree.specs.Within.{AreThoseIn};
 ghost use Rattle.tks_share.specs.Lists.{Rises};
 ghost use Rattle.tks_state.specs.Widget.{class_of};
 ghost use Rattle.tks_state.specs.Windows.{kept_of, replaced, with_widget_at, with_tags_at, called_at, called, packed_at, forgotten_at, propagating, first_windows, created, destroyed, changed, tagged, packed, unpacked, with_propagation};
@@ -298,23 +299,24 @@ impl Windows {
         Ok(window)
     }
 
-    /// The same without a window, and without all that stand in it. `.` stays: that is an error. Where no window has the
-    /// number, none goes.
-    pub fn without(&self, window: WindowId) -> Result<Windows, Failure>
-        ensures { Gives (λ x. x) result (destroyed self.now window) }
+    /// The same without a window, and without all that stand in it, with the numbers of those that go. `.` stays: that is an
+    /// error. Where no window has the number, none goes.
+    pub fn without(&self, window: WindowId) -> Result<(Windows, Vec<WindowId>), Failure>
+        ensures value { Gives (λ x. x.0) result (destroyed self.now window) }
+        ensures gone { IfOk result (λ x. AreThoseIn self.now.tree window x.1.items) }
     {
         let container = self.tree.parent(window);
         let mut tree = self.tree.share()?;
-        tree.destroy(window)?;
-        let gone = self.tree.within(window)?;
+        let gone = tree.destroy(window)?;
         let mut kept = self.kept.share()?;
         forget_at(&mut kept, container, window)?;
         let kept = without_windows(&kept, &gone)?;
-        Ok(Windows {
+        let windows = Windows {
             alloc: self.alloc,
             tree,
             kept,
-        })
+        };
+        Ok((windows, gone))
     }
 
     /// Puts another widget of its class in the place of a window's. Where no window has the number, nothing is done.

@@ -381,10 +381,9 @@ impl World {
         ensures value { Gives (λ _. self.new) result (destroyed self.old window) }
         ensures err { OnErr result (self.new ≡ self.old) }
     {
-        let windows = self.windows.without(window)?;
-        let tree = windows.tree();
-        let events = self.events.left(self.windows.tree(), window)?;
-        let event_loop = self.event_loop.left(tree)?;
+        let (windows, gone) = self.windows.without(window)?;
+        let events = self.events.left(self.windows.tree(), window, &gone)?;
+        let event_loop = self.event_loop.left(windows.tree())?;
         self.places = Places::unknown();
         self.windows = windows;
         self.events = events;

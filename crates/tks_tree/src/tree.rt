@@ -103,7 +103,12 @@ impl Tree {
         ensures value { result ≡ number_at self.now.windows (Some path.now) }
         ensures formed { WellFormed self.now }
     {
-        self.index.get(path).copied()
+        let index = &self.index;
+        // `.` is always there.
+        if path == ROOT {
+            return Some(WindowId::root());
+        }
+        index.get(path).copied()
     }
 
     /// The window of a path.
@@ -117,7 +122,7 @@ impl Tree {
     fn has(&self, path: &Txt) -> bool
         ensures { result ≡ has_path self.now.windows path.now }
     {
-        self.find(path).is_some()
+        self.number_at(path.as_bytes()).is_some()
     }
 
     // How many windows were made before the one of a number, and are there. Numbers rise.
@@ -255,10 +260,11 @@ impl Tree {
         Ok(index)
     }
 
-    /// Takes a window out, and all that stand in it, however deep. `.` stays: that is an error. Where no
-    /// window has the number, nothing is done.
-    pub fn destroy(&mut self, id: WindowId) -> Result<(), Failure>
+    /// Takes a window out, and all that stand in it, however deep, and hands out their numbers. `.` stays: that is an
+    /// error. Where no window has the number, none goes.
+    pub fn destroy(&mut self, id: WindowId) -> Result<Vec<WindowId>, Failure>
         ensures value { Gives (λ _. self.new) result (destroyed self.old id) }
+        ensures gone { IfOk result (λ ids. AreThoseIn self.old id ids.items) }
         ensures err { OnErr result (self.new ≡ self.old) }
     {
         if id.is_root() {
@@ -272,7 +278,7 @@ impl Tree {
         let index = self.index_without(&ids)?;
         self.windows = windows;
         self.index = index;
-        Ok(())
+        Ok(ids)
     }
 
     /// The number of the window that one stands in; none for `.`, and for a number that no window has.

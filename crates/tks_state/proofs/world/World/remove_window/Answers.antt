@@ -9,6 +9,6 @@ pub invariant_of-self : goal.invariant_of-self
 invariant_of-self c =
     let ws = c.in_ok-windows.windows.tree.windows in
     let loop = c.self.inside.event_loop in
-    let first = c.tree-tree.ensures.formed.windows.first in
-    let there = ap (all_in ws) (c.in_ok-event_loop.ensures ∙ ap (λ (t : tree.Windows). left t.windows loop) c.tree-tree.ensures.value) ∙ left_there ws first.0 loop first.1 in
+    let first = c.tree-2.ensures.formed.windows.first in
+    let there = ap (all_in ws) (c.in_ok-event_loop.ensures ∙ ap (λ (t : tree.Windows). left t.windows loop) c.tree-2.ensures.value) ∙ left_there ws first.0 loop first.1 in
     (c.self.invariant.0, there, c.self.invariant.2, subst (ArePlaces c.in_ok-windows.windows c.self.inside.grid) (sym c.unknown.ensures) tt)
