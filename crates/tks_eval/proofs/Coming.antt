@@ -1,7 +1,6 @@
 -- How far an expression comes is how far its items come.
 use Rattle.std.proofs.Common.{◌≡◌, ℕ, Bool, List, [], Some, Result, Ok, Err, sym, subst, ap, ◌∙◌, arith}
 use Rattle.tks_text.specs.declared.limits.Limits.{Limits}
-use Rattle.tks_parse.specs.View.{parts_of}
 use Rattle.tks_vars.specs.Variables.{Variables}
 use Rattle.tks_expr.specs.declared.items.Item.{Item}
 use Rattle.tks_expr.specs.Compiled.{items_in}
@@ -11,9 +10,8 @@ use Rattle.tks_tcl.specs.Meets.{FailsSo}
 use Rattle.tks_tcl.specs.declared.interrupt.Interrupt.{Interrupt}
 use Rattle.tks_eval.specs.Outcome.{Outcome, End, Next, Level, Meaning, given}
 use Rattle.tks_eval.specs.Evaluation.{Loop, evaluate, expression_does, result_told, if_holds, after_truth}
-use Rattle.tks_eval.specs.Filling.{left_of}
 use Rattle.tks_eval.specs.Meets.{halt_of_interrupt}
-use Rattle.tks_eval.specs.Counting.{on_top, Count, All, Upto, counted_from, items_go, whole_text, ComesSo}
+use Rattle.tks_eval.specs.Counting.{on_top, Count, All, Upto, counted_from, items_go, left_in, whole_text, ComesSo}
 use Rattle.tks_eval.specs.Machine.{HaltsSo, CountsSo, CountFalls, TurnsSo}
 use Rattle.tks_eval.specs.declared.halt.Halt.{Halt}
 use Rattle.tks_eval.specs.declared.halt.Halt.TheVariants as halt
@@ -76,4 +74,4 @@ halted_turn host limits left loop whole (halt.Stop why) state variables fuel h =
 pub comes_falls : (limits : Limits) (variables : Variables) (items : List Item) (stack below : List (List ℕ)) (r : Counted) → ComesSo (Ok r) (counted_from limits variables 0 items stack) → CountFalls (Ok r) (items, below)
 comes_falls limits variables items stack below (counted.Value value) h = tt
 comes_falls limits variables items stack below (counted.Waits w) h =
-    omega (arith, counted_falls limits variables items 0 stack w.value.counting.0 w.value.counting.1 (left_of (Some w.value.inner) (parts_of w.value.parts)) w.value.made h)
+    omega (arith, counted_falls limits variables items 0 stack w.counting.0 w.counting.1 (left_in w.awaited).0 (left_in w.awaited).1 h)

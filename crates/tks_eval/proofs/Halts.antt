@@ -41,6 +41,7 @@ module _ {S : Type 0} (host : Meaning S) (limits : Limits) where
   resume_stopped left (frame.Catch name ∷ below) why = resume_stopped left below why
   resume_stopped left (frame.Each name body items ∷ below) why = resume_stopped left below why
   resume_stopped left (frame.Value c ∷ below) why = resume_stopped left below why
+  resume_stopped left (frame.Operand c ∷ below) why = resume_stopped left below why
   resume_stopped left (frame.Whole ∷ below) why = resume_stopped left below why
   resume_stopped left (frame.Branch body rest ∷ below) why = resume_stopped left below why
   resume_stopped left (frame.Turns stage.Start loop ∷ below) why = resume_stopped left below why

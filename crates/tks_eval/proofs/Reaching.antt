@@ -240,6 +240,7 @@ waits_weigh no_command levels (frame.Element name made parts ∷ below) = omega 
 waits_weigh no_command levels (frame.Catch name ∷ below) = omega arith
 waits_weigh no_command levels (frame.Each name body elements ∷ below) = omega arith
 waits_weigh no_command levels (frame.Value c ∷ below) = omega arith
+waits_weigh no_command levels (frame.Operand c ∷ below) = omega arith
 waits_weigh no_command levels (frame.Whole ∷ below) = omega arith
 waits_weigh no_command levels (frame.Branch body rest ∷ below) = omega arith
 waits_weigh no_command levels (frame.Turns stage loop ∷ below) = omega arith
@@ -263,6 +264,7 @@ module _ {S : Type 0} (host : Meaning S) (limits : Limits) where
   waits_resume left no_command levels (frame.Catch name ∷ below) outcome = refl
   waits_resume left no_command levels (frame.Each name body elements ∷ below) outcome = refl
   waits_resume left no_command levels (frame.Value c ∷ below) outcome = refl
+  waits_resume left no_command levels (frame.Operand c ∷ below) outcome = refl
   waits_resume left no_command levels (frame.Whole ∷ below) outcome = refl
   waits_resume left no_command levels (frame.Branch body rest ∷ below) outcome = refl
   waits_resume left no_command levels (frame.Turns stage loop ∷ below) outcome = refl

@@ -16,6 +16,8 @@ use Rattle.tks_eval.specs.Outcome.{Outcome, Next, Level, fails}
 use Rattle.tks_eval.specs.Outcome as outcome
 use Rattle.tks_eval.specs.Evaluation.{text_done, and_then, made_text, with_value}
 use Rattle.tks_eval.specs.Filling.{filled, left_of}
+use Rattle.tks_eval.specs.declared.expressions.Awaited.{Awaited}
+use Rattle.tks_eval.specs.declared.expressions.Awaited.TheVariants as awaited
 use Rattle.tks_eval.specs.declared.expressions.Stop.{Stop}
 use Rattle.tks_eval.specs.declared.expressions.Counted.{Counted}
 use Rattle.tks_eval.specs.declared.expressions.Counted.TheVariants as counted
@@ -103,10 +105,15 @@ module _ {S : Type 0} (limits : Limits) (inner : Level S) where
   abbrev pub counts_on : List Item × List (List ℕ) → Outcome S → Outcome S
   counts_on c whole = outcome.after whole (λ text. items_go c.0 (text ∷ c.1))
 
+-- what is left of a text that is awaited, and what is made of it
+abbrev pub left_in : Awaited → Parts × List ℕ
+left_in (awaited.Script script) = (nested script no_part, [])
+left_in (awaited.Text text) = (left_of (Some text.value.inner) (parts_of text.value.parts), text.value.made)
+
 -- what a call returned that did items up to a text that waits
 abbrev pub StopsAt : Result (Option Stop) Interrupt → List (List ℕ) → Result Count Cause → Type 0
 StopsAt (Ok None) stack count = count ≡ Ok (All stack)
-StopsAt (Ok (Some stop)) stack count = count ≡ Ok (Upto stop.rest.now stack (left_of (Some stop.inner) (parts_of stop.parts)) stop.made)
+StopsAt (Ok (Some stop)) stack count = count ≡ Ok (Upto stop.rest.now stack (left_in stop.awaited).0 (left_in stop.awaited).1)
 StopsAt (Err why) stack count = FailsSo why count
 
 -- the text on top, where all items are done
@@ -119,5 +126,5 @@ whole_text (Err why) = None
 abbrev pub ComesSo : Result Counted Interrupt → Result Count Cause → Type 0
 ComesSo (Ok (counted.Value value)) count = whole_text count ≡ Some value
 ComesSo (Ok (counted.Waits w)) count =
-    count ≡ Ok (Upto w.value.counting.0 w.value.counting.1 (left_of (Some w.value.inner) (parts_of w.value.parts)) w.value.made)
+    count ≡ Ok (Upto w.counting.0 w.counting.1 (left_in w.awaited).0 (left_in w.awaited).1)
 ComesSo (Err why) count = FailsSo why count

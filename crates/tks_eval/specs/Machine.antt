@@ -18,7 +18,7 @@ use Rattle.tks_eval.specs.Evaluation.{Loop, loop_does, element_name, with_value,
 use Rattle.tks_eval.specs.Filling.{left_of, Stand, All, Upto, words_made}
 use Rattle.tks_eval.specs.Names.{Control, control_named}
 use Rattle.tks_eval.specs.Names as control
-use Rattle.tks_eval.specs.Counting.{counts_on}
+use Rattle.tks_eval.specs.Counting.{counts_on, left_in}
 use Rattle.tks_eval.specs.Loops.{after_stage}
 use Rattle.tks_eval.specs.Meets.{StopsSo}
 use Rattle.tks_eval.specs.declared.control.Control.{Control as Coded}
@@ -129,6 +129,8 @@ module _ {S : Type 0} (host : Meaning S) (limits : Limits) where
   after_frame left (frame.Catch name) outcome = caught outcome (catch_ends limits name)
   after_frame left (frame.Each name body elements) outcome = after_body outcome (each limits (evaluate host limits left) name body elements)
   after_frame left (frame.Value c) outcome = counts_on limits (evaluate host limits left) c outcome
+  after_frame left (frame.Operand c) outcome =
+      counts_on limits (evaluate host limits left) c (behind_script limits (evaluate host limits left) no_part [] outcome)
   after_frame left frame.Whole outcome = result_told limits outcome
   after_frame left (frame.Branch body rest) outcome =
       after_truth limits outcome (evaluate host limits left (script_of body)) (branches_do limits (evaluate host limits left) rest.otherwise rest.tests)
@@ -157,13 +159,13 @@ module _ {S : Type 0} (host : Meaning S) (limits : Limits) where
   abbrev pub waits_do : ℕ → Waits → Next S
   waits_do left w state variables fuel =
       counts_on limits (evaluate host limits left) w.counting
-      (parts_do limits (evaluate host limits left) (left_of (Some w.inner) (parts_of w.parts)) w.made state variables fuel)
+      (parts_do limits (evaluate host limits left) (left_in w.awaited).0 (left_in w.awaited).1 state variables fuel)
 
   -- the end on top
   abbrev pub outcome_now : ℕ → Now → Next S
   outcome_now left (Open script) state variables fuel = evaluate host limits left script state variables fuel
   outcome_now left (Index parts) state variables fuel = parts_do limits (evaluate host limits left) (parts_of parts) [] state variables fuel
-  outcome_now left (Counts w) state variables fuel = waits_do left w.value state variables fuel
+  outcome_now left (Counts w) state variables fuel = waits_do left w state variables fuel
   outcome_now left (Planned p) state variables fuel = plan_does host limits (evaluate host limits left) p state variables fuel
   outcome_now left (At ended) state variables fuel = End ended.code ended.text state variables fuel
 
@@ -181,7 +183,7 @@ module _ {S : Type 0} (host : Meaning S) (limits : Limits) where
   -- how far an expression came at once
   abbrev pub CountsSo : ℕ → Outcome S → Result Counted Halt → S → Variables → ℕ → Type 0
   CountsSo left whole (Ok (counted.Value value)) state variables fuel = whole ≡ End 0 value state variables fuel
-  CountsSo left whole (Ok (counted.Waits w)) state variables fuel = whole ≡ waits_do left w.value state variables fuel
+  CountsSo left whole (Ok (counted.Waits w)) state variables fuel = whole ≡ waits_do left w state variables fuel
   CountsSo left whole (Err why) state variables fuel = HaltsSo whole why state variables fuel
 
   -- how far a word was made at once
@@ -218,7 +220,7 @@ module _ {S : Type 0} (host : Meaning S) (limits : Limits) where
   reached_does left (reached.Ended end) state variables fuel = End end.code end.text state variables fuel
   reached_does left (reached.Opens script) state variables fuel = evaluate host limits left script state variables fuel
   reached_does left (reached.Runs c given) state variables fuel = control_called (evaluate host limits left) (control_of c) (given_words given) state variables fuel
-  reached_does left (reached.Counts w) state variables fuel = result_told limits (waits_do left w.value state variables fuel)
+  reached_does left (reached.Counts w) state variables fuel = result_told limits (waits_do left w state variables fuel)
   reached_does left (reached.Calls given) state variables fuel = called (evaluate host limits left) (given_words given) state variables fuel
   reached_does left (reached.Waits w) state variables fuel = waiting_does left w.value state variables fuel
 
@@ -270,7 +272,7 @@ items_weight (item.Make parts ∷ rest) = 4 * parts_size parts + 3 + items_weigh
 items_weight (i ∷ rest) = items_weight rest
 
 abbrev pub waits_weight : Waits → ℕ
-waits_weight w = items_weight w.counting.0 + 4 * parts_size (left_of (Some w.inner) (parts_of w.parts)) + 2
+waits_weight w = items_weight w.counting.0 + 4 * parts_size (left_in w.awaited).0 + 2
 
 abbrev pub text_weight : List ℕ → ℕ
 text_weight text = 4 * script_size (script_of text) + 2
@@ -287,6 +289,7 @@ loop_weight stage.Next loop = 1
 
 abbrev pub frame_weight : Frame → ℕ
 frame_weight (frame.Value c) = items_weight c.0 + 1
+frame_weight (frame.Operand c) = items_weight c.0 + 2
 frame_weight frame.Whole = 1
 frame_weight (frame.Branch body rest) = text_weight body + optional_weight rest.otherwise + 1
 frame_weight (frame.Turns stage loop) = loop_weight stage loop
@@ -315,7 +318,7 @@ plan_weight (plan.Update due) = 1
 abbrev pub now_weight : Now → ℕ
 now_weight (Open script) = 4 * script_size script + 2
 now_weight (Index parts) = 4 * parts_size (parts_of parts) + 1
-now_weight (Counts w) = waits_weight w.value
+now_weight (Counts w) = waits_weight w
 now_weight (Planned p) = plan_weight p
 now_weight (At ended) = 0
 
@@ -331,7 +334,7 @@ Falls result weight old new =
 -- less is left of an expression that waits than there was
 abbrev pub CountFalls : Result Counted Halt → List Item × List (List ℕ) → Type 0
 CountFalls (Ok (counted.Value value)) c = Unit {0}
-CountFalls (Ok (counted.Waits w)) c = waits_weight w.value < items_weight c.0 + 1
+CountFalls (Ok (counted.Waits w)) c = waits_weight w < items_weight c.0 + 1
 CountFalls (Err why) c = Unit {0}
 
 -- a step was taken while a word was made, or no more is left of it than this

@@ -1,5 +1,5 @@
 //! Expressions: their items are done with a stack of values, up to a text that waits for a script or an index.
-ghost use Rattle.std.specs.Prelude.{◌≡◌, ◌≤◌, ◌-◌, [], ◌∷◌, length, drop, if◌then◌else◌, codes, IfOk, IfSome, OnOk, MatchOption};
+ghost use Rattle.std.specs.Prelude.{◌≡◌, ◌≤◌, ◌-◌, [], ◌∷◌, length, drop, reverse, if◌then◌else◌, codes, IfOk, IfSome, OnOk, MatchOption};
 ghost use Rattle.tks_expr.specs.Compiled.{items_in};
 ghost use Rattle.tks_expr.specs.View.{operand_text};
 ghost use Rattle.tks_eval.specs.Outcome.{End};
@@ -14,11 +14,11 @@ use crate::frame::{Ending, Frame, Now};
 use crate::halt::{Halt, error_about};
 use crate::host::Host;
 use crate::machine::Machine;
-use crate::words::{Inner, fill_up};
+use crate::words::{Inner, alone, fill_up, only_script};
 use std::alloc::{AllocError, Global};
 use std::marker::Model;
 use tks_expr::{Binary, Item, Items, Leaf, Operand, Value, apply, apply_unary};
-use tks_parse::{Part, Remaining};
+use tks_parse::{Part, Remaining, Script};
 use tks_tcl::{Interrupt, joined_within};
 use tks_text::{ErrorNumber, Limits, Txt, fits};
 use tks_vars::Vars;
@@ -77,6 +77,28 @@ impl Values {
             top: None,
             below: Vec::new(alloc),
         }
+    }
+
+    // This one on top of those, of which that on top is the last.
+    fn above(top: Value, below: Vec<Value>) -> Values
+        ensures { result ≡ top ∷ reverse below.items }
+    {
+        Values {
+            top: Some(top),
+            below,
+        }
+    }
+
+    // All of them, that on top last.
+    fn into_below(self) -> Result<Vec<Value>, AllocError>
+        ensures { IfOk result (λ below. reverse below.items ≡ self) }
+    {
+        let Values { top, below } = self;
+        let mut below = below;
+        if let Some(top) = top {
+            below.push(top)?;
+        }
+        Ok(below)
     }
 
     // Puts a value on top.
@@ -217,17 +239,17 @@ impl Values {
     }
 }
 
-/// An expression under way, at a text that is made for it: the items behind that, and the values before it. Contracts see these
-/// items and the values' texts.
+/// An expression under way, at a text that is made for it: the items behind that, and the values before it, that on top last.
+/// Contracts see these items and the values' texts.
 #[derive(Drop)]
 pub struct Counting {
     items: Items,
     left: usize,
-    values: Values,
+    values: Vec<Value>,
 }
 
 impl Model for Counting {
-    ghost use Rattle.std.specs.Prelude.{List, ℕ, ◌-◌, length, drop};
+    ghost use Rattle.std.specs.Prelude.{List, ℕ, ◌-◌, length, drop, reverse};
     ghost use Rattle.std.specs.Coded.{coded×, coded_list, coded_ℕ};
     ghost use Rattle.tks_expr.specs.declared.items.Item.{Item};
     ghost use Rattle.tks_expr.specs.contracts.items.Item as contract;
@@ -236,31 +258,46 @@ impl Model for Counting {
 
     ghost coded = { coded× (coded_list contract.the_row.coded) (coded_list (coded_list coded_ℕ)) };
 
-    ghost view = { λ c. (drop (length c.items - c.left) c.items, c.values) };
+    ghost view = { λ c. (drop (length c.items - c.left) c.items, reverse c.values.items) };
 }
 
-/// An expression that waits: for what has to be run, behind the text so far and before these parts.
+/// A text that was begun: what has to be run, behind the text so far and before these parts.
 #[derive(Drop)]
-pub struct Waits {
-    pub counting: Counting,
+pub struct Unfinished {
     pub made: Txt,
     pub inner: Inner,
     pub parts: Remaining<Part>,
+}
+
+/// What an expression waits for.
+#[derive(Drop)]
+pub enum Awaited {
+    /// The result of a script, which is the text.
+    Script(Script),
+    /// A text that was begun.
+    Text(Box<Unfinished>),
+}
+
+/// An expression that waits. It is handed on, so it is small.
+#[derive(Drop)]
+pub struct Waits {
+    pub counting: Counting,
+    pub awaited: Awaited,
 }
 
 /// How far an expression came.
 #[derive(Drop)]
 pub enum Counted {
     Value(Value),
-    Waits(Box<Waits>),
+    Waits(Waits),
 }
 
-// What an expression waits for, behind a pointer.
-fn boxed(alloc: Global, waits: Waits) -> Result<Box<Waits>, AllocError>
-    ensures { IfOk result (λ b. b.value ≡ waits) }
+// A text that was begun, behind a pointer.
+fn boxed(alloc: Global, text: Unfinished) -> Result<Box<Unfinished>, AllocError>
+    ensures { IfOk result (λ b. b.value ≡ text) }
 {
-    match Box::new(alloc, waits) {
-        Ok(waits) => Ok(waits),
+    match Box::new(alloc, text) {
+        Ok(text) => Ok(text),
         Err(_) => Err(AllocError),
     }
 }
@@ -273,13 +310,10 @@ fn behind(items: &[Item], count: usize) -> &[Item]
     items.split_at(count.min(items.len())).1
 }
 
-// Where items stop: at a text, for which this has to be run, behind what is made of it and before what is left of it; and the
-// items behind it.
+// Where items stop: at a text, for which this is awaited; and the items behind it.
 #[derive(Drop)]
 struct Stop<'a> {
-    made: Txt,
-    inner: Inner,
-    parts: Remaining<Part>,
+    awaited: Awaited,
     rest: &'a [Item],
 }
 
@@ -301,13 +335,18 @@ fn count<'a>(
             rest = behind(more, count);
             continue 'item;
         };
+        if let Some(script) = only_script(parts) {
+            return Ok(Some(Stop {
+                awaited: Awaited::Script(script.share()?),
+                rest: more,
+            }));
+        }
         let mut parts = parts.remaining()?;
         let mut made = Txt::new(alloc);
         if let Some(inner) = fill_up(&mut made, &mut parts, variables, limits)? {
+            let text = Unfinished { made, inner, parts };
             return Ok(Some(Stop {
-                made,
-                inner,
-                parts,
+                awaited: Awaited::Text(boxed(alloc, text)?),
                 rest: more,
             }));
         }
@@ -334,24 +373,13 @@ fn come(
     let Some(stop) = count(alloc, here, &mut values, variables, limits)? else {
         return Ok(Counted::Value(values.into_top(alloc)));
     };
-    let Stop {
-        made,
-        inner,
-        parts,
-        rest,
-    } = stop;
+    let Stop { awaited, rest } = stop;
     let counting = Counting {
         items: items.share()?,
         left: rest.len(),
-        values,
+        values: values.into_below()?,
     };
-    let waits = Waits {
-        counting,
-        made,
-        inner,
-        parts,
-    };
-    Ok(Counted::Waits(boxed(alloc, waits)?))
+    Ok(Counted::Waits(Waits { counting, awaited }))
 }
 
 impl Machine {
@@ -450,9 +478,9 @@ impl Machine {
         let Counting {
             items,
             left,
-            mut values,
+            values,
         } = counting;
-        values.push(Value::of(text))?;
+        let values = Values::above(Value::of(text), values);
         let counted = come(alloc, &items, left, values, variables, limits)?;
         Ok(counted)
     }
@@ -468,15 +496,40 @@ impl Machine {
         ensures falls { Falls result (waits_weight waits) self.old self.new }
         ensures goes { GoesSo H.meaning limits.now (resume H.meaning limits.now self.old.left self.old.stack (waits_do H.meaning limits.now self.old.left waits (H.state host.now) variables.now self.old.fuel)) result self.new (H.state host.now) variables.now }
     {
-        let Waits {
-            counting,
-            made,
-            inner,
-            parts,
-        } = waits;
-        self.stack.push(Frame::Value(counting))?;
-        let now = self.open_inner(inner, made, parts)?;
-        Ok(now)
+        let Waits { counting, awaited } = waits;
+        match awaited {
+            Awaited::Script(script) => {
+                self.stack.push(Frame::Operand(counting))?;
+                Ok(Now::Open(script))
+            }
+            Awaited::Text(text) => {
+                let Unfinished { made, inner, parts } = Box::into_inner(text);
+                self.stack.push(Frame::Value(counting))?;
+                let now = self.open_inner(inner, made, parts)?;
+                Ok(now)
+            }
+        }
+    }
+
+    /// Goes on with an expression behind a script, whose result is the text that it waited for.
+    pub fn after_operand<H: Host>(
+        &mut self,
+        alloc: Global,
+        host: &H,
+        variables: &Vars,
+        counting: Counting,
+        end: Ending,
+        limits: &Limits,
+    ) -> Result<Now, Halt>
+        ensures falls { Falls result (frame_weight (frames.Operand counting)) self.old self.new }
+        ensures goes { GoesSo H.meaning limits.now (resume H.meaning limits.now self.old.left (frames.Operand counting ∷ self.old.stack) (End end.code end.text (H.state host.now) variables.now self.old.fuel)) result self.new (H.state host.now) variables.now }
+    {
+        if end.code != 0 {
+            return Ok(Now::At(end));
+        }
+        let text = alone(end.text, limits)?;
+        let end = Ending { code: 0, text };
+        self.after_value(alloc, host, variables, counting, end, limits)
     }
 
     /// Goes on with an expression behind a text that it waited for.
@@ -500,7 +553,7 @@ impl Machine {
                 code: 0,
                 text: value.into_text(alloc)?,
             })),
-            Counted::Waits(waits) => Ok(Now::Counts(waits)),
+            Counted::Waits(waits) => self.open_waits(host, variables, waits, limits),
         }
     }
 

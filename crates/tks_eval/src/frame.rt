@@ -66,6 +66,8 @@ pub enum Frame {
     },
     /// An expression, at a text.
     Value(Counting),
+    /// An expression, at a script whose result is the text.
+    Operand(Counting),
     /// `expr`, at its expression.
     Whole,
     /// `if`, at a condition, with its body and the branches behind it.
@@ -106,7 +108,7 @@ pub enum Now {
     /// An index to make.
     Index(Remaining<Part>),
     /// An expression that waits.
-    Counts(Box<Waits>),
+    Counts(Waits),
     /// What the host wants done.
     Planned(Plan),
     /// An end, for the frame on top.

@@ -138,9 +138,7 @@ impl Machine {
                         Some(frame) => self.resume(alloc, host, variables, frame, end, limits),
                     },
                     Now::Open(script) => self.open(alloc, host, variables, script, limits),
-                    Now::Counts(waits) => {
-                        self.open_waits(host, variables, Box::into_inner(waits), limits)
-                    }
+                    Now::Counts(waits) => self.open_waits(host, variables, waits, limits),
                     Now::Index(parts) => {
                         self.fill(alloc, host, variables, Txt::new(alloc), parts, limits)
                     }
@@ -267,6 +265,9 @@ impl Machine {
             } => self.after_element(alloc, host, variables, name, body, elements, end, limits),
             Frame::Value(counting) => {
                 self.after_value(alloc, host, variables, counting, end, limits)
+            }
+            Frame::Operand(counting) => {
+                self.after_operand(alloc, host, variables, counting, end, limits)
             }
             Frame::Whole => self.after_whole(alloc, host, variables, end, limits),
             Frame::Branch { body, rest } => {

@@ -91,7 +91,7 @@ pub enum Reached {
     /// Its step is taken, and it is one that runs scripts.
     Runs(Control, Given),
     /// Its step is taken, and it is an `expr`, whose expression waits.
-    Counts(Box<Waits>),
+    Counts(Waits),
     /// Its step is taken, and it is the host's or a procedure.
     Calls(Given),
     /// One of its words waits.
@@ -495,7 +495,7 @@ impl Machine {
             }
             Reached::Counts(waits) => {
                 self.stack.push(Frame::Whole)?;
-                self.open_waits(host, variables, Box::into_inner(waits), limits)
+                self.open_waits(host, variables, waits, limits)
             }
             Reached::Calls(words) => {
                 let levels = self.left;

@@ -32,6 +32,16 @@ fn grow(made: &mut Txt, more: &Txt, limits: &Limits) -> Result<(), Interrupt>
     Ok(())
 }
 
+/// A text of which nothing is made yet, with this behind that.
+pub fn alone(text: Txt, limits: &Limits) -> Result<Txt, Interrupt>
+    ensures { GivesSo (λ t. t) result (appended limits.now [] text) }
+{
+    if text.len() > limits.text as usize {
+        return Err(Interrupt::TooLarge);
+    }
+    Ok(text)
+}
+
 // A text that is being made, with more behind it. Where nothing is made yet, it is what comes.
 fn joined(made: Txt, more: Txt, limits: &Limits) -> Result<Txt, Interrupt>
     ensures { GivesSo (λ t. t) result (appended limits.now made more) }
@@ -41,9 +51,7 @@ fn joined(made: Txt, more: Txt, limits: &Limits) -> Result<Txt, Interrupt>
         grow(&mut made, &more, limits)?;
         return Ok(made);
     }
-    if more.len() > limits.text as usize {
-        return Err(Interrupt::TooLarge);
-    }
+    let more = alone(more, limits)?;
     Ok(more)
 }
 

@@ -38,6 +38,12 @@ returns-in-Some-2-clause-rest c =
     let here : rest ≡ c.in-Some.item.now ∷ c.in-Some.more.now = search rules in
     left_next c.args.items.now rest c.in-Some.more.now c.in-Some.item.now here c.item.invariant.rest c.item.invariant.within
 
+pub returns-in-Some-only_script-clause-rest : goal.returns-in-Some-only_script-clause-rest
+returns-in-Some-only_script-clause-rest c =
+    let rest = c.item.rest.now in
+    let here : rest ≡ c.in-Some.item.now ∷ c.in-Some.more.now = search rules in
+    left_next c.args.items.now rest c.in-Some.more.now c.in-Some.item.now here c.item.invariant.rest c.item.invariant.within
+
 pub item-preserved : goal.item-preserved
 item-preserved c =
     let limits = c.args.limits.now in
