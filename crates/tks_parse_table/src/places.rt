@@ -64,7 +64,7 @@ fn behind(index: usize) -> usize {
 }
 
 impl<T: Known> Places<T> {
-    /// Nothing kept.
+    /// Nothing kept. What is kept is seen as nothing at all, as the table is, so no clause could tell of it.
     pub fn new(alloc: Global) -> Places<T> {
         Places {
             places: Vec::new(alloc),
