@@ -5,6 +5,7 @@ pub mod Falls
 pub mod Lending
 pub mod Maps
 pub mod Lists
+pub mod Lines
 pub mod Parts
 pub mod Rows
 pub mod Going

@@ -1,5 +1,6 @@
 //! Going over the items of a list.
 ghost use Rattle.std.specs.Iterator.{YieldsFirstRef, item_count};
+ghost use Rattle.tks_share.specs.Lines.{line_seen};
 ghost use Rattle.tks_share.specs.Lists.{Fits};
 
 use crate::line::{self, Line, Reached};
@@ -10,35 +11,36 @@ use std::marker::Model;
 /// The items of a list that are still to come, in order.
 #[derive(Drop)]
 pub struct Items<'a, T> {
-    line: &'a Line<Shared<T>>,
+    line: Option<&'a Line<Shared<T>>>,
     next: usize,
     // A part of the tree with the next ones, so that few forks are gone through for each.
-    part: Part<'a, Shared<T>>,
+    part: Option<Part<'a, Shared<T>>>,
 }
 
 impl<'a, T> Model for Items<'a, T> {
-    ghost use Rattle.std.specs.Prelude.{List, drop};
+    ghost use Rattle.std.specs.Prelude.{List, IfSome, drop};
     ghost use Rattle.std.specs.Coded.{coded_list};
+    ghost use Rattle.tks_share.specs.Lines.{line_seen};
     ghost use Rattle.tks_share.specs.Lists.{Fits};
 
     ghost Value = { List T };
 
     ghost coded = { coded_list T.code };
 
-    ghost view = { λ i. drop i.next i.line.now };
+    ghost view = { λ i. drop i.next (line_seen i.line) };
 
     ghost use Rattle.tks_share.specs.Parts.{Follows};
 
-    ghost invariant = { λ i. Fits i.line.now × Follows i.part i.next i.line.now };
+    ghost invariant = { λ i. Fits (line_seen i.line) × IfSome i.part (λ p. Follows p i.next (line_seen i.line)) };
 }
 
 impl<'a, T: Drop> Items<'a, T> {
     ghost use Rattle.std.specs.Prelude.{◌≡◌, drop};
 
     // The items of a line.
-    pub(crate) fn of(line: &'a Line<Shared<T>>) -> Items<'a, T>
-        requires { Fits line.now }
-        ensures { result ≡ line.now }
+    pub(crate) fn of(line: Option<&'a Line<Shared<T>>>) -> Items<'a, T>
+        requires { Fits (line_seen line) }
+        ensures { result ≡ line_seen line.entry }
     {
         Items::from_index(line, 0)
     }
@@ -51,14 +53,14 @@ impl<'a, T: Drop> Items<'a, T> {
     }
 
     // The items of a line from an index on.
-    fn from_index(line: &'a Line<Shared<T>>, next: usize) -> Items<'a, T>
-        requires { Fits line.now }
-        ensures { result ≡ drop next line.now }
+    fn from_index(line: Option<&'a Line<Shared<T>>>, next: usize) -> Items<'a, T>
+        requires { Fits (line_seen line) }
+        ensures { result ≡ drop next (line_seen line.entry) }
     {
         Items {
             line,
             next,
-            part: line::nothing(line),
+            part: None,
         }
     }
 }
@@ -71,7 +73,8 @@ impl<'a, T: Drop> Iterator for Items<'a, T> {
     ghost remaining = { item_count (λ i. i) };
 
     fn next(&mut self) -> Option<&'a T> {
-        let Reached { item, part } = line::reach(&self.part, self.line, self.next)?;
+        let line = self.line?;
+        let Reached { item, part } = line::reach(&self.part, line, self.next)?;
         self.part = part;
         self.next += 1;
         Some(item.get())

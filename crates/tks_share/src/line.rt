@@ -1,6 +1,6 @@
 //! Items in a line: a few at the front and a few at the back lie in rows, those between them in a tree. What comes and goes soon
 //! does so at an end, where a change copies a row and no way down the tree.
-ghost use Rattle.std.specs.Prelude.{◌≡◌, ◌==◌, ◌<◌, ◌≤◌, ◌+◌, ℕ, Bool, [], length, slice_get, slice_set, position, Some, None, IfOk, IfSome, IfNone, OnOk, OnErr, option_copied};
+ghost use Rattle.std.specs.Prelude.{◌≡◌, ◌==◌, ◌<◌, ◌≤◌, ◌+◌, ◌++◌, ℕ, Bool, [], ◌∷◌, length, slice_get, slice_set, position, Some, None, IfOk, IfSome, IfNone, OnOk, OnErr, option_copied};
 ghost use Rattle.std.specs.List.{filter, insert, remove};
 ghost use Rattle.tks_share.specs.Lists.{Fits, Rises, Says, IsParted, leading, IsChangedAt};
 ghost use Rattle.tks_share.specs.Parts.{Follows};
@@ -15,6 +15,7 @@ use crate::shared::Shared;
 use crate::tree::Tree;
 use std::alloc::{AllocError, Global};
 use std::marker::Model;
+use std::rc::Rc;
 
 /// Items in order, of which copies share what they have in common.
 #[derive(Drop)]
@@ -72,18 +73,20 @@ impl<E> Line<E> {
     }
 }
 
-impl<E: Share> Line<E> {
-    /// The same items, held once more. Nothing of them is copied.
-    pub(crate) fn share(&self) -> Result<Line<E>, AllocError>
-        ensures { IfOk result (λ l. l ≡ self.now) }
-    {
+impl<E: Share> Clone for Line<E> {
+    ghost is_clone = { λ line copy. copy ≡ line };
+
+    // Its parts are held once more, and nothing of them is copied.
+    fn clone(&self) -> Result<Line<E>, AllocError> {
         Ok(Line {
             front: self.front.share()?,
             middle: self.middle.share()?,
             back: self.back.share()?,
         })
     }
+}
 
+impl<E: Share> Line<E> {
     /// Puts an item into the place of the one at an index.
     #[tactic(auto, using(crate::proofs::InLine::sets_ahead, crate::proofs::InLine::sets_between, crate::proofs::InLine::sets_behind, crate::proofs::InLine::between, crate::proofs::InLine::many))]
     pub(crate) fn set(&mut self, index: usize, item: E) -> Result<(), AllocError>
@@ -175,8 +178,35 @@ impl<E: Share> Line<E> {
     }
 
     /// Takes out the item at an index.
+    pub(crate) fn remove(&mut self, alloc: Global, index: usize) -> Result<(), AllocError>
+        requires fits { Fits self.old }
+        requires within { index < length self.old }
+        ensures ok { OnOk result (self.new ≡ remove self.old index) }
+        ensures err { OnErr result (self.new ≡ self.old) }
+    {
+        if index == 0 && self.front.count() == 0 {
+            self.refill_front(alloc)?;
+        }
+        self.take_out(index)
+    }
+
+    // Where the front row is empty, the first items of the tree come into it: where one of them goes, they mostly go next.
+    fn refill_front(&mut self, alloc: Global) -> Result<(), AllocError>
+        ensures { self.new ≡ self.old }
+    {
+        if self.front.count() > 0 {
+            return Ok(());
+        }
+        let mut middle = self.middle.share()?;
+        let front = first_of(alloc, &mut middle)?;
+        self.front = front;
+        self.middle = middle;
+        Ok(())
+    }
+
+    // Takes the item at an index out of the row or the tree that it is in.
     #[tactic(auto, using(crate::proofs::InLine::removes_ahead, crate::proofs::InLine::removes_between, crate::proofs::InLine::removes_behind, crate::proofs::InLine::between, crate::proofs::InLine::many))]
-    pub(crate) fn remove(&mut self, index: usize) -> Result<(), AllocError>
+    fn take_out(&mut self, index: usize) -> Result<(), AllocError>
         requires fits { Fits self.old }
         requires within { index < length self.old }
         ensures ok { OnOk result (self.new ≡ remove self.old index) }
@@ -194,6 +224,21 @@ impl<E: Share> Line<E> {
     }
 }
 
+// Takes the first items out of a tree, as many as a row has room for.
+fn first_of<E: Share>(alloc: Global, tree: &mut Tree<E>) -> Result<Row<E>, AllocError>
+    ensures { IfOk result (λ row. tree.old ≡ row ++ tree.new) }
+{
+    let mut row = Row::new();
+    for _turn in 0..ROOM {
+        let Some(item) = tree.pop_first()? else {
+            return Ok(row);
+        };
+        let end = row.count();
+        row.insert(alloc, end, item)?;
+    }
+    Ok(row)
+}
+
 // The tree of a row's items.
 fn tree_of<E: Share>(alloc: Global, row: &Row<E>) -> Result<Tree<E>, AllocError>
     ensures { IfOk result (λ t. t ≡ row.now) }
@@ -208,38 +253,47 @@ fn tree_of<E: Share>(alloc: Global, row: &Row<E>) -> Result<Tree<E>, AllocError>
     Ok(tree)
 }
 
-/// An item that was reached, and a part of the tree from the next one on.
+/// A line of one item.
+pub(crate) fn lone<E: Share>(alloc: Global, item: E) -> Result<Rc<Line<E>>, AllocError>
+    ensures { IfOk result (λ line. line.value ≡ item ∷ []) }
+{
+    let mut line = Line::new();
+    line.insert(alloc, 0, item)?;
+    held(alloc, line)
+}
+
+/// A line that several can hold.
+pub(crate) fn held<E: Drop>(alloc: Global, line: Line<E>) -> Result<Rc<Line<E>>, AllocError>
+    ensures { IfOk result (λ held. held.value ≡ line) }
+{
+    match Rc::new(alloc, line) {
+        Ok(held) => Ok(held),
+        Err(_) => Err(AllocError),
+    }
+}
+
+/// An item that was reached, and a part of the tree from the next one on, if it was found by one.
 #[derive(Drop)]
 pub(crate) struct Reached<'a, E> {
     pub(crate) item: &'a E,
-    pub(crate) part: Part<'a, E>,
-}
-
-/// A part of the tree from which on nothing is left.
-pub(crate) fn nothing<E>(line: &Line<E>) -> Part<'_, E>
-    requires { Fits line.now }
-    ensures { (index : ℕ) → Follows result index line.now }
-{
-    Part {
-        tree: &line.middle,
-        place: 0,
-        left: 0,
-    }
+    pub(crate) part: Option<Part<'a, E>>,
 }
 
 /// The item at an index, if there is one, by a part that has it where one does.
 pub(crate) fn reach<'a, E>(
-    part: &Part<'a, E>,
+    part: &Option<Part<'a, E>>,
     line: &'a Line<E>,
     index: usize,
 ) -> Option<Reached<'a, E>>
     requires fits { Fits line.now }
-    requires follows { Follows part.now index line.now }
-    ensures some { IfSome result (λ r. (slice_get line.now index ≡ Some r.item.now) × Follows r.part (index + 1) line.now) }
+    requires follows { IfSome part.now (λ p. Follows p index line.now) }
+    ensures some { IfSome result (λ r. (slice_get line.now index ≡ Some r.item.now) × IfSome r.part (λ p. Follows p (index + 1) line.now)) }
     ensures none { IfNone result (slice_get line.now index ≡ None) }
 {
-    if part.left > 0 {
-        return step(part, line, index);
+    if let Some(part) = part {
+        if part.left > 0 {
+            return step(part, line, index);
+        }
     }
     let ahead = line.front.count();
     if index >= ahead && index - ahead < line.middle.count() {
@@ -247,27 +301,24 @@ pub(crate) fn reach<'a, E>(
         return step(&part, line, index);
     }
     let item = line.at(index)?;
-    Some(Reached {
-        item,
-        part: nothing(line),
-    })
+    Some(Reached { item, part: None })
 }
 
 // The first item of a part, and the part from the next one on.
 fn step<'a, E>(part: &Part<'a, E>, line: &'a Line<E>, index: usize) -> Option<Reached<'a, E>>
     requires more { 0 < part.now.left }
     requires follows { Follows part.now index line.now }
-    ensures some { IfSome result (λ r. (slice_get line.now index ≡ Some r.item.now) × Follows r.part (index + 1) line.now) }
+    ensures some { IfSome result (λ r. (slice_get line.now index ≡ Some r.item.now) × IfSome r.part (λ p. Follows p (index + 1) line.now)) }
     ensures none { IfNone result (slice_get line.now index ≡ None) }
 {
     let item = places::at(part.tree, part.place)?;
     Some(Reached {
         item,
-        part: Part {
+        part: Some(Part {
             tree: part.tree,
             place: part.place + 1,
             left: part.left - 1,
-        },
+        }),
     })
 }
 

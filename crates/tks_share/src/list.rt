@@ -1,6 +1,7 @@
 //! Lists by their places, whose copies share what they have in common.
 ghost use Rattle.std.specs.Prelude.{◌≡◌, ◌++◌, [], ◌∷◌, ◌==◌, ◌<◌, ◌≤◌, not, Bool, Some, length, slice_get, slice_set, position, None, IfOk, IfSome, IfNone, OnOk, OnErr, option_copied};
 ghost use Rattle.std.specs.List.{filter, insert, remove};
+ghost use Rattle.tks_share.specs.Lines.{line_seen};
 ghost use Rattle.tks_share.specs.Lists.{Fits, Rises, Says, IsParted, leading};
 
 use crate::change::Change;
@@ -13,13 +14,15 @@ use crate::share::Share;
 use crate::shared::Shared;
 use std::alloc::{AllocError, Global};
 use std::marker::Model;
+use std::rc::Rc;
 
 /// A list of fewer than 2^32 items by their places. Copies share what they have in common, so to make one costs next to nothing; a change of
 /// one of the few items at either end costs as much as these, however many others there are, and any other as much as the items on
 /// one way down a balanced tree.
 pub struct SharedList<T> {
     alloc: Global,
-    line: Line<Shared<T>>,
+    // None where there was never an item.
+    line: Option<Rc<Line<Shared<T>>>>,
 }
 
 // Written out, so that to let go of it is one step for whoever owns it.
@@ -32,15 +35,16 @@ impl<T: Drop> Drop for SharedList<T> {
 impl<T> Model for SharedList<T> {
     ghost use Rattle.std.specs.Prelude.{List};
     ghost use Rattle.std.specs.Coded.{coded_list};
+    ghost use Rattle.tks_share.specs.Lines.{line_held};
     ghost use Rattle.tks_share.specs.Lists.{Fits};
 
     ghost Value = { List T };
 
     ghost coded = { coded_list T.code };
 
-    ghost view = { λ l. l.line };
+    ghost view = { λ l. line_held l.line };
 
-    ghost invariant = { λ l. Fits l.line };
+    ghost invariant = { λ l. Fits (line_held l.line) };
 }
 
 impl<T: Drop> SharedList<T> {
@@ -48,10 +52,7 @@ impl<T: Drop> SharedList<T> {
     pub fn new(alloc: Global) -> SharedList<T>
         ensures { result ≡ [] }
     {
-        SharedList {
-            alloc,
-            line: Line::new(),
-        }
+        SharedList { alloc, line: None }
     }
 
     /// The list of these items. One too many is refused as memory is.
@@ -69,10 +70,25 @@ impl<T: Drop> SharedList<T> {
     pub fn share(&self) -> Result<SharedList<T>, AllocError>
         ensures { IfOk result (λ l. l ≡ self.now) }
     {
+        let line = match &self.line {
+            None => None,
+            Some(line) => Some(line.clone()?),
+        };
         Ok(SharedList {
             alloc: self.alloc,
-            line: self.line.share()?,
+            line,
         })
+    }
+
+    // The line of the items, if there ever was one.
+    fn line(&self) -> Option<&Line<Shared<T>>>
+        ensures items { line_seen result ≡ self.now }
+        ensures short { Fits self.now }
+    {
+        match &self.line {
+            None => None,
+            Some(line) => Some(line.as_ref()),
+        }
     }
 
     /// How many items there are.
@@ -80,17 +96,18 @@ impl<T: Drop> SharedList<T> {
         ensures value { result ≡ length self.now }
         ensures short { Fits self.now }
     {
-        self.line.count()
+        match self.line() {
+            None => 0,
+            Some(line) => line.count(),
+        }
     }
 
     /// The item at an index.
     pub fn get(&self, index: usize) -> Option<&T>
         ensures { option_copied result ≡ slice_get self.now index }
     {
-        match self.line.at(index) {
-            None => None,
-            Some(item) => Some(item.get()),
-        }
+        let item = self.line()?.at(index)?;
+        Some(item.get())
     }
 
     /// Adds an item at the end. One too many is refused as memory is.
@@ -98,12 +115,8 @@ impl<T: Drop> SharedList<T> {
         ensures ok { OnOk result (self.new ≡ self.old ++ item ∷ []) }
         ensures err { OnErr result (self.new ≡ self.old) }
     {
-        if self.len() >= MAX_LEN {
-            return Err(AllocError);
-        }
-        let item = Shared::new(self.alloc, item)?;
-        let end = self.line.count();
-        self.line.insert(self.alloc, end, item)
+        let end = self.len();
+        self.insert(end, item)
     }
 
     /// Puts an item into the place of the one at an index.
@@ -112,8 +125,11 @@ impl<T: Drop> SharedList<T> {
         ensures ok { OnOk result (self.new ≡ slice_set self.old index item) }
         ensures err { OnErr result (self.new ≡ self.old) }
     {
+        let Some(line) = &mut self.line else {
+            unreachable!()
+        };
         let item = Shared::new(self.alloc, item)?;
-        self.line.set(index, item)
+        Rc::make_mut(line)?.set(index, item)
     }
 
     /// Puts an item before the one at an index, or at the end. One too many is refused as memory is.
@@ -126,7 +142,13 @@ impl<T: Drop> SharedList<T> {
             return Err(AllocError);
         }
         let item = Shared::new(self.alloc, item)?;
-        self.line.insert(self.alloc, index, item)
+        match &mut self.line {
+            None => {
+                self.line = Some(line::lone(self.alloc, item)?);
+                Ok(())
+            }
+            Some(line) => Rc::make_mut(line)?.insert(self.alloc, index, item),
+        }
     }
 
     /// Takes out the item at an index, and hands it out. It is held on to and not copied, since other lists may hold it too.
@@ -136,11 +158,15 @@ impl<T: Drop> SharedList<T> {
         ensures ok { OnOk result (self.new ≡ remove self.old index) }
         ensures err { OnErr result (self.new ≡ self.old) }
     {
-        let Some(item) = self.line.at(index) else {
+        let Some(line) = &mut self.line else {
+            unreachable!()
+        };
+        let line = Rc::make_mut(line)?;
+        let Some(item) = line.at(index) else {
             unreachable!()
         };
         let item = item.share()?;
-        self.line.remove(index)?;
+        line.remove(self.alloc, index)?;
         Ok(item)
     }
 
@@ -149,9 +175,13 @@ impl<T: Drop> SharedList<T> {
         requires { F.IsAlwaysCallable keep }
         ensures { IfOk result (λ l. (p : T → Bool) → Says (F.post keep) p → l ≡ filter p self.now) }
     {
+        let Some(line) = self.line() else {
+            return Ok(SharedList::new(self.alloc));
+        };
+        let left = line::kept(line, self.alloc, &keep)?;
         Ok(SharedList {
             alloc: self.alloc,
-            line: line::kept(&self.line, self.alloc, &keep)?,
+            line: Some(line::held(self.alloc, left)?),
         })
     }
 
@@ -172,14 +202,17 @@ impl<T: Drop> SharedList<T> {
         ensures place { (p : T → Bool) → Says (F.post accepts) p → IsParted p self.now → result ≡ leading p self.now }
         ensures within { result ≤ length self.now }
     {
-        line::partition_point(&self.line, &accepts)
+        match self.line() {
+            None => 0,
+            Some(line) => line::partition_point(line, &accepts),
+        }
     }
 
     /// The items in order.
     pub fn iter(&self) -> Items<'_, T>
         ensures { result ≡ self.now }
     {
-        Items::of(&self.line)
+        Items::of(self.line())
     }
 }
 
@@ -197,7 +230,10 @@ impl<T: Copied> SharedList<T> {
         ensures none { IfOk result (λ o. IfNone o ((self.new ≡ self.old) × (slice_get self.old index ≡ None))) }
         ensures err { OnErr result (self.new ≡ self.old) }
     {
-        line::change(&mut self.line, self.alloc, index, change)
+        let Some(line) = &mut self.line else {
+            return Ok(None);
+        };
+        line::change(Rc::make_mut(line)?, self.alloc, index, change)
     }
 }
 
@@ -207,7 +243,7 @@ impl<T: Numbered> SharedList<T> {
         requires { Rises T.number_of 0 self.now }
         ensures { result ≡ position (λ x. T.number_of x == number) self.now }
     {
-        line::place_of(&self.line, number)
+        line::place_of(self.line()?, number)
     }
 
     /// Takes out the item of a number, if there is one. Numbers must rise.
@@ -216,10 +252,11 @@ impl<T: Numbered> SharedList<T> {
         ensures ok { OnOk result (self.new ≡ filter (λ x. not (T.number_of x == number)) self.old) }
         ensures err { OnErr result (self.new ≡ self.old) }
     {
-        let Some(index) = line::place_of(&self.line, number) else {
+        let Some(index) = self.place_of(number) else {
             return Ok(());
         };
-        self.line.remove(index)
+        let _gone = self.remove(index)?;
+        Ok(())
     }
 }
 

@@ -5,4 +5,4 @@ use Rattle.tks_share.proofs.line.reach.Goals as goal
 pub returns-clause-some : goal.returns-clause-some
 returns-clause-some g c =
     let there : slice_get c.args.line.now c.args.index ≡ Some c.in_ok-item.item.now = search rules in
-    (there, c.nothing.ensures (c.args.index + 1))
+    (there, tt)

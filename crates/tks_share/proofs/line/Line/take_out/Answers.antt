@@ -2,7 +2,7 @@ use Rattle.std.proofs.Common.{◌-◌, ◌++◌, sym, ap, ◌∙◌, arith}
 use Rattle.std.specs.List.{remove}
 use Rattle.tks_share.proofs.AtFork.{ok_through}
 use Rattle.tks_share.proofs.InLine.{fits_between, between, removed_between}
-use Rattle.tks_share.proofs.line.Line.remove.Goals as goal
+use Rattle.tks_share.proofs.line.Line.take_out.Goals as goal
 
 pub returns-then-index-ahead-2-clause-ok : goal.returns-then-index-ahead-2-clause-ok
 returns-then-index-ahead-2-clause-ok g c =
