@@ -9,6 +9,7 @@ use Rattle.std.specs.Ordering.{int_cmp, int_eq, is_eq, is_lt, is_le, is_gt, is_g
 use Rattle.std.specs.Prelude.{not}
 use Rattle.tks_text.specs.Integer.{fits_i64, integer_of}
 use Rattle.tks_text.specs.Text.{same_text}
+use Rattle.tks_text.proofs.Decimals.{fits}
 use Rattle.tks_text.proofs.Spelled.{decimal_is_read}
 use Rattle.tks_text.specs.declared.fault.ScriptFault.{ScriptFault}
 use Rattle.tks_expr.specs.Operation.{after, integer_in, integer_read, integers_in, on_integers, truth, truth_of, truth_read, order, compared, compares, of_integers, binary_value, of_integer, unary_value}
@@ -16,10 +17,6 @@ use Rattle.tks_expr.specs.declared.operator.Binary.{Binary}
 use Rattle.tks_expr.specs.declared.operator.Binary.TheVariants as binary
 use Rattle.tks_expr.specs.declared.operator.Unary.{Unary}
 use Rattle.tks_expr.specs.declared.operator.Unary.TheVariants as unary
-
-pub fits : (z : ℤ) → FitsSigned w64 z → fits_i64 z ≡ true
-fits (pos n) h = lt-ltb n (2 ^ 63) (omega (arith, h))
-fits (negsuc n) h = lt-ltb n (2 ^ 63) (omega (arith, h))
 
 -- an integer is 0 where its bits are
 zero_by_bits : (z : ℤ) → FitsSigned w64 z → nat_eq (of_z w64 z) 0 ≡ int_eq z (pos 0)

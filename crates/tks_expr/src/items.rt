@@ -13,12 +13,12 @@ use crate::operator::{Binary, Unary};
 use crate::parse::parse_expr;
 use crate::sign::Join;
 use crate::tree::{Expr, Link, Node};
-use crate::value::{Operand, decimal_in};
+use crate::value::Operand;
 use std::alloc::{AllocError, Global};
 use std::marker::Model;
 use std::rc::Rc;
 use tks_parse::{Part, Parts};
-use tks_text::{Failure, Txt};
+use tks_text::{Failure, Txt, decimal_in};
 
 /// A text that stands for itself, with the integer of which it is the decimal, if it is one. Contracts see the text.
 #[derive(Drop)]

@@ -1,8 +1,6 @@
 //! Values: integers, or texts.
-ghost use Rattle.std.specs.Prelude.{◌≡◌, IfOk, IfSome};
+ghost use Rattle.std.specs.Prelude.{◌≡◌, IfOk};
 ghost use Rattle.std.specs.Fmt.{signed_decimal};
-ghost use Rattle.std.specs.Char.{is_ascii_digit};
-ghost use Rattle.std.specs.List.{list_all};
 ghost use Rattle.tks_text.specs.Fault.{Gives};
 ghost use Rattle.tks_expr.specs.Operation.{applied, applied_unary, truth_of, result_of};
 ghost use Rattle.tks_expr.specs.View.{operand_text, held_text};
@@ -14,7 +12,7 @@ use crate::operator::{Binary, Unary};
 use std::alloc::{AllocError, Global};
 use std::marker::Model;
 use std::mem;
-use tks_text::{Failure, Txt, decimal_of, value_of};
+use tks_text::{Failure, Txt, decimal_in, decimal_of};
 
 /// What an operand comes to, where it stands. Contracts see its text: an integer stands for its decimal.
 #[derive(Clone, Copy)]
@@ -48,41 +46,6 @@ impl Model for Value {
     ghost Value = { List ℕ };
 
     ghost view = { λ v. held_text v.held };
-}
-
-// Whether all bytes of a text are decimal digits.
-fn are_digits(text: &[u8]) -> bool
-    ensures { result ≡ list_all is_ascii_digit text.now }
-{
-    text.iter().all(|byte| byte.is_ascii_digit())
-}
-
-// The number of which a text is the decimal, where the text has at most 18 digits.
-#[tactic(auto, using(crate::proofs::Decimals::decimal_written, crate::proofs::Decimals::zero_written))]
-fn digits_in(text: &[u8]) -> Option<i64>
-    ensures { IfSome result (λ z. text.now ≡ signed_decimal z) }
-{
-    match text {
-        [first, ..] if *first != b'0' && text.len() <= 18 && are_digits(text) => {
-            i64::try_from(value_of(10, text)?).ok()
-        }
-        [b'0'] => Some(0),
-        _ => None,
-    }
-}
-
-/// The integer of which a text is the decimal, where the text has at most 18 digits.
-#[tactic(auto, using(crate::proofs::Decimals::negative_written))]
-pub fn decimal_in(text: &[u8]) -> Option<i64>
-    ensures { IfSome result (λ z. text.now ≡ signed_decimal z) }
-{
-    match text {
-        [b'-', digits @ ..] => {
-            let number = digits_in(digits)?;
-            if number > 0 { Some(-number) } else { None }
-        }
-        _ => digits_in(text),
-    }
 }
 
 impl<'a> Operand<'a> {

@@ -22,7 +22,7 @@ use Rattle.tks_text.proofs.Prefixes.{prefix_passes, prefix_of, prefix_at_least, 
 abbrev digit_in : ℕ → ℕ → Bool
 digit_in base c = is_digit c base
 
-digits_pass : (base : ℕ) (ds : List ℕ) → AreDigits base ds → AllDigits base ds
+pub digits_pass : (base : ℕ) (ds : List ℕ) → AreDigits base ds → AllDigits base ds
 digits_pass base [] h = tt
 digits_pass base (d ∷ ds) h = (ltb-true (digit_value d) base h.0, digits_pass base ds h.1)
 

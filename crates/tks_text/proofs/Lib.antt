@@ -4,5 +4,6 @@ pub mod Runs
 pub mod Integers
 pub mod Prefixes
 pub mod Spelled
+pub mod Decimals
 pub mod Backslashes
 pub mod Escaped

@@ -1,10 +1,9 @@
 -- The relation "this text spells this integer" and the function that reads it are one.
-use Rattle.std.proofs.Common.{◌≡◌, ◌↔◌, ◌||◌, ◌&&◌, ℕ, zero, suc, ◌^◌, ◌<◌, ◌≤◌, ◌⊎◌, inl, inr, ◌==◌, Bool, true, false, ltb, List, [], ◌∷◌, ◌++◌, append_assoc, length, take, drop, Option, Some, None, refl, sym, ap, ◌∙◌, subst, arith, ℤ, pos, negsuc, Ok, get_or, append-nil, to_z, w64}
+use Rattle.std.proofs.Common.{◌≡◌, ◌↔◌, ◌||◌, ◌&&◌, ℕ, zero, suc, ◌^◌, ◌<◌, ◌≤◌, ◌⊎◌, inl, inr, ◌==◌, Bool, true, false, ltb, List, [], ◌∷◌, ◌++◌, append_assoc, length, take, drop, Option, Some, None, refl, sym, ap, ◌∙◌, subst, arith, ℤ, pos, negsuc, Ok, get_or, append-nil}
 use Rattle.std.proofs.Math.Seq.{take-append_seam, drop-append_seam}
 use Rattle.std.proofs.lemmas.Bool.{cond_both, eqb-true, lt-ltb, ltb-true, false_from_ne_true}
 use Rattle.std.proofs.lemmas.Fmt.{decimal_digit, decimal_is_IsNumeral, first_decimal}
 use Rattle.std.proofs.lemmas.Grind.{common_steps}
-use Rattle.std.proofs.lemmas.Int.{to_z_pos}
 use Rattle.std.proofs.lemmas.List.{take-append-drop}
 use Rattle.std.proofs.lemmas.List.Folds.{length-prefix_len}
 use Rattle.std.specs.Char.{digit_value, is_digit}
@@ -272,11 +271,3 @@ decimal_spelled (negsuc n) e =
 
 pub decimal_is_read : (z : ℤ) → fits_i64 z ≡ true → integer_of (signed_decimal z) ≡ Ok (Some z)
 decimal_is_read z e = rw (spelled_read (signed_decimal z) z (decimal_spelled z e), e) refl
-
--- ---- plain decimals
-
--- digits alone, of which the first isn't `0`, are read as the number that they write
-pub digits_are_read : (t : List ℕ) (n : ℕ) → AreDigits 10 t → n ≡ digits_value 10 t → n < 10 ^ 18 → 1 ≤ length t → (get_or t 0 0 ≡ 48 → ⊥) → integer_of t ≡ Ok (Some (to_z w64 n))
-digits_are_read t n digits value small some other =
-    let numeral : Numeral t n = subst (λ k. Numeral t k) (sym value) (decimal t (begins_other t (omega arith) other) digits) in
-    rw (to_z_pos w64 n (omega arith), spelled_read t (pos n) (alone t (pos n) (bare t n numeral)), lt-ltb n (2 ^ 63) (omega arith)) refl

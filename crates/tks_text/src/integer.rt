@@ -154,16 +154,29 @@ fn decimal_value(digits: &[u8]) -> Option<u64>
     Some(value)
 }
 
-// The number of a text of decimal digits alone, at most 18 of them and the first not `0`, or of the text `0`;
-// nothing for any other text.
-#[tactic(auto, using(crate::proofs::Spelled::digits_are_read))]
-fn plain_decimal(text: &[u8]) -> Option<i64>
-    ensures { IfSome result (λ z. integer_of text.now ≡ Ok (Some z)) }
+// The number of which a text is the decimal, where it is below 10^18; nothing for any other text.
+#[tactic(auto, using(crate::proofs::Decimals::decimal_written, crate::proofs::Decimals::zero_written))]
+fn number_in_decimal(text: &[u8]) -> Option<i64>
+    ensures { IfSome result (λ z. text.now ≡ signed_decimal z) }
 {
     match text {
-        [first, ..] if *first != b'0' => Some(decimal_value(text)? as i64),
+        [first, ..] if *first != b'0' => i64::try_from(decimal_value(text)?).ok(),
         [b'0'] => Some(0),
         _ => None,
+    }
+}
+
+/// The integer of which a text is the decimal, where it has at most 18 digits; nothing for any other text.
+#[tactic(auto, using(crate::proofs::Decimals::negative_written))]
+pub fn decimal_in(text: &[u8]) -> Option<i64>
+    ensures { IfSome result (λ z. text.now ≡ signed_decimal z) }
+{
+    match text {
+        [b'-', digits @ ..] => {
+            let number = number_in_decimal(digits)?;
+            if number > 0 { Some(-number) } else { None }
+        }
+        _ => number_in_decimal(text),
     }
 }
 
@@ -174,7 +187,7 @@ pub fn integer_of(text: &Txt) -> Result<Option<i64>, Range>
     ensures { result ≡ integer_of text.now }
 {
     let bytes = text.as_bytes();
-    if let Some(integer) = plain_decimal(bytes) {
+    if let Some(integer) = decimal_in(bytes) {
         return Ok(Some(integer));
     }
     signed_value(bytes.split_at(space_len(bytes)).1)

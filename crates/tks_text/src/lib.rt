@@ -16,7 +16,9 @@ mod truth;
 pub use backslash::{blank_len, escape, is_blank};
 pub use class::Class;
 pub use fault::{ErrorNumber, Failure, ScriptFault};
-pub use integer::{Range, decimal_of, digits_len, integer_of, is_space, space_len, value_of};
+pub use integer::{
+    Range, decimal_in, decimal_of, digits_len, integer_of, is_space, space_len, value_of,
+};
 pub use laws::{decimal_reads_back, one_escape, one_integer, wider_with_format2};
 pub use limits::{Limits, MAX_NUMBER, MAX_TIME, fits};
 pub use list::Seq;
