@@ -1,13 +1,12 @@
 -- Integers in decimal, as operators read them.
-use Rattle.std.proofs.Common.{rules, ◌≡◌, ℕ, List, ◌^◌, Bool, true, false, true≢false, Option, Some, refl, sym, ap, ◌∙◌, arith, ℤ, pos, negsuc, FitsSigned, w64, of_z, nat_eq, Result, Ok}
-use Rattle.std.proofs.lemmas.Bool.{lt-ltb}
+use Rattle.std.proofs.Common.{rules, ◌≡◌, ℕ, List, Bool, true, false, true≢false, Option, Some, refl, sym, ap, ◌∙◌, ℤ, pos, FitsSigned, w64, of_z, nat_eq, Result, Ok}
 use Rattle.std.specs.Cmp.{signed_Decides}
 use Rattle.std.specs.Cmp.Lexicographic.{bytes_decides}
 use Rattle.std.specs.Fmt.{signed_decimal}
 use Rattle.std.specs.declared.cmp.Ordering.{Ordering}
 use Rattle.std.specs.Ordering.{int_cmp, int_eq, is_eq, is_lt, is_le, is_gt, is_ge}
 use Rattle.std.specs.Prelude.{not}
-use Rattle.tks_text.specs.Integer.{fits_i64, integer_of}
+use Rattle.tks_text.specs.Integer.{integer_of}
 use Rattle.tks_text.specs.Text.{same_text}
 use Rattle.tks_text.proofs.Decimals.{fits}
 use Rattle.tks_text.proofs.Spelled.{decimal_is_read}

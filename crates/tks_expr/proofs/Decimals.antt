@@ -1,11 +1,6 @@
 -- Decimals as results.
-use Rattle.std.proofs.Common.{rules, ◌≡◌, ℕ, suc, ◌≤◌, ◌<◌, ◌^◌, true, List, [], ◌∷◌, length, get_or, refl, sym, ap, arith, Result, Ok, Err, ℤ, pos, neg_ℤ, FitsSigned, w64}
-use Rattle.std.proofs.lemmas.Fmt.{decimal_digit, decimal-digits_value}
-use Rattle.std.proofs.lemmas.Str.Parse.{IsNumeralModel, numerals_by_value, digits_value_short}
-use Rattle.std.specs.Char.{is_ascii_digit}
-use Rattle.std.specs.Fmt.{decimal, signed_decimal}
-use Rattle.std.specs.List.{list_all}
-use Rattle.std.specs.Str.Parse.{digits_value}
+use Rattle.std.proofs.Common.{◌≡◌, ap, Result, Ok, Err, ℤ, FitsSigned, w64}
+use Rattle.std.specs.Fmt.{signed_decimal}
 use Rattle.tks_text.proofs.Decimals.{fits}
 use Rattle.tks_text.proofs.Spelled.{decimal_is_read}
 use Rattle.tks_text.specs.Fault.{Gives}
