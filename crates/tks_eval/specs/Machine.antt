@@ -165,7 +165,7 @@ module _ {S : Type 0} (host : Meaning S) (limits : Limits) where
   abbrev pub outcome_now : ℕ → Now → Next S
   outcome_now left (Open script) state variables fuel = evaluate host limits left script state variables fuel
   outcome_now left (Index parts) state variables fuel = parts_do limits (evaluate host limits left) (parts_of parts) [] state variables fuel
-  outcome_now left (Counts w) state variables fuel = waits_do left w state variables fuel
+  outcome_now left (Counts w) state variables fuel = waits_do left w.value state variables fuel
   outcome_now left (Planned p) state variables fuel = plan_does host limits (evaluate host limits left) p state variables fuel
   outcome_now left (At ended) state variables fuel = End ended.code ended.text state variables fuel
 
@@ -220,7 +220,7 @@ module _ {S : Type 0} (host : Meaning S) (limits : Limits) where
   reached_does left (reached.Ended end) state variables fuel = End end.code end.text state variables fuel
   reached_does left (reached.Opens script) state variables fuel = evaluate host limits left script state variables fuel
   reached_does left (reached.Runs c given) state variables fuel = control_called (evaluate host limits left) (control_of c) (given_words given) state variables fuel
-  reached_does left (reached.Counts w) state variables fuel = result_told limits (waits_do left w state variables fuel)
+  reached_does left (reached.Counts w) state variables fuel = result_told limits (waits_do left w.value state variables fuel)
   reached_does left (reached.Calls given) state variables fuel = called (evaluate host limits left) (given_words given) state variables fuel
   reached_does left (reached.Waits w) state variables fuel = waiting_does left w.value state variables fuel
 
@@ -318,7 +318,7 @@ plan_weight (plan.Update due) = 1
 abbrev pub now_weight : Now → ℕ
 now_weight (Open script) = 4 * script_size script + 2
 now_weight (Index parts) = 4 * parts_size (parts_of parts) + 1
-now_weight (Counts w) = waits_weight w
+now_weight (Counts w) = waits_weight w.value
 now_weight (Planned p) = plan_weight p
 now_weight (At ended) = 0
 

@@ -7,6 +7,7 @@ ghost use Rattle.tks_eval.specs.Evaluation.{evaluate, script_does, if_holds, tes
 ghost use Rattle.tks_eval.specs.Machine.{resume, frame_weight, optional_weight, GoesSo, Falls};
 ghost use Rattle.tks_eval.specs.declared.frame.Frame.TheVariants as frame;
 
+use crate::boxed::boxed;
 use crate::expressions::Counted;
 use crate::frame::{Ending, Frame, Now};
 use crate::halt::{Halt, error_about};
@@ -229,7 +230,7 @@ impl Machine {
             otherwise: body_again(otherwise)?,
         };
         self.stack.push(Frame::Branch { body, rest })?;
-        Ok(Now::Counts(waits))
+        Ok(Now::Counts(boxed(alloc, waits)?))
     }
 
     // Goes on with the branches that are left of an `if`.
@@ -259,7 +260,7 @@ impl Machine {
                     }
                     Counted::Waits(waits) => {
                         self.stack.push(Frame::Branch { body, rest })?;
-                        Ok(Now::Counts(waits))
+                        Ok(Now::Counts(boxed(alloc, waits)?))
                     }
                 }
             }

@@ -10,6 +10,7 @@ ghost use Rattle.tks_tcl.specs.Meets.{GivesSo};
 ghost use Rattle.tks_eval.specs.Machine.{resume, waits_do, waits_weight, frame_weight, CountsSo, CountFalls, GoesSo, Falls};
 ghost use Rattle.tks_eval.specs.declared.frame.Frame.TheVariants as frames;
 
+use crate::boxed::boxed;
 use crate::frame::{Ending, Frame, Now};
 use crate::halt::{Halt, error_about};
 use crate::host::Host;
@@ -278,7 +279,7 @@ pub enum Awaited {
     Text(Box<Unfinished>),
 }
 
-/// An expression that waits. It is handed on, so it is small.
+/// An expression that waits.
 #[derive(Drop)]
 pub struct Waits {
     pub counting: Counting,
@@ -290,16 +291,6 @@ pub struct Waits {
 pub enum Counted {
     Value(Value),
     Waits(Waits),
-}
-
-// A text that was begun, behind a pointer.
-fn boxed(alloc: Global, text: Unfinished) -> Result<Box<Unfinished>, AllocError>
-    ensures { IfOk result (λ b. b.value ≡ text) }
-{
-    match Box::new(alloc, text) {
-        Ok(text) => Ok(text),
-        Err(_) => Err(AllocError),
-    }
 }
 
 // What is left behind so many items.
@@ -431,7 +422,7 @@ impl Machine {
             })),
             Counted::Waits(waits) => {
                 self.stack.push(Frame::Whole)?;
-                Ok(Now::Counts(waits))
+                Ok(Now::Counts(boxed(alloc, waits)?))
             }
         }
     }

@@ -100,7 +100,7 @@ pub enum Frame {
     },
 }
 
-/// What the machine is at.
+/// What the machine is at. It is handed on at each turn, so it is small.
 #[derive(Drop)]
 pub enum Now {
     /// A script to open.
@@ -108,7 +108,7 @@ pub enum Now {
     /// An index to make.
     Index(Remaining<Part>),
     /// An expression that waits.
-    Counts(Waits),
+    Counts(Box<Waits>),
     /// What the host wants done.
     Planned(Plan),
     /// An end, for the frame on top.

@@ -2,6 +2,7 @@
 #![tactic(auto)]
 
 mod at_once;
+mod boxed;
 mod branches;
 mod commands;
 mod control;

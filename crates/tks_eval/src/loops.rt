@@ -8,6 +8,7 @@ ghost use Rattle.tks_eval.specs.Machine.{resume, loop_weight, optional_weight, G
 ghost use Rattle.tks_eval.specs.declared.frame.Frame.TheVariants as frame;
 ghost use Rattle.tks_eval.specs.declared.loops.Stage.TheVariants as stages;
 
+use crate::boxed::boxed;
 use crate::expressions::Counted;
 use crate::frame::{Ending, Frame, Now};
 use crate::halt::{Halt, error_about};
@@ -209,7 +210,10 @@ impl Machine {
     {
         let items = self.read_known(alloc, turns.condition())?;
         match self.value(alloc, host, &items, variables, limits)? {
-            Counted::Waits(waits) => Ok(Turn::Waits(Stage::Condition, Now::Counts(waits))),
+            Counted::Waits(waits) => {
+                let now = Now::Counts(boxed(alloc, waits)?);
+                Ok(Turn::Waits(Stage::Condition, now))
+            }
             Counted::Value(value) => {
                 if value.holds()? {
                     self.body_at_once(alloc, host, variables, turns, limits)

@@ -138,7 +138,9 @@ impl Machine {
                         Some(frame) => self.resume(alloc, host, variables, frame, end, limits),
                     },
                     Now::Open(script) => self.open(alloc, host, variables, script, limits),
-                    Now::Counts(waits) => self.open_waits(host, variables, waits, limits),
+                    Now::Counts(waits) => {
+                        self.open_waits(host, variables, Box::into_inner(waits), limits)
+                    }
                     Now::Index(parts) => {
                         self.fill(alloc, host, variables, Txt::new(alloc), parts, limits)
                     }

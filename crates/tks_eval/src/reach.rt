@@ -9,6 +9,7 @@ ghost use Rattle.tks_eval.specs.Machine.{resume, control_of, given_words, reache
 ghost use Rattle.tks_eval.specs.declared.reach.Reached.TheVariants as reached;
 
 use crate::at_once::{answer_at_once, lent, plain_end};
+use crate::boxed::boxed;
 use crate::branches::one_test;
 use crate::commands::all_fit;
 use crate::control::Control;
@@ -91,21 +92,11 @@ pub enum Reached {
     /// Its step is taken, and it is one that runs scripts.
     Runs(Control, Given),
     /// Its step is taken, and it is an `expr`, whose expression waits.
-    Counts(Waits),
+    Counts(Box<Waits>),
     /// Its step is taken, and it is the host's or a procedure.
     Calls(Given),
     /// One of its words waits.
     Waits(Box<Waiting>),
-}
-
-// A command that waits, behind a pointer.
-fn boxed(alloc: Global, waiting: Waiting) -> Result<Box<Waiting>, AllocError>
-    ensures { IfOk result (λ b. b.value ≡ waiting) }
-{
-    match Box::new(alloc, waiting) {
-        Ok(waiting) => Ok(waiting),
-        Err(_) => Err(AllocError),
-    }
 }
 
 // The script whose result a word is.
@@ -379,7 +370,10 @@ impl Machine {
                 Ok(text) => Some(Reached::Ended(Ending { code: 0, text })),
                 Err(_) => None,
             },
-            Ok(Counted::Waits(waits)) => Some(Reached::Counts(waits)),
+            Ok(Counted::Waits(waits)) => match boxed(alloc, waits) {
+                Ok(waits) => Some(Reached::Counts(waits)),
+                Err(_) => None,
+            },
             Err(_) => None,
         }
     }
@@ -495,7 +489,7 @@ impl Machine {
             }
             Reached::Counts(waits) => {
                 self.stack.push(Frame::Whole)?;
-                self.open_waits(host, variables, waits, limits)
+                self.open_waits(host, variables, Box::into_inner(waits), limits)
             }
             Reached::Calls(words) => {
                 let levels = self.left;

@@ -99,4 +99,4 @@ returns-clause-goes g c =
     let does = branches_read limits inner c.args.branches.otherwise test c.args.branches.tests c.next.new.self state variables old.fuel m.fuel items
     tests c.in_ok-items-in-Some.ensures.reads.0 read
     ∙ ap (λ o. after_truth limits o first second) comes in
-    rw (c.in_ok-push-in-Waits.ensures.ok, c.read_condition.ensures.kept, body, otherwise) (ap (resume host limits old.left old.stack) does)
+    rw (c.in_ok-push-in-Waits.ensures.ok, c.in_ok-boxed-in-Waits.ensures, c.read_condition.ensures.kept, body, otherwise) (ap (resume host limits old.left old.stack) does)

@@ -18,8 +18,8 @@ returns-in-Ok-into_result-clause-some g c =
     expression_told limits inner state variables m.fuel c.args.text.now c.in-Ok.items read ∙ ap (result_told limits) comes
     ∙ ap (λ r. given limits (value_or_fault r) state variables m.fuel (λ result. End 0 result state variables m.fuel)) told
 
-pub returns-in-Ok-Waits-clause-some : goal.returns-in-Ok-Waits-clause-some
-returns-in-Ok-Waits-clause-some g c =
+pub returns-in-Ok-boxed-clause-some : goal.returns-in-Ok-boxed-clause-some
+returns-in-Ok-boxed-clause-some g c =
     let limits = c.args.limits.now in
     let m = c.args.self.now in
     let inner = evaluate g.H.Host.meaning limits m.left in
@@ -27,4 +27,4 @@ returns-in-Ok-Waits-clause-some g c =
     let variables = c.args.variables.now in
     let read = rw c.in-Ok.is at c.expr.ensures in
     let comes = rw (c.in-Ok-Waits.is, c.in-Ok-Waits.field-0-is) at c.value.ensures in
-    expression_told limits inner state variables m.fuel c.args.text.now c.in-Ok.items read ∙ ap (result_told limits) comes
+    rw c.in-Ok-boxed.ensures (expression_told limits inner state variables m.fuel c.args.text.now c.in-Ok.items read ∙ ap (result_told limits) comes)

@@ -69,4 +69,4 @@ returns-clause-goes g c =
     let items = c.in_ok-items.items in
     let comes = rw c.in-Waits.is at c.in_ok-value.ensures in
     let told = expression_told limits inner state variables m.fuel c.args.text.now items c.in_ok-items.ensures ∙ ap (result_told limits) comes in
-    rw c.in_ok-push-in-Waits.ensures.ok (ap (resume host limits m.left m.stack) told)
+    rw (c.in_ok-push-in-Waits.ensures.ok, c.in_ok-boxed-in-Waits.ensures) (ap (resume host limits m.left m.stack) told)

@@ -88,4 +88,4 @@ returns-clause-goes g c =
     let comes = rw (c.in-Waits.is, c.read_condition.ensures.kept) at c.in_ok-value.ensures in
     let tests = tested_reads limits inner c.args.condition.now first second state variables c.args.self.now.fuel m.fuel c.in_ok-items.items c.in_ok-items.ensures.reads.0 c.in_ok-items.ensures.reads.1
     ∙ ap (λ o. after_truth limits o first second) comes in
-    rw (c.in_ok-push.ensures.ok, c.read_condition.ensures.kept, c.in_ok-body.ensures, c.new.ensures, c.in_ok-body_again.ensures) (ap (resume g.H.Host.meaning limits c.args.self.now.left c.args.self.now.stack) tests)
+    rw (c.in_ok-push.ensures.ok, c.in_ok-boxed.ensures, c.read_condition.ensures.kept, c.in_ok-body.ensures, c.new.ensures, c.in_ok-body_again.ensures) (ap (resume g.H.Host.meaning limits c.args.self.now.left c.args.self.now.stack) tests)

@@ -49,9 +49,9 @@ returns-in-Waits-clause-goes g c =
     let condition : c.condition.result.now ≡ turns.condition = c.condition.ensures in
     let read = rw condition at c.in_ok-items.ensures.reads.1 in
     let comes = rw (c.in-Waits.is, c.read_known.ensures.kept) at c.in_ok-waits.ensures in
-    loop_unrolls limits inner (evaluate_spends host limits old.left) turns state variables old.fuel
+    rw c.in_ok-boxed-in-Waits.ensures (loop_unrolls limits inner (evaluate_spends host limits old.left) turns state variables old.fuel
     ∙ tested_reads limits inner turns.condition body done state variables old.fuel less c.in_ok-items.items c.in_ok-items.ensures.reads.0 read
-    ∙ ap (λ o. after_truth limits o body done) comes
+    ∙ ap (λ o. after_truth limits o body done) comes)
 
 pub returns-in_err-holds-in-Value-clause-goes : goal.returns-in_err-holds-in-Value-clause-goes
 returns-in_err-holds-in-Value-clause-goes g c =
