@@ -26,7 +26,10 @@ fn define(alloc: Global, variables: &mut Vars, name: &Txt, body: Txt) -> Result<
     let mut params = Seq::new(alloc);
     let number = Txt::from_text(alloc, b"n")?;
     let one = decimal_of(alloc, 1)?;
-    params.push(Parameter::new(alloc, number, Some(one))?)?;
+    params.push(Parameter {
+        name: number,
+        default: Some(one),
+    })?;
     variables.set_procedure(name, Procedure { params, body })?;
     Ok(())
 }

@@ -16,10 +16,16 @@ const NOTHING: &[u8] = b"\x00\x00\x00\x00\x00\x00\x00\x00";
 // The procedure.
 fn procedure(alloc: Global) -> Option<Procedure> {
     let mut params = Seq::new(alloc);
-    let first = Parameter::new(alloc, text(alloc, b"a")?, None).ok()?;
+    let first = Parameter {
+        name: text(alloc, b"a")?,
+        default: None,
+    };
     params.push(first).ok()?;
     let one = text(alloc, b"1")?;
-    let second = Parameter::new(alloc, text(alloc, b"b")?, Some(one)).ok()?;
+    let second = Parameter {
+        name: text(alloc, b"b")?,
+        default: Some(one),
+    };
     params.push(second).ok()?;
     Some(Procedure {
         params,

@@ -33,7 +33,7 @@ fn parameter_of(alloc: Global, bytes: &[u8]) -> Result<(Parameter, &[u8]), Unrea
 {
     let (name, rest) = text_of(alloc, bytes)?;
     let (default, rest) = default_of(alloc, rest)?;
-    Ok((Parameter::new(alloc, name, default)?, rest))
+    Ok((Parameter { name, default }, rest))
 }
 
 // Adds a default, if there is one.
@@ -67,7 +67,7 @@ fn put_parts(out: &mut Vec<u8>, parameter: &Parameter) -> Result<(), AllocError>
     ensures puts { PutsSo result out.old.items out.new.items (flattened (parameter_parts parameter.now)) }
     ensures legal { OnOk result (kinds.parameter.Legal parameter.now) }
 {
-    put_text(out, parameter.name.get())?;
+    put_text(out, &parameter.name)?;
     put_default(out, &parameter.default)
 }
 
@@ -94,6 +94,6 @@ impl Members<Parameter> for Parameters {
 
     #[tactic(auto, using(tks_spelling::proofs::Counting::lengths))]
     fn spelled_length(&self, parameter: &Parameter) -> u64 {
-        text_length(parameter.name.get()).saturating_add(default_length(&parameter.default))
+        text_length(&parameter.name).saturating_add(default_length(&parameter.default))
     }
 }

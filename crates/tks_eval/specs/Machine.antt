@@ -1,5 +1,4 @@
 -- What a stack of frames means: each frame is one sequencing of the evaluation, read backwards.
-use Rattle.std.specs.FinMap as map
 use Rattle.std.specs.Prelude.{◌≡◌, ℕ, Bool, true, false, not, is_some, ◌+◌, ◌*◌, ◌≤◌, ◌<◌, List, [], ◌∷◌, ◌++◌, Option, Some, None, Result, Ok, Err}
 use Rattle.tks_text.specs.declared.limits.Limits.{Limits}
 use Rattle.tks_parse.specs.Tree.{Script, no_command, Words, Parts, no_part, nested, script_size, words_size, parts_size}
@@ -14,7 +13,7 @@ use Rattle.tks_tcl.specs.Meets.{text_of, AnswersSo}
 use Rattle.tks_eval.specs.Outcome.{Outcome, End, Stopped, Meaning, Next, Level, after, after_body, caught, appended, fails, given}
 use Rattle.tks_expr.specs.declared.items.Item.{Item}
 use Rattle.tks_expr.specs.declared.items.Item.TheVariants as item
-use Rattle.tks_eval.specs.Evaluation.{Loop, loop_does, element_name, with_value, parts_do, words_in, words_do, commands_do, evaluate, control_does, host_does, after_truth, branches_do, catch_ends, each, settled, without_frame, returned, after_script, scripts_do, noted, update_does, plan_does, procedure_does, result_told}
+use Rattle.tks_eval.specs.Evaluation.{Loop, loop_does, element_name, with_value, parts_do, words_in, words_do, commands_do, evaluate, control_does, host_does, after_truth, branches_do, catch_ends, each, settled, without_frame, returned, after_script, scripts_do, noted, update_does, plan_does, result_told}
 use Rattle.tks_eval.specs.Filling.{left_of, Stand, All, Upto, words_made}
 use Rattle.tks_eval.specs.Names.{Control, control_named}
 use Rattle.tks_eval.specs.Names as control
@@ -203,11 +202,6 @@ module _ {S : Type 0} (host : Meaning S) (limits : Limits) where
   called inner [] state variables fuel = End 0 [] state variables fuel
   called inner (first ∷ words) state variables fuel =
       host_does host limits inner first words (host.commands state variables (first ∷ words)) state variables fuel
-
-  -- a procedure, behind its step
-  abbrev pub procedure_called : Level S → List (List ℕ) → Next S
-  procedure_called inner [] state variables fuel = End 0 [] state variables fuel
-  procedure_called inner (first ∷ words) state variables fuel = procedure_does limits inner first words (map.get variables.procedures first) state variables fuel
 
   -- a command, one of whose words waits
   abbrev pub waiting_does : ℕ → Waiting → Next S

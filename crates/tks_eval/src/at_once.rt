@@ -22,8 +22,8 @@ use tks_list::{Elements, LEAST_KEPT, read};
 use tks_parse::{Command, Part, Script, Word};
 use tks_share::Shared;
 use tks_tcl::{
-    ListTable, Quiet, Stop, is_word, lindex_answer, llength_answer, lrange_answer, plain,
-    plain_quietly, return_answer,
+    ListTable, Quiet, Stop, is_built_in, is_word, lindex_answer, llength_answer, lrange_answer,
+    plain, plain_quietly, return_answer,
 };
 use tks_text::{Limits, Seq, Txt, fits};
 use tks_vars::Vars;
@@ -51,7 +51,16 @@ fn add_word(
     Some(())
 }
 
-// The words of a command, where all are made at once.
+// Whether a command may be one that runs no script, or an `expr`. It is asked first, so that no word of a procedure's call is made
+// in vain.
+fn may_be_plain(command: &Word) -> bool {
+    match command.parts.as_slice() {
+        [Part::Text(name)] => is_built_in(name),
+        _ => true,
+    }
+}
+
+// The words of a command that runs no script, where all are made at once.
 fn words_at_once(
     alloc: Global,
     words: &[Word],
@@ -60,7 +69,8 @@ fn words_at_once(
 ) -> Option<Seq<Txt>>
     ensures { IfSome result (λ made. words_made limits.now variables.now (words_of words.now) [] ≡ Ok (All made)) }
 {
-    if !words.iter().all(|word| stands(&word.parts)) {
+    let may_be_made = words.first().is_some_and(may_be_plain);
+    if !may_be_made || !words.iter().all(|word| stands(&word.parts)) {
         return None;
     }
     let mut made = Seq::new(alloc);

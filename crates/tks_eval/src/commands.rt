@@ -1,14 +1,14 @@
 //! The commands that run scripts, each up to the first script that it opens.
 ghost use Rattle.std.specs.Prelude.{◌≡◌, ◌≤◌, ◌<◌, ℕ, List, [], ◌∷◌, IfOk, OnOk, OnErr};
+ghost use Rattle.std.specs.FinMap as map;
 ghost use Rattle.std.specs.List.{list_all};
 ghost use Rattle.tks_parse.specs.Tree.{script_size};
 ghost use Rattle.tks_parse.specs.Reading.{script_of};
 ghost use Rattle.tks_text.specs.Limits.{fits};
 ghost use Rattle.tks_tcl.specs.Meets.{GivesSo};
 ghost use Rattle.tks_eval.specs.Outcome.{End, after};
-ghost use Rattle.tks_eval.specs.Evaluation.{evaluate, commands_do, catch_does, eval_does, proc_does, each, foreach_form};
-ghost use Rattle.tks_eval.specs.Machine.{control_of, given_words, resume, frame_weight, waits_behind, control_called, called, procedure_called, reached_does, GoesSo, GoesBefore, Falls, IsBegun, RunsSo, RunFalls, IsDone, TakesElement};
-ghost use Rattle.tks_eval.specs.Names.{Foreach};
+ghost use Rattle.tks_eval.specs.Evaluation.{evaluate, commands_do, catch_does, eval_does, proc_does, each, foreach_form, foreach_does, procedure_does};
+ghost use Rattle.tks_eval.specs.Machine.{control_of, given_words, resume, frame_weight, waits_behind, control_called, called, reached_does, GoesSo, GoesBefore, Falls, IsBegun, RunsSo, RunFalls, IsDone, TakesElement};
 ghost use Rattle.tks_eval.specs.declared.frame.Frame.TheVariants as frame;
 
 use crate::control::Control;
@@ -25,31 +25,25 @@ use tks_tcl::{Interrupt, ListTable, concatenated_within, store, wrong_words};
 use tks_text::{ErrorNumber, Limits, ScriptFault, Seq, Txt, decimal_of, fits};
 use tks_vars::Vars;
 
-// The variable's name, the body and the elements of a `foreach`, whose words are taken.
+// The variable's name, the body and the elements of a `foreach`.
 #[tactic(auto, using(tks_tcl::proofs::Causes::tells))]
 fn foreach_form(
     alloc: Global,
     lists: &ListTable,
     command: &Txt,
-    words: Rest<Txt>,
+    words: &[Txt],
 ) -> Result<(Txt, Txt, Rest<Txt>), Interrupt>
-    ensures { GivesSo (λ x. x) result (foreach_form command.now words) }
+    ensures { GivesSo (λ x. x) result (foreach_form command.now words.now) }
 {
-    let mut words = words;
-    let Some(name) = words.next() else {
+    let [name, list, body] = words else {
         return Err(wrong_words(command));
     };
-    let Some(list) = words.next() else {
-        return Err(wrong_words(command));
-    };
-    let Some(body) = words.next() else {
-        return Err(wrong_words(command));
-    };
-    if !words.is_empty() {
-        return Err(wrong_words(command));
-    }
-    let elements = lists.own_list(alloc, &list)?;
-    Ok((name, body, Rest::of(elements.into_items())))
+    let elements = lists.own_list(alloc, list)?;
+    Ok((
+        name.try_clone()?,
+        body.try_clone()?,
+        Rest::of(elements.into_items()),
+    ))
 }
 
 /// Whether no text passes the limit.
@@ -209,16 +203,13 @@ impl Machine {
         ensures spends { self.new.fuel ≤ self.old.fuel }
         ensures goes { GoesSo H.meaning limits.now (resume H.meaning limits.now levels self.old.stack (called H.meaning limits.now (evaluate H.meaning limits.now self.old.left) (given_words words) (H.state host.old) variables.old self.old.fuel)) result self.new (H.state host.new) variables.new }
     {
-        if words.as_slice().is_empty() {
+        let Some((command, rest)) = words.as_slice().split_first() else {
             self.left = levels;
             return Ok(Now::At(Ending::silent(alloc)));
-        }
+        };
         match host.call(variables, words.as_slice())? {
             Some(plan) => self.run_plan(alloc, host, variables, plan, levels, limits),
-            None => {
-                let words = words.into_rest(alloc)?;
-                self.run_procedure(alloc, host, variables, words, levels, limits)
-            }
+            None => self.run_procedure(alloc, host, variables, command, rest, levels, limits),
         }
     }
 
@@ -243,10 +234,7 @@ impl Machine {
             Control::Eval => self.run_eval(alloc, host, variables, rest, limits),
             Control::Expr => self.run_expr(alloc, host, variables, command, rest, limits),
             Control::For => self.run_for(alloc, host, variables, command, rest, limits),
-            Control::Foreach => {
-                let words = words.into_rest(alloc)?;
-                self.run_foreach(alloc, host, variables, words, limits)
-            }
+            Control::Foreach => self.run_foreach(alloc, host, variables, command, rest, limits),
             Control::If => self.run_if(alloc, host, variables, command, rest, limits),
             Control::Proc => self.define(alloc, host, variables, command, rest, limits),
             Control::While => self.run_while(alloc, host, variables, command, rest, limits),
@@ -324,17 +312,14 @@ impl Machine {
         alloc: Global,
         host: &H,
         variables: &mut Vars,
-        words: Rest<Txt>,
+        command: &Txt,
+        words: &[Txt],
         limits: &Limits,
     ) -> Result<Now, Halt>
         ensures spends { self.new.fuel ≤ self.old.fuel }
-        ensures goes { GoesSo H.meaning limits.now (resume H.meaning limits.now self.old.left self.old.stack (control_called H.meaning limits.now (evaluate H.meaning limits.now self.old.left) Foreach words (H.state host.now) variables.old self.old.fuel)) result self.new (H.state host.now) variables.new }
+        ensures goes { GoesSo H.meaning limits.now (resume H.meaning limits.now self.old.left self.old.stack (foreach_does limits.now (evaluate H.meaning limits.now self.old.left) command.now words.now (H.state host.now) variables.old self.old.fuel)) result self.new (H.state host.now) variables.new }
     {
-        let mut words = words;
-        let Some(command) = words.next() else {
-            return Ok(Now::At(Ending::silent(alloc)));
-        };
-        let (name, body, elements) = foreach_form(alloc, self.table.lists(), &command, words)?;
+        let (name, body, elements) = foreach_form(alloc, self.table.lists(), command, words)?;
         self.next_element(alloc, host, variables, name, body, elements, limits)
     }
 
@@ -447,26 +432,16 @@ impl Machine {
         alloc: Global,
         host: &H,
         variables: &mut Vars,
-        words: Rest<Txt>,
+        command: &Txt,
+        words: &[Txt],
         levels: u32,
         limits: &Limits,
     ) -> Result<Now, Halt>
         ensures spends { self.new.fuel ≤ self.old.fuel }
-        ensures goes { GoesSo H.meaning limits.now (resume H.meaning limits.now levels self.old.stack (procedure_called H.meaning limits.now (evaluate H.meaning limits.now self.old.left) words (H.state host.now) variables.old self.old.fuel)) result self.new (H.state host.now) variables.new }
+        ensures goes { GoesSo H.meaning limits.now (resume H.meaning limits.now levels self.old.stack (procedure_does limits.now (evaluate H.meaning limits.now self.old.left) command.now words.now (map.get variables.old.procedures command.now) (H.state host.now) variables.old self.old.fuel)) result self.new (H.state host.now) variables.new }
     {
-        let mut words = words;
-        let Some(command) = words.next() else {
-            self.left = levels;
-            return Ok(Now::At(Ending::silent(alloc)));
-        };
-        match enter(
-            alloc,
-            self.table.parsed(),
-            variables,
-            &command,
-            words,
-            limits,
-        ) {
+        let table = self.table.parsed();
+        match enter(alloc, table, variables, command, words, limits) {
             Ok(script) => {
                 self.stack.push(Frame::Procedure { levels })?;
                 Ok(Now::Open(script))

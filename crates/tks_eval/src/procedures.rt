@@ -8,7 +8,6 @@ ghost use Rattle.tks_tcl.specs.Meets.{GivesSo};
 ghost use Rattle.tks_eval.specs.Procedures.{parameter_named, parameter, parameters_in, takes_rest, arguments, with_arguments, entered, script_in, defined, is_taken, proc_form};
 
 use crate::host::Host;
-use crate::rest::Rest;
 use std::alloc::{AllocError, Global};
 use tks_list::join;
 use tks_parse::Script;
@@ -20,7 +19,6 @@ use tks_vars::{Arguments, Parameter, Procedure, Vars, names_whole};
 // A parameter of this name.
 #[tactic(auto, using(tks_tcl::proofs::Causes::tells))]
 fn parameter_named(
-    alloc: Global,
     procedure: &Txt,
     name: &Txt,
     default: Option<Txt>,
@@ -30,17 +28,20 @@ fn parameter_named(
     if name.is_empty() || !names_whole(name) {
         return Err(error_about(ErrorNumber::BadName, procedure));
     }
-    Ok(Parameter::new(alloc, name.try_clone()?, default)?)
+    Ok(Parameter {
+        name: name.try_clone()?,
+        default,
+    })
 }
 
 // A parameter: a name, or a name and a default.
 #[tactic(auto, using(tks_tcl::proofs::Causes::tells))]
-fn parameter(alloc: Global, procedure: &Txt, fields: &[Txt]) -> Result<Parameter, Interrupt>
+fn parameter(procedure: &Txt, fields: &[Txt]) -> Result<Parameter, Interrupt>
     ensures { GivesSo (λ p. p) result (parameter procedure.now fields.now) }
 {
     match fields {
-        [name] => parameter_named(alloc, procedure, name, None),
-        [name, default] => parameter_named(alloc, procedure, name, Some(default.try_clone()?)),
+        [name] => parameter_named(procedure, name, None),
+        [name, default] => parameter_named(procedure, name, Some(default.try_clone()?)),
         _ => Err(error_about(ErrorNumber::BadName, procedure)),
     }
 }
@@ -53,7 +54,7 @@ fn parameters_in(alloc: Global, procedure: &Txt, text: &Txt) -> Result<Seq<Param
     let mut parameters = Seq::new(alloc);
     for word in words.as_slice() {
         let fields = list_in(alloc, word)?;
-        parameters.push(parameter(alloc, procedure, fields.as_slice())?)?;
+        parameters.push(parameter(procedure, fields.as_slice())?)?;
     }
     Ok(parameters)
 }
@@ -62,35 +63,35 @@ fn parameters_in(alloc: Global, procedure: &Txt, text: &Txt) -> Result<Seq<Param
 fn takes_rest(parameter: &Parameter, behind: &[Parameter]) -> bool
     ensures { result ≡ takes_rest parameter.now behind.now }
 {
-    behind.is_empty() && parameter.name.get().as_bytes() == b"args".as_slice()
+    behind.is_empty() && parameter.name.as_bytes() == b"args".as_slice()
 }
 
 // The values that the words of a call give to parameters, or none where the number of words is wrong.
 fn arguments(
     alloc: Global,
     parameters: &[Parameter],
-    words: Rest<Txt>,
+    words: &[Txt],
 ) -> Result<Option<Arguments>, AllocError>
-    ensures { IfOk result (λ given. given ≡ arguments [] parameters.now words) }
+    ensures { IfOk result (λ given. given ≡ arguments [] parameters.now words.now) }
 {
     let mut given = Arguments::new(alloc)?;
     let mut parameters = parameters;
     let mut words = words;
-    while let Some((parameter, behind)) = parameters.split_first() {
+    'parameter: while let Some((parameter, behind)) = parameters.split_first() {
         if takes_rest(parameter, behind) {
-            let rest = join(alloc, words.into_items().as_slice())?;
-            given.push(&parameter.name, rest)?;
+            given.push(&parameter.name, join(alloc, words)?)?;
             return Ok(Some(given));
         }
-        let value = match words.next() {
-            Some(word) => word,
-            None => match &parameter.default {
-                Some(default) => default.try_clone()?,
-                None => return Ok(None),
-            },
-        };
-        given.push(&parameter.name, value)?;
         parameters = behind;
+        if let Some((word, more)) = words.split_first() {
+            given.push(&parameter.name, word.try_clone()?)?;
+            words = more;
+            continue 'parameter;
+        }
+        let Some(default) = &parameter.default else {
+            return Ok(None);
+        };
+        given.push(&parameter.name, default.try_clone()?)?;
     }
     if words.is_empty() {
         Ok(Some(given))
@@ -123,11 +124,11 @@ pub fn enter(
     table: &mut ParseTable,
     variables: &mut Vars,
     command: &Txt,
-    words: Rest<Txt>,
+    words: &[Txt],
     limits: &Limits,
 ) -> Result<Script, Interrupt>
     ensures err { OnErr result (variables.new ≡ variables.old) }
-    ensures value { GivesSo (λ script. (script, variables.new)) result (after (entered limits.now command.now words variables.old (map.get variables.old.procedures command.now)) (λ x. Ok (script_in x))) }
+    ensures value { GivesSo (λ script. (script, variables.new)) result (after (entered limits.now command.now words.now variables.old (map.get variables.old.procedures command.now)) (λ x. Ok (script_in x))) }
 {
     let Some(procedure) = variables.procedure(command) else {
         return Err(error_about(ErrorNumber::NoSuchCommand, command));

@@ -18,9 +18,8 @@ use crate::frame::{Ending, Frame, Now};
 use crate::halt::Halt;
 use crate::host::Host;
 use crate::machine::Machine;
-use crate::rest::Rest;
 use crate::words::{Filled, Inner, add_words, fill_up, only_script};
-use std::alloc::{AllocError, Global};
+use std::alloc::Global;
 use std::rc::Rc;
 use tks_parse::{Command, Part, Remaining, Script, Word};
 use tks_tcl::Stop;
@@ -46,27 +45,6 @@ impl Given {
             Given::Made(words) => words.as_slice(),
         }
     }
-
-    /// The words, to be taken. Those that lie in the tree are copied.
-    pub fn into_rest(self, alloc: Global) -> Result<Rest<Txt>, AllocError>
-        ensures { IfOk result (λ words. words ≡ given_words self) }
-    {
-        match self {
-            Given::Ready(words) => Ok(Rest::of(copies(alloc, words.as_ref().as_slice())?)),
-            Given::Made(words) => Ok(Rest::of(words.into_items())),
-        }
-    }
-}
-
-// Equal texts.
-fn copies(alloc: Global, texts: &[Txt]) -> Result<Vec<Txt>, AllocError>
-    ensures { IfOk result (λ copies. copies.items ≡ texts.now) }
-{
-    let mut copies = Vec::with_capacity(alloc, texts.len())?;
-    for text in texts {
-        copies.push(text.try_clone()?)?;
-    }
-    Ok(copies)
 }
 
 /// A command, one of whose words waits for what has to be opened.

@@ -37,22 +37,6 @@ impl<T: Drop> Rest<T> {
         Rest { reversed }
     }
 
-    /// All these items, the last first.
-    pub fn reversed(items: Vec<T>) -> Rest<T>
-        ensures { result ≡ reverse items.items }
-    {
-        Rest { reversed: items }
-    }
-
-    /// The items that are left.
-    pub fn into_items(self) -> Vec<T>
-        ensures { result.items ≡ self }
-    {
-        let mut items = self.reversed;
-        items.reverse();
-        items
-    }
-
     /// The first item.
     pub fn first(&self) -> Option<&T>
         ensures { option_copied result ≡ slice_get self.now 0 }

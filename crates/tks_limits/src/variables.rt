@@ -64,9 +64,7 @@ fn params_fit(params: &[Parameter], limits: &Limits) -> bool
     ensures { result ≡ list_all (λ a. kinds.fits limits.now a.name && kinds.default_fits limits.now a.default) params.now }
 {
     for param in params {
-        if !fits(param.name.get().as_bytes(), limits)
-            || !default_fits(param.default.as_ref(), limits)
-        {
+        if !fits(param.name.as_bytes(), limits) || !default_fits(param.default.as_ref(), limits) {
             return false;
         }
     }

@@ -8,3 +8,4 @@ pub mod Integer
 pub mod Backslash
 pub mod Class
 pub mod Truth
+pub mod Bytes

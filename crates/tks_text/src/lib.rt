@@ -3,6 +3,7 @@
 #![tactic(auto)]
 
 mod backslash;
+mod bytes;
 mod class;
 mod fault;
 mod integer;

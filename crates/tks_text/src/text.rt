@@ -3,6 +3,7 @@ ghost use Rattle.std.specs.Prelude.{◌≡◌, ℕ, ◌↔◌, ◌++◌, [], ◌
 ghost use Rattle.tks_text.specs.Short.{IsShort};
 ghost use Rattle.tks_text.specs.Text.{is_text_byte, is_text, begins_dot, IsText};
 
+use crate::bytes::Bytes;
 use crate::list::{MAX_LEN, Seq};
 use std::alloc::{AllocError, Global};
 use std::hash::{Hash, Hasher};
@@ -10,10 +11,11 @@ use std::marker::Model;
 use thiserror::Error;
 
 /// A text: fewer than 2^32 bytes, each of which is a tab, a newline or a printing character of ASCII (32 to 126). What would
-/// be longer is refused as memory is. Contracts see it as the list of its bytes.
+/// be longer is refused as memory is. Copies share their bytes, so that to make one takes no memory; a change copies them
+/// first, where others hold them too. Contracts see the list of its bytes.
 #[derive(Debug)]
 pub struct Txt {
-    bytes: Vec<u8>,
+    bytes: Bytes,
 }
 
 // Written out, so that to let go of it is one step for whoever owns it.
@@ -30,9 +32,9 @@ impl Model for Txt {
 
     ghost Value = { List ℕ };
 
-    ghost view = { λ t. t.bytes.items };
+    ghost view = { λ t. t.bytes };
 
-    ghost invariant = { λ t. IsText t.bytes.items × IsShort t.bytes.items };
+    ghost invariant = { λ t. IsText t.bytes × IsShort t.bytes };
 }
 
 /// Why bytes make no text.
@@ -82,7 +84,7 @@ impl Txt {
         ensures { result ≡ [] }
     {
         Txt {
-            bytes: Vec::new(alloc),
+            bytes: Bytes::new(alloc),
         }
     }
 
@@ -111,7 +113,7 @@ impl Txt {
             return Err(AllocError);
         }
         Ok(Txt {
-            bytes: Vec::from_slice(alloc, bytes)?,
+            bytes: Bytes::of(alloc, bytes)?,
         })
     }
 
@@ -141,8 +143,7 @@ impl Txt {
         if self.bytes.len() >= MAX_LEN {
             return Err(AllocError);
         }
-        self.bytes.push(byte)?;
-        Ok(())
+        self.bytes.push(byte)
     }
 
     /// Adds bytes, which are a text, at the end.
@@ -155,8 +156,7 @@ impl Txt {
         if bytes.len() > MAX_LEN - self.bytes.len() {
             return Err(AllocError);
         }
-        self.bytes.extend_from_slice(bytes)?;
-        Ok(())
+        self.bytes.append(bytes)
     }
 
     /// Adds a text at the end.
@@ -178,8 +178,7 @@ impl Txt {
         if count > MAX_LEN - self.bytes.len() {
             return Err(AllocError);
         }
-        self.bytes.extend_from_slice(&bytes[..count])?;
-        Ok(())
+        self.bytes.append(&bytes[..count])
     }
 
     /// Adds what is behind the first `count` bytes of a text at the end, or nothing where there are fewer.
@@ -193,8 +192,7 @@ impl Txt {
         if bytes.len() > MAX_LEN - self.bytes.len() {
             return Err(AllocError);
         }
-        self.bytes.extend_from_slice(bytes)?;
-        Ok(())
+        self.bytes.append(bytes)
     }
 
     /// The bytes.
@@ -203,7 +201,7 @@ impl Txt {
         ensures text { IsText self.now }
         ensures short { IsShort self.now }
     {
-        &self.bytes
+        self.bytes.as_slice()
     }
 
     /// How many bytes there are.
@@ -225,7 +223,7 @@ impl Txt {
         ensures { IfOk result (λ t. t ≡ self.now) }
     {
         Ok(Txt {
-            bytes: self.bytes.clone()?,
+            bytes: self.bytes.share()?,
         })
     }
 }

@@ -9,4 +9,3 @@ pub mod Growth
 pub mod Setting
 pub mod Few
 pub mod Links
-pub mod Naming

@@ -8,13 +8,11 @@ ghost use Rattle.tks_vars.specs.declared.content.Content.TheVariants.{Scalar};
 ghost use Rattle.tks_vars.specs.declared.content.Local.TheVariants.{Own};
 
 use crate::content::{Content, Local};
-use crate::entry_name::EntryName;
 use crate::few::{FEW, Few};
 use crate::frame::Frame;
 use std::alloc::{AllocError, Global};
 use std::marker::Model;
 use tks_list::ListText;
-use tks_share::Shared;
 use tks_text::Txt;
 
 /// The arguments of a call, kept as the call's frame will hold them. Contracts see the list.
@@ -50,13 +48,11 @@ impl Arguments {
     }
 
     /// Adds the value that a call gives to the parameter of this name.
-    pub fn push(&mut self, name: &Shared<Txt>, value: Txt) -> Result<(), AllocError>
+    pub fn push(&mut self, name: &Txt, value: Txt) -> Result<(), AllocError>
         ensures ok { OnOk result (self.new ≡ self.old ++ record { name = name.now; value = value } ∷ []) }
         ensures err { OnErr result (self.new ≡ self.old) }
     {
-        let name = EntryName::common(name)?;
-        self.entries.push(name, scalar(value))?;
-        Ok(())
+        self.entries.push(name.try_clone()?, scalar(value))
     }
 
     /// Whether no value has more bytes than this.
@@ -86,7 +82,7 @@ fn is_within(local: &Local, most: usize) -> bool
 }
 
 // Whether none of these scalars' values has more bytes than this.
-fn are_within(entries: &[(EntryName, Local)], most: usize) -> bool
+fn are_within(entries: &[(Txt, Local)], most: usize) -> bool
     ensures { result ≡ list_all (λ e. nat_le (length (value_held e.1)) most) entries.now }
 {
     entries.iter().all(|entry| is_within(&entry.1, most))

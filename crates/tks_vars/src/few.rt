@@ -4,17 +4,17 @@ ghost use Rattle.tks_text.specs.Text.{same_text};
 ghost use Rattle.tks_vars.specs.Few.{IsChangedAt, AreApart};
 
 use crate::content::Local;
-use crate::entry_name::EntryName;
 use std::alloc::{AllocError, Global};
 use std::marker::Model;
 use tks_share::{Change, Copied};
+use tks_text::Txt;
 
 /// The most names that are looked through one by one.
 pub(crate) const FEW: usize = 8;
 
 /// A few names, each with what stands under it, which are looked through one by one. Contracts see the list.
 pub struct Few {
-    entries: Vec<(EntryName, Local)>,
+    entries: Vec<(Txt, Local)>,
 }
 
 // Written out, so that to let go of it is one step for whoever owns it.
@@ -61,7 +61,7 @@ impl Few {
     }
 
     /// The name at a place, with what stands under it.
-    pub fn at(&self, place: usize) -> &(EntryName, Local)
+    pub fn at(&self, place: usize) -> &(Txt, Local)
         requires { place < length self.now }
         ensures { result.now ≡ get_or self.now place result.now }
     {
@@ -69,7 +69,7 @@ impl Few {
     }
 
     /// Puts a name, and what stands under it, into the place of another.
-    pub fn set(&mut self, place: usize, name: EntryName, value: Local)
+    pub fn set(&mut self, place: usize, name: Txt, value: Local)
         requires { place < length self.old }
         ensures { self.new ≡ slice_set self.old place (name, value) }
     {
@@ -77,7 +77,7 @@ impl Few {
     }
 
     /// Adds a name, and what stands under it.
-    pub fn push(&mut self, name: EntryName, value: Local) -> Result<(), AllocError>
+    pub fn push(&mut self, name: Txt, value: Local) -> Result<(), AllocError>
         ensures ok { OnOk result (self.new ≡ self.old ++ (name, value) ∷ []) }
         ensures err { OnErr result (self.new ≡ self.old) }
     {
@@ -86,7 +86,7 @@ impl Few {
     }
 
     /// Takes the last one out.
-    pub fn pop(&mut self) -> Option<(EntryName, Local)>
+    pub fn pop(&mut self) -> Option<(Txt, Local)>
         ensures some { IfSome result (λ e. self.old ≡ self.new ++ e ∷ []) }
         ensures none { IfNone result ((self.old ≡ []) × (self.new ≡ [])) }
     {
@@ -101,7 +101,7 @@ impl Few {
     }
 
     /// The entries.
-    pub fn as_slice(&self) -> &[(EntryName, Local)]
+    pub fn as_slice(&self) -> &[(Txt, Local)]
         ensures { result.now ≡ self.now }
     {
         self.entries.as_slice()
@@ -132,7 +132,7 @@ impl Few {
 }
 
 // The place of the first entry with this name.
-fn place_in(entries: &[(EntryName, Local)], name: &[u8]) -> Option<usize>
+fn place_in(entries: &[(Txt, Local)], name: &[u8]) -> Option<usize>
     ensures bound { IfSome result (λ place. place < length entries.now) }
     ensures value { result ≡ position (λ e. same_text e.0 name.now) entries.now }
 {
@@ -140,7 +140,7 @@ fn place_in(entries: &[(EntryName, Local)], name: &[u8]) -> Option<usize>
 }
 
 // Whether no two entries have one name.
-fn are_apart(entries: &[(EntryName, Local)]) -> bool
+fn are_apart(entries: &[(Txt, Local)]) -> bool
     ensures { result ≡ true → AreApart entries.now }
 {
     let mut rest = entries;
@@ -162,10 +162,7 @@ impl Copied for Few {
 }
 
 // Equal entries.
-fn copies_of(
-    alloc: Global,
-    entries: &[(EntryName, Local)],
-) -> Result<Vec<(EntryName, Local)>, AllocError>
+fn copies_of(alloc: Global, entries: &[(Txt, Local)]) -> Result<Vec<(Txt, Local)>, AllocError>
     ensures { IfOk result (λ copies. copies.items ≡ entries.now) }
 {
     let mut copies = Vec::with_capacity(alloc, entries.len())?;

@@ -7,7 +7,6 @@ ghost use Rattle.tks_vars.specs.Links.{IsLinked};
 ghost use Rattle.tks_vars.specs.Table.{IsName};
 
 use crate::content::Local;
-use crate::entry_name::EntryName;
 use crate::few::{FEW, Few};
 use crate::links::add_links;
 use crate::table::Table;
@@ -108,12 +107,12 @@ impl Frame {
         ensures err { OnErr result (self.new ≡ self.old) }
     {
         let name = Txt::from_text(self.alloc, name)?;
-        self.insert_named(EntryName::single(name), value)?;
+        self.insert_named(name, value)?;
         Ok(())
     }
 
     /// The same as `insert`, with a name that needs no copy.
-    pub fn insert_named(&mut self, name: EntryName, value: Local) -> Result<(), AllocError>
+    pub fn insert_named(&mut self, name: Txt, value: Local) -> Result<(), AllocError>
         ensures ok { OnOk result (self.new ≡ map.insert self.old name value) }
         ensures err { OnErr result (self.new ≡ self.old) }
     {
@@ -214,7 +213,7 @@ fn add(
     alloc: Global,
     first: &mut Shared<Few>,
     rest: &mut Table<Local>,
-    name: EntryName,
+    name: Txt,
     value: Local,
 ) -> Result<(), AllocError>
     requires { Lacks name first.old }

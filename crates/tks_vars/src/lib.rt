@@ -3,7 +3,6 @@
 
 mod call;
 mod content;
-mod entry_name;
 mod few;
 mod frame;
 mod growth;

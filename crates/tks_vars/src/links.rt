@@ -5,7 +5,6 @@ ghost use Rattle.tks_vars.specs.Few.{put_behind};
 ghost use Rattle.tks_vars.specs.Links.{IsNew, IsLinked};
 
 use crate::content::Local;
-use crate::entry_name::EntryName;
 use crate::few::{FEW, Few};
 use crate::name::names_whole;
 use crate::table::Table;
@@ -55,7 +54,7 @@ fn add_each(
         if count >= most || first.len() >= FEW || !is_new(name, first, rest) {
             return Ok(None);
         }
-        first.push(EntryName::single(name.try_clone()?), Local::Link)?;
+        first.push(name.try_clone()?, Local::Link)?;
         count += 1;
     }
     Ok(Some(count))

@@ -16,7 +16,7 @@ loop-name-preserved c =
     let new : IsNew name first rest = search rules in
     let left : drop c.loop-name.name-index c.args.names.now ≡ name ∷ drop (c.loop-name.name-index + 1) c.args.names.now = grind (arith, common_steps) in
     let room : map.len (put_behind rest first) < most = omega (arith, c.loop-name.invariant.1) in
-    let pushed : c.push.new.self ≡ first ++ (name, Link) ∷ [] = c.in_ok-push.ensures.ok ∙ ap (λ n. first ++ (n, Link) ∷ []) (c.single.ensures ∙ c.in_ok-try_clone.ensures) in
+    let pushed : c.push.new.self ≡ first ++ (name, Link) ∷ [] = c.in_ok-push.ensures.ok ∙ ap (λ n. first ++ (n, Link) ∷ []) c.in_ok-try_clone.ensures in
     let made = link_joins rest first name new ∙ ap (λ es. Ok (put_behind rest es)) (sym pushed) in (
       λ frame linked. c.loop-name.invariant.0 frame (subst (λ names. IsLinked most names (put_behind rest first) frame) (sym left) (put_behind rest c.push.new.self, room, made, linked)),
       ap (λ n. n + 1) c.loop-name.invariant.1 ∙ link_counts rest first name new ∙ ap (λ es. map.len (put_behind rest es)) (sym pushed),

@@ -9,16 +9,16 @@ use Rattle.tks_eval.specs.declared.machine.Machine.{Machine}
 use Rattle.tks_eval.proofs.Reaching.{given_none_of, halts_below}
 use Rattle.tks_eval.proofs.machine.Machine.run_procedure.Goals as goal
 
-pub returns-clause-goes : goal.returns-clause-goes
-returns-clause-goes g c =
+pub returns-in-Err-clause-goes : goal.returns-in-Err-clause-goes
+returns-in-Err-clause-goes g c =
     let host = g.H.Host.meaning in
     let limits = c.args.limits.now in
     let old = c.args.self.now in
     let inner = evaluate host limits old.left in
     let state = g.H.Host.state c.args.host.now in
     let variables = c.args.variables.now in
-    let first = c.in-Some.command in
-    let rest = c.next.new.self in
+    let first = c.args.command.now in
+    let rest = c.args.words.now in
     let m : Machine = record { stack = old.stack; left = c.args.levels; fuel = old.fuel; table = tt } in
     let why = c.in-Err.why in
     let called = entered limits first rest variables (map.get variables.procedures first) in

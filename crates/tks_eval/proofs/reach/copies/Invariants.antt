@@ -1,6 +1,0 @@
-use Rattle.std.proofs.Common.{◌≡◌, take}
-use Rattle.tks_eval.proofs.reach.copies.Given as goal
-
--- the copies so far
-abbrev pub invariant-loop-text : goal.invariant-loop-text
-invariant-loop-text l = l.copies.items ≡ take l.text-index l.texts
