@@ -34,13 +34,10 @@ module _ {A E : Type 0} where
   none_through P Q (Err e) goes h = h
 
 module _ {E : Type 0} where
-  pub front_none : (es m : List E) (e : E) → None ≡ front es → front (es ++ e ∷ m) ≡ Some e
-  front_none [] m e is = refl
-  front_none (x ∷ es) m e is = cc
-
-  pub front_some : (es m : List E) (e : E) → Some e ≡ front es → front (es ++ m) ≡ Some e
-  front_some [] m e is = cc
-  front_some (x ∷ es) m e is = sym is
+  -- what comes behind an item is never the first of them
+  pub front_before : (es m n : List E) (e : E) → front ((es ++ e ∷ m) ++ n) ≡ front (es ++ e ∷ [])
+  front_before [] m n e = refl
+  front_before (x ∷ es) m n e = refl
 
 module _ {E Z : Type 0} where
   -- the items of a tree with a root

@@ -63,4 +63,4 @@ module _ {V : Type 0} where
 
   pub steps : (es : List (List ℕ × V)) (from : Ahead) (e : List ℕ × V) → T (is_sorted order es) → Some e ≡ front (those_ahead from es) → those_ahead from es ≡ e ∷ behind e.0 es
   steps es ahead.All e s is = sym (begun es (Some e) s is)
-  steps es (ahead.Behind name) e s is = sym (goes_on es name.now (Some e) s is)
+  steps es (ahead.Behind name) e s is = sym (goes_on es name (Some e) s is)

@@ -1,4 +1,5 @@
 pub mod Sides
+pub mod Heads
 pub mod AtFork
 pub mod Mapped
 pub mod Going

@@ -7,4 +7,4 @@ use Rattle.tks_share.specs.declared.iter.Ahead.TheVariants as ahead
 module _ {V : Type 0} where
   abbrev pub those_ahead : Ahead → List (List ℕ × V) → List (List ℕ × V)
   those_ahead ahead.All all = all
-  those_ahead (ahead.Behind name) all = behind name.now all
+  those_ahead (ahead.Behind name) all = behind name all

@@ -1,5 +1,5 @@
 -- Names in the order of their bytes, and entries under them.
-use Rattle.std.specs.Prelude.{◌≡◌, ℕ, not, List, Some}
+use Rattle.std.specs.Prelude.{◌≡◌, ℕ, zero, suc, ◌+◌, ◌*◌, ◌<◌, not, slice_index, List, [], ◌∷◌, Some}
 use Rattle.std.specs.declared.cmp.Ordering.{Ordering}
 use Rattle.std.specs.Ordering.{nat_cmp, eq_by_cmp, is_lt}
 use Rattle.std.specs.Cmp.Lexicographic.{slice_cmp}
@@ -8,6 +8,20 @@ use Rattle.std.specs.FinMap.Entries.{find, put, where_key}
 -- how one name stands to another
 abbrev pub order : List ℕ → List ℕ → Ordering
 order = slice_cmp nat_cmp
+
+-- each item is a byte
+abbrev pub IsBytes : List ℕ → Type 0
+IsBytes name = (i : ℕ) → slice_index name i < 256
+
+-- the number that is spelt by another and then, a byte for each place, by a name's first bytes, with zeros for those that are missing
+abbrev pub spelt : ℕ → ℕ → List ℕ → ℕ
+spelt zero number name = number
+spelt (suc places) number [] = spelt places (number * 256) []
+spelt (suc places) number (byte ∷ name) = spelt places (number * 256 + byte) name
+
+-- a name's first eight bytes as a number
+abbrev pub head_of : List ℕ → ℕ
+head_of = spelt 8 0
 
 module _ {V : Type 0} where
   -- the entries but for a name's

@@ -7,6 +7,7 @@ ghost use Rattle.tks_share.specs.Maps.{entry_seen};
 ghost use Rattle.tks_share.specs.Going.{those_ahead};
 ghost use Rattle.tks_share.specs.Tree.{front};
 
+use crate::name::Sought;
 use crate::names::{self, Entry};
 use crate::tree::Tree;
 use std::marker::Model;
@@ -15,7 +16,7 @@ use std::marker::Model;
 #[derive(Drop)]
 enum Ahead<'a> {
     All,
-    Behind(&'a [u8]),
+    Behind(Sought<'a>),
 }
 
 /// The entries of a map that are still to come, in the names' order. Each is looked up when it is asked for.
@@ -60,7 +61,7 @@ impl<'a, V: Drop> Iter<'a, V> {
     {
         Iter {
             tree,
-            ahead: Ahead::Behind(name),
+            ahead: Ahead::Behind(Sought::new(name)),
         }
     }
 }
@@ -87,8 +88,8 @@ impl<'a, V: Drop> Iterator for Iter<'a, V> {
         let Some(entry) = next_of(self.tree, &self.ahead) else {
             return None;
         };
-        let name = entry.0.get().as_bytes();
-        self.ahead = Ahead::Behind(name);
-        Some((name, entry.1.get()))
+        let name = entry.0.get();
+        self.ahead = Ahead::Behind(name.sought());
+        Some((name.as_bytes(), entry.1.get()))
     }
 }

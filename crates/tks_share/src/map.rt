@@ -6,6 +6,7 @@ ghost use Rattle.tks_share.specs.Names.{behind};
 use crate::change::Change;
 use crate::copied::Copied;
 use crate::iter::Iter;
+use crate::name::Sought;
 use crate::names::{self, Entry};
 use crate::share::Share;
 use crate::shared::Shared;
@@ -94,7 +95,7 @@ impl<V: Drop> SharedMap<V> {
     pub fn get(&self, name: &[u8]) -> Option<&V>
         ensures { option_copied result ≡ map.get self.now name.now }
     {
-        names::get(&self.tree, name)
+        names::get(&self.tree, &Sought::new(name))
     }
 
     /// Puts a value under a name, in the place of the one that is there. One name too many is refused as memory is.
@@ -106,7 +107,7 @@ impl<V: Drop> SharedMap<V> {
             return Err(AllocError);
         }
         let value = Shared::new(self.alloc, value)?;
-        names::insert(&mut self.tree, self.alloc, name, value)?;
+        names::insert(&mut self.tree, self.alloc, &Sought::new(name), value)?;
         self.len = self.tree.count();
         Ok(())
     }
@@ -126,7 +127,7 @@ impl<V: Drop> SharedMap<V> {
         if !self.contains(name) {
             return Ok(());
         }
-        names::remove(&mut self.tree, name)?;
+        names::remove(&mut self.tree, &Sought::new(name))?;
         self.len -= 1;
         Ok(())
     }
@@ -161,7 +162,7 @@ impl<V: Copied> SharedMap<V> {
         ensures unused { IfOk result (λ o. IfNone o (change.new ≡ change.old)) }
         ensures err { OnErr result (self.new ≡ self.old) }
     {
-        names::change(&mut self.tree, self.alloc, name, change)
+        names::change(&mut self.tree, self.alloc, &Sought::new(name), change)
     }
 }
 

@@ -6,7 +6,7 @@ ghost use Rattle.tks_share.specs.Tree.{front};
 
 use crate::change::Change;
 use crate::copied::Copied;
-use crate::name::Name;
+use crate::name::{Name, Sought};
 use crate::share::Share;
 use crate::shared::Shared;
 use crate::tree::{Tree, balance, close, lone};
@@ -24,34 +24,33 @@ impl<V: Drop> Share for (Shared<Name>, Shared<V>) {
 }
 
 // A name with a value.
-fn entry<V: Drop>(alloc: Global, name: &[u8], value: Shared<V>) -> Result<Entry<V>, AllocError>
+fn entry<V: Drop>(alloc: Global, name: &Sought, value: Shared<V>) -> Result<Entry<V>, AllocError>
     ensures { IfOk result (λ e. e ≡ (name.now, value)) }
 {
     Ok((Shared::new(alloc, Name::new(alloc, name)?)?, value))
 }
 
 /// The value under a name.
-pub(crate) fn get<'a, V: Drop>(tree: &'a Tree<Entry<V>>, name: &[u8]) -> Option<&'a V>
+pub(crate) fn get<'a, V: Drop>(tree: &'a Tree<Entry<V>>, name: &Sought) -> Option<&'a V>
     ensures { T (is_sorted order tree.now) → option_copied result ≡ find order name.now tree.now }
 {
-    match &tree.root {
-        None => None,
-        Some(root) => {
-            let fork = root.as_ref();
-            match fork.item.0.get().stands(name) {
-                Ordering::Less => get(&fork.left, name),
-                Ordering::Equal => Some(fork.item.1.get()),
-                Ordering::Greater => get(&fork.right, name),
-            }
+    let mut part = tree;
+    while let Some(root) = &part.root {
+        let fork = root.as_ref();
+        match fork.item.0.get().stands(name) {
+            Ordering::Less => part = &fork.left,
+            Ordering::Equal => return Some(fork.item.1.get()),
+            Ordering::Greater => part = &fork.right,
         }
     }
+    None
 }
 
 /// Puts a value under a name, in the place of the one that is there.
 pub(crate) fn insert<V: Drop>(
     tree: &mut Tree<Entry<V>>,
     alloc: Global,
-    name: &[u8],
+    name: &Sought,
     value: Shared<V>,
 ) -> Result<(), AllocError>
     ensures ok { OnOk result (T (is_sorted order tree.old) → tree.new ≡ put order name.now value tree.old) }
@@ -85,7 +84,7 @@ pub(crate) fn insert<V: Drop>(
 }
 
 /// Takes a name out.
-pub(crate) fn remove<V: Drop>(tree: &mut Tree<Entry<V>>, name: &[u8]) -> Result<(), AllocError>
+pub(crate) fn remove<V: Drop>(tree: &mut Tree<Entry<V>>, name: &Sought) -> Result<(), AllocError>
     ensures ok { OnOk result (T (is_sorted order tree.old) → tree.new ≡ without name.now tree.old) }
     ensures err { OnErr result (tree.new ≡ tree.old) }
 {
@@ -116,29 +115,29 @@ pub(crate) fn remove<V: Drop>(tree: &mut Tree<Entry<V>>, name: &[u8]) -> Result<
 }
 
 /// The first entry behind a name.
-pub(crate) fn after<'a, V: Drop>(tree: &'a Tree<Entry<V>>, name: &[u8]) -> Option<&'a Entry<V>>
+pub(crate) fn after<'a, V: Drop>(tree: &'a Tree<Entry<V>>, name: &Sought) -> Option<&'a Entry<V>>
     ensures { T (is_sorted order tree.now) → option_copied result ≡ front (behind name.now tree.now) }
 {
-    match &tree.root {
-        None => None,
-        Some(root) => {
-            let fork = root.as_ref();
-            match fork.item.0.get().stands(name) {
-                Ordering::Less => match after(&fork.left, name) {
-                    None => Some(&fork.item),
-                    Some(entry) => Some(entry),
-                },
-                _ => after(&fork.right, name),
+    let mut part = tree;
+    let mut nearest = None;
+    while let Some(root) = &part.root {
+        let fork = root.as_ref();
+        match fork.item.0.get().stands(name) {
+            Ordering::Less => {
+                nearest = Some(&fork.item);
+                part = &fork.left;
             }
+            _ => part = &fork.right,
         }
     }
+    nearest
 }
 
 /// Changes the value under a name where it stands. A value that others hold too is copied first.
 pub(crate) fn change<V: Copied, C: Change<V>>(
     tree: &mut Tree<Entry<V>>,
     alloc: Global,
-    name: &[u8],
+    name: &Sought,
     change: &mut C,
 ) -> Result<Option<C::Answer>, AllocError>
     ensures some { IfOk result (λ o. IfSome o (λ answer. T (is_sorted order tree.old) → IsChanged (C.gives change.old) name.now tree.old tree.new answer)) }

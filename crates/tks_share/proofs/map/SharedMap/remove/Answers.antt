@@ -11,13 +11,13 @@ returns-then-not-contains-clause-ok g c =
 pub overflow_sub-self : goal.overflow_sub-self
 overflow_sub-self g c =
     let there : fin.contains_key c.args.self.now c.args.name.now ≡ true = search rules in
-    let fewer = one_fewer c.self.inside.tree c.args.self.now c.self.view_is c.self.invariant.0 c.args.name.now c.remove.new.tree c.self.inside.len c.self.invariant.1 there (c.in_ok-remove.ensures.ok c.self.invariant.0) in
+    let fewer = one_fewer c.self.inside.tree c.args.self.now c.self.view_is c.self.invariant.0 c.args.name.now c.remove.new.tree c.self.inside.len c.self.invariant.1 there (rw c.new.ensures at c.in_ok-remove.ensures.ok c.self.invariant.0) in
     omega (arith, fewer.0)
 
 pub invariant_of-self-2 : goal.invariant_of-self-2
 invariant_of-self-2 g c =
     let there : fin.contains_key c.args.self.now c.args.name.now ≡ true = search rules in
-    let out = c.in_ok-remove.ensures.ok c.self.invariant.0 in
+    let out = rw c.new.ensures at c.in_ok-remove.ensures.ok c.self.invariant.0 in
     let fewer = one_fewer c.self.inside.tree c.args.self.now c.self.view_is c.self.invariant.0 c.args.name.now c.remove.new.tree c.self.inside.len c.self.invariant.1 there out in (
       sorted_out c.self.inside.tree c.args.self.now c.self.view_is c.self.invariant.0 c.args.name.now c.remove.new.tree out,
       fewer.1,
@@ -26,4 +26,4 @@ invariant_of-self-2 g c =
 
 pub returns-clause-ok : goal.returns-clause-ok
 returns-clause-ok g c =
-    removed c.self.inside.tree c.args.self.now c.self.view_is c.self.invariant.0 c.args.name.now c.remove.new.tree (c.in_ok-remove.ensures.ok c.self.invariant.0)
+    removed c.self.inside.tree c.args.self.now c.self.view_is c.self.invariant.0 c.args.name.now c.remove.new.tree (rw c.new.ensures at c.in_ok-remove.ensures.ok c.self.invariant.0)
