@@ -1,5 +1,5 @@
 -- What a change leaves, where nobody asks for its answer.
-use Rattle.std.proofs.Common.{◌≡◌, ℕ, Bool, true, false, ◌&&◌, if◌then◌else◌, List, Result, Ok, Err, ap}
+use Rattle.std.proofs.Common.{◌≡◌, ℕ, Bool, true, false, ◌&&◌, if◌then◌else◌, List, Result, Ok, Err}
 use Rattle.tks_text.specs.declared.fault.ScriptFault.{ScriptFault}
 use Rattle.tks_text.specs.declared.limits.Limits.{Limits}
 use Rattle.tks_vars.specs.Variables.{Variables, with_value, grown_by_value}
@@ -19,11 +19,6 @@ whole_fails (Ok x) interrupt.NoMemory e = tt
 whole_fails (Err cause) (interrupt.Script fault) e = cc
 whole_fails (Err cause) interrupt.TooLarge e = cc
 whole_fails (Err cause) interrupt.NoMemory e = tt
-
-pub left_fails : (r : Result Changed Cause) (why : Interrupt) → FailsSo why r → FailsSo why (left r)
-left_fails r (interrupt.Script fault) e = ap left e
-left_fails r interrupt.TooLarge e = ap left e
-left_fails r interrupt.NoMemory e = tt
 
 -- ---- values that are stored
 

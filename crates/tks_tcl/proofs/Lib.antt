@@ -8,6 +8,5 @@ pub mod Erring
 pub mod Framing
 pub mod Added
 pub mod Leaving
-pub mod Integers
 pub mod Answering
 pub mod Linked

@@ -11,4 +11,4 @@ pub mod Names
 pub mod View
 pub mod Laws
 pub mod Meets
-pub mod Growing
+pub mod Making

@@ -8,7 +8,6 @@ use Rattle.tks_text.specs.declared.fault.Failure.TheVariants as failure
 use Rattle.tks_vars.specs.Variables.{Variables}
 use Rattle.tks_tcl.specs.Cause.{Cause, Fault, OverLimit}
 use Rattle.tks_text.specs.Limits.{fits}
-use Rattle.tks_tcl.specs.Growing.{lengthens, adds_elements}
 use Rattle.tks_tcl.specs.Plain.{Answer, Answers, PassesLimit, Ending}
 use Rattle.tks_tcl.specs.declared.interrupt.Interrupt.{Interrupt}
 use Rattle.tks_tcl.specs.declared.interrupt.Interrupt.TheVariants as interrupt
@@ -60,12 +59,6 @@ QuietlySo (Ok None) old new answer = AnswersSo (Ok None) old new answer
 QuietlySo (Ok (Some quiet.Done)) old new answer = answer ≡ Some (Answers 0 (text_of answer) new)
 QuietlySo (Ok (Some (quiet.Ended code text))) old new answer = AnswersSo (Ok (Some (code, text))) old new answer
 QuietlySo (Err why) old new answer = AnswersSo (Err why) old new answer
-
--- to put this text behind the value of a variable is to put these elements behind its list; none where that isn't known
-abbrev pub JoinsSo : Result (Option (List ℕ)) Interrupt → Limits → List ℕ → List (List ℕ) → Variables → Type 0
-JoinsSo (Ok None) limits name elements variables = Unit {0}
-JoinsSo (Ok (Some more)) limits name elements variables = adds_elements limits name elements variables ≡ lengthens limits name more variables
-JoinsSo (Err why) limits name elements variables = FailsSo why (adds_elements limits name elements variables)
 
 -- the text that a command ended with
 abbrev pub ended_text : Result Ending Cause → List ℕ

@@ -1,5 +1,5 @@
 -- The commands on variables (set(n), unset(n), incr(n), append(n), lappend(n), global(n), info(n)).
-use Rattle.std.specs.Prelude.{ℕ, Bool, true, false, ◌&&◌, nat_lt, if◌then◌else◌, List, [], ◌∷◌, ◌++◌, codes, ℤ, pos, ◌+ℤ◌, Option, Some, None, Result, Ok, Err}
+use Rattle.std.specs.Prelude.{ℕ, Bool, true, false, ◌&&◌, nat_lt, if◌then◌else◌, List, [], ◌∷◌, ◌++◌, codes, ℤ, ◌+ℤ◌, Option, Some, None, Result, Ok, Err}
 use Rattle.std.specs.Fmt.{signed_decimal}
 use Rattle.tks_text.specs.Text.{same_text}
 use Rattle.tks_text.specs.Integer.{fits_i64}
@@ -33,45 +33,38 @@ with_default default (Err fault) = if is_missing fault.number then Ok default el
 abbrev pub value_or : List ℕ → Variables → List ℕ → Result (List ℕ) Cause
 value_or default variables name = with_default default (value_of variables name)
 
--- the integer in a value, or none where it is missing
-abbrev pub integer_told : Result (List ℕ) ScriptFault → Result (Option ℤ) Cause
-integer_told (Ok value) = after (integer_in value) (λ z. Ok (Some z))
-integer_told (Err fault) = if is_missing fault.number then Ok None else Err (Fault fault)
-
--- the integer in a variable, or none where it is missing
-abbrev pub integer_there : Variables → List ℕ → Result (Option ℤ) Cause
-integer_there variables name = integer_told (value_of variables name)
-
--- an integer, or 0 where it is missing
-abbrev pub or_zero : Option ℤ → ℤ
-or_zero None = pos 0
-or_zero (Some z) = z
-
--- the integer in a variable, or 0 where it is missing
-abbrev pub integer_or_zero : Variables → List ℕ → Result ℤ Cause
-integer_or_zero variables name = after (value_or (codes "0") variables name) integer_in
-
 -- the decimal of an integer of 64 bits
 abbrev pub decimal_within : ℤ → Result (List ℕ) Cause
 decimal_within z = if fits_i64 z then Ok (signed_decimal z) else Err (Fault (bare OutOfRange))
 
+-- the integer that a text spells, and another one added
+abbrev pub sum_of : List ℕ → List ℕ → Result (List ℕ) Cause
+sum_of n value = after (integer_in value) (λ a. after (integer_in n) (λ b. decimal_within (a +ℤ b)))
+
 -- the integer in a variable, where a missing one counts as 0, and this one added
 abbrev pub increased : Variables → List ℕ → List ℕ → Result (List ℕ) Cause
-increased variables name n =
-    after (value_or (codes "0") variables name) (λ value. after (integer_in value) (λ a. after (integer_in n) (λ b. decimal_within (a +ℤ b))))
+increased variables name n = after (value_or (codes "0") variables name) (sum_of n)
 
 -- texts one after the other
 abbrev pub flat : List (List ℕ) → List ℕ
 flat [] = []
 flat (text ∷ texts) = text ++ flat texts
 
+-- a value, and these texts behind it
+abbrev pub with_texts : List (List ℕ) → List ℕ → Result (List ℕ) Cause
+with_texts texts value = Ok (value ++ flat texts)
+
+-- the list that a value splits into, and these elements behind it
+abbrev pub with_elements : List (List ℕ) → List ℕ → Result (List ℕ) Cause
+with_elements elements value = after (list_in value) (λ l. Ok (joined (l ++ elements)))
+
 -- the value of a variable, where a missing one counts as empty, and these texts behind it
 abbrev pub appended : Variables → List ℕ → List (List ℕ) → Result (List ℕ) Cause
-appended variables name texts = after (value_or [] variables name) (λ value. Ok (value ++ flat texts))
+appended variables name texts = after (value_or [] variables name) (with_texts texts)
 
 -- the list in a variable, where a missing one counts as empty, and these elements behind it
 abbrev pub list_appended : Variables → List ℕ → List (List ℕ) → Result (List ℕ) Cause
-list_appended variables name elements = after (value_or [] variables name) (λ value. after (list_in value) (λ l. Ok (joined (l ++ elements))))
+list_appended variables name elements = after (value_or [] variables name) (with_elements elements)
 
 -- ---- changes
 

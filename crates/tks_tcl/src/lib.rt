@@ -12,6 +12,7 @@ mod interrupt;
 mod laws;
 mod lent;
 mod lists;
+mod making;
 mod quiet;
 mod room;
 mod stop;

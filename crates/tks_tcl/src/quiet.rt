@@ -7,13 +7,13 @@ ghost use Rattle.tks_tcl.specs.Meets.{GivesSo, EndsSo, QuietlySo};
 
 use crate::calls::{err, run_command};
 use crate::command::Command;
-use crate::growing::{add_elements_quietly, add_texts_quietly};
+use crate::growing::{MoreElements, MoreTexts};
 use crate::interrupt::Interrupt;
+use crate::making::make_quietly;
 use crate::stop::Stop;
 use crate::table::ListTable;
-use crate::variables::{VariableCommand, increase_by_quietly, increase_quietly, store_quietly};
+use crate::variables::{Increase, VariableCommand, store_quietly};
 use std::alloc::Global;
-use tks_list::ListText;
 use tks_text::{Limits, Txt};
 use tks_vars::Vars;
 
@@ -42,20 +42,19 @@ impl VariableCommand {
     {
         match (self, words) {
             (VariableCommand::Append, [name, texts @ ..]) if !texts.is_empty() => {
-                add_texts_quietly(alloc, variables, name, texts, limits)?;
+                make_quietly(alloc, variables, name, MoreTexts(texts), b"", limits)?;
             }
             (VariableCommand::Incr, [name]) => {
-                increase_quietly(alloc, variables, name, limits)?;
+                make_quietly(alloc, variables, name, Increase(None), b"0", limits)?;
             }
             (VariableCommand::Incr, [name, amount]) => {
-                increase_by_quietly(alloc, variables, name, amount, limits)?;
+                make_quietly(alloc, variables, name, Increase(Some(amount)), b"0", limits)?;
             }
             (VariableCommand::Lappend, [name, elements @ ..]) if !elements.is_empty() => {
-                add_elements_quietly(alloc, variables, name, elements, limits)?;
+                make_quietly(alloc, variables, name, MoreElements(elements), b"", limits)?;
             }
             (VariableCommand::Set, [name, value]) => {
-                let value = value.try_clone()?;
-                store_quietly(variables, name, ListText::of(value), limits)?;
+                store_quietly(variables, name, value, limits)?;
             }
             _ => {
                 self.run(alloc, command, words, variables, limits)?;

@@ -1,18 +1,19 @@
 //! The commands on variables.
-ghost use Rattle.std.specs.Prelude.{◌≡◌, ◌+ℤ◌, codes, Ok, IsOk, OnErr};
-ghost use Rattle.tks_vars.specs.Variables.{value_of};
-ghost use Rattle.tks_tcl.specs.Cause.{after};
+ghost use Rattle.std.specs.Prelude.{◌≡◌, ◌+ℤ◌, OnErr};
+ghost use Rattle.tks_tcl.specs.Making.{amount_text};
 ghost use Rattle.tks_tcl.specs.Meets.{GivesSo};
-ghost use Rattle.tks_tcl.specs.Variables.{value_in, is_missing, value_or, integer_there, or_zero, integer_or_zero, decimal_within, increased, without_all, may_grow, stores, stores_global, link_within, with_global_links, left, set_does, unset_does, incr_does, append_does, lappend_does, global_does, info_does};
+ghost use Rattle.tks_tcl.specs.Variables.{value_in, is_missing, decimal_within, without_all, may_grow, stores, stores_global, link_within, with_global_links, left, set_does, unset_does, incr_does, append_does, lappend_does, global_does, info_does};
 ghost use Rattle.tks_tcl.specs.View.{variable_command_of};
+ghost use Rattle.tks_tcl.specs.Words.{integer_in};
 
-use crate::growing::{add_elements, add_texts};
+use crate::growing::{MoreElements, MoreTexts};
 use crate::interrupt::{Interrupt, error, within, wrong_words};
+use crate::making::{Making, make};
 use crate::words::{integer_in, truth_text};
-use std::alloc::Global;
+use std::alloc::{AllocError, Global};
 use tks_list::ListText;
-use tks_share::Share;
-use tks_text::{ErrorNumber, Failure, Limits, Txt, decimal_of, fits};
+use tks_share::{Change, Share};
+use tks_text::{ErrorNumber, Limits, Txt, decimal_of, fits};
 use tks_vars::Vars;
 
 /// The commands on variables.
@@ -67,23 +68,6 @@ pub fn is_missing(number: ErrorNumber) -> bool
     matches!(number, ErrorNumber::NoSuchVariable)
 }
 
-/// The value of a variable, or a default where it is missing.
-pub(crate) fn value_or(default: Txt, variables: &Vars, name: &Txt) -> Result<Txt, Interrupt>
-    ensures { GivesSo (λ t. t) result (value_or default variables.now name.now) }
-{
-    match variables.get(name) {
-        Ok(value) => Ok(value.try_clone()?),
-        Err(Failure::Script(fault)) => {
-            if is_missing(fault.number) {
-                Ok(default)
-            } else {
-                Err(Interrupt::Script(fault))
-            }
-        }
-        Err(Failure::NoMemory) => Err(Interrupt::NoMemory),
-    }
-}
-
 /// Whether a list that would grow may have one member more.
 pub(crate) fn may_grow(members: Option<usize>, limits: &Limits) -> bool
     ensures { result ≡ may_grow limits.now members }
@@ -96,6 +80,7 @@ pub(crate) fn may_grow(members: Option<usize>, limits: &Limits) -> bool
 
 /// Gives a name a value, which is answered. `TooLarge` where the value, or the list that it joins, would
 /// pass its limit.
+#[tactic(auto, using(crate::proofs::Leaving::stored))]
 pub fn store(
     variables: &mut Vars,
     name: &Txt,
@@ -105,61 +90,66 @@ pub fn store(
     ensures value { GivesSo (λ t. (t, variables.new)) result (stores limits.now name.now variables.old value) }
     ensures err { OnErr result (variables.new ≡ variables.old) }
 {
-    let value = store_list(variables, name, ListText::of(value), limits)?;
+    store_quietly(variables, name, &value, limits)?;
     Ok(value)
-}
-
-/// The same, with a text that may be known to be spelled as lists are.
-#[tactic(auto, using(crate::proofs::Leaving::stored))]
-pub(crate) fn store_list(
-    variables: &mut Vars,
-    name: &Txt,
-    value: ListText,
-    limits: &Limits,
-) -> Result<Txt, Interrupt>
-    ensures value { GivesSo (λ t. (t, variables.new)) result (stores limits.now name.now variables.old value) }
-    ensures err { OnErr result (variables.new ≡ variables.old) }
-{
-    let answer = value.as_text().try_clone()?;
-    store_quietly(variables, name, value, limits)?;
-    Ok(answer)
 }
 
 /// The same, where nobody asks for the answer.
 pub(crate) fn store_quietly(
     variables: &mut Vars,
     name: &Txt,
+    value: &Txt,
+    limits: &Limits,
+) -> Result<(), Interrupt>
+    ensures value { GivesSo (λ _. variables.new) result (left (stores limits.now name.now variables.old value.now)) }
+    ensures err { OnErr result (variables.new ≡ variables.old) }
+{
+    if !fits(value, limits) {
+        return Err(Interrupt::TooLarge);
+    }
+    match variables.change(name, Put { value })? {
+        Some(put) => Ok(put?),
+        None => {
+            let value = ListText::of(value.try_clone()?);
+            store_new(variables, name, value, limits)?;
+            Ok(())
+        }
+    }
+}
+
+// A value that is put where another stands.
+#[derive(Clone, Copy)]
+struct Put<'a> {
+    value: &'a Txt,
+}
+
+impl Change<ListText> for Put<'_> {
+    ghost use Rattle.tks_tcl.specs.Making.{PutsSo};
+
+    type Answer = Result<(), AllocError>;
+
+    ghost gives = { λ put. PutsSo put.value.now };
+
+    fn change(&mut self, value: &mut ListText) -> Result<(), AllocError> {
+        *value = ListText::of(self.value.try_clone()?);
+        Ok(())
+    }
+}
+
+/// Gives a name a value, whether it has one or not. `TooLarge` where the value, or the list that it joins, would pass its limit.
+pub(crate) fn store_new(
+    variables: &mut Vars,
+    name: &Txt,
     value: ListText,
     limits: &Limits,
 ) -> Result<(), Interrupt>
     ensures value { GivesSo (λ _. variables.new) result (left (stores limits.now name.now variables.old value)) }
     ensures err { OnErr result (variables.new ≡ variables.old) }
 {
-    if !fits(value.as_text(), limits) {
-        return Err(Interrupt::TooLarge);
-    }
-    if !may_grow(variables.grown_by_value(name), limits) {
+    if !fits(value.as_text(), limits) || !may_grow(variables.grown_by_value(name), limits) {
         return Err(Interrupt::TooLarge);
     }
     variables.set_list(name, value)?;
-    Ok(())
-}
-
-// Gives a name that has a value another one.
-fn replace_quietly(
-    variables: &mut Vars,
-    name: &Txt,
-    value: Txt,
-    limits: &Limits,
-) -> Result<(), Interrupt>
-    requires { IsOk (value_of variables.old name.now) }
-    ensures value { GivesSo (λ _. variables.new) result (left (stores limits.now name.now variables.old value)) }
-    ensures err { OnErr result (variables.new ≡ variables.old) }
-{
-    if !fits(&value, limits) {
-        return Err(Interrupt::TooLarge);
-    }
-    variables.set_list(name, ListText::of(value))?;
     Ok(())
 }
 
@@ -250,50 +240,6 @@ fn run_unset(
     Ok(Txt::new(alloc))
 }
 
-// The integer in a variable, where it isn't missing.
-fn integer_there(variables: &Vars, name: &Txt) -> Result<Option<i64>, Interrupt>
-    ensures { GivesSo (λ z. z) result (integer_there variables.now name.now) }
-{
-    match variables.get(name) {
-        Ok(value) => Ok(Some(integer_in(value)?)),
-        Err(Failure::Script(fault)) => {
-            if is_missing(fault.number) {
-                Ok(None)
-            } else {
-                Err(Interrupt::Script(fault))
-            }
-        }
-        Err(Failure::NoMemory) => Err(Interrupt::NoMemory),
-    }
-}
-
-// The integer in a variable, or 0 where it is missing.
-fn integer_or_zero(variables: &Vars, name: &Txt) -> Result<i64, Interrupt>
-    ensures { GivesSo (λ z. z) result (integer_or_zero variables.now name.now) }
-{
-    match integer_there(variables, name)? {
-        Some(integer) => Ok(integer),
-        None => Ok(0),
-    }
-}
-
-// The integer in a variable, and another added.
-fn increased(alloc: Global, variables: &Vars, name: &Txt, amount: &Txt) -> Result<Txt, Interrupt>
-    ensures { GivesSo (λ t. t) result (increased variables.now name.now amount.now) }
-{
-    let value = integer_or_zero(variables, name)?;
-    let amount = integer_in(amount)?;
-    sum(alloc, value, amount)
-}
-
-// The integer in a variable, and 1 added.
-fn increased_by_one(alloc: Global, variables: &Vars, name: &Txt) -> Result<Txt, Interrupt>
-    ensures { GivesSo (λ t. t) result (increased variables.now name.now (codes "1")) }
-{
-    let value = integer_or_zero(variables, name)?;
-    sum(alloc, value, 1)
-}
-
 // The decimal of a sum.
 fn sum(alloc: Global, a: i64, b: i64) -> Result<Txt, Interrupt>
     ensures { GivesSo (λ t. t) result (decimal_within (a +ℤ b)) }
@@ -304,62 +250,33 @@ fn sum(alloc: Global, a: i64, b: i64) -> Result<Txt, Interrupt>
     }
 }
 
-// Gives a name the sum of the integer that it has, 0 where it is missing, and another.
-fn store_sum_quietly(
-    alloc: Global,
-    variables: &mut Vars,
-    name: &Txt,
-    integer: Option<i64>,
-    amount: i64,
-    limits: &Limits,
-) -> Result<(), Interrupt>
-    requires { integer_there variables.old name.now ≡ Ok integer }
-    ensures value { GivesSo (λ _. variables.new) result (left (after (decimal_within (or_zero integer +ℤ amount)) (stores limits.now name.now variables.old))) }
-    ensures err { OnErr result (variables.new ≡ variables.old) }
+// The integer that a word spells, or 1 where there is none.
+fn amount_in(amount: Option<&Txt>) -> Result<i64, Interrupt>
+    ensures { GivesSo (λ z. z) result (integer_in (amount_text amount.entry)) }
 {
-    match integer {
-        Some(integer) => {
-            let value = sum(alloc, integer, amount)?;
-            replace_quietly(variables, name, value, limits)?;
-        }
-        None => {
-            let value = sum(alloc, 0, amount)?;
-            store_quietly(variables, name, ListText::of(value), limits)?;
-        }
+    match amount {
+        Some(amount) => integer_in(amount),
+        None => Ok(1),
     }
-    Ok(())
 }
 
-/// Adds 1 to the integer in a variable, where a missing one counts as 0. Nobody asks for the answer.
-pub(crate) fn increase_quietly(
-    alloc: Global,
-    variables: &mut Vars,
-    name: &Txt,
-    limits: &Limits,
-) -> Result<(), Interrupt>
-    ensures value { GivesSo (λ _. variables.new) result (left (after (increased variables.old name.now (codes "1")) (stores limits.now name.now variables.old))) }
-    ensures err { OnErr result (variables.new ≡ variables.old) }
-{
-    let integer = integer_there(variables, name)?;
-    store_sum_quietly(alloc, variables, name, integer, 1, limits)?;
-    Ok(())
-}
+/// An integer that is added to the one in a value: what a word spells, or 1 where there is none.
+#[derive(Clone, Copy)]
+pub(crate) struct Increase<'a>(pub Option<&'a Txt>);
 
-/// The same of any amount.
-pub(crate) fn increase_by_quietly(
-    alloc: Global,
-    variables: &mut Vars,
-    name: &Txt,
-    amount: &Txt,
-    limits: &Limits,
-) -> Result<(), Interrupt>
-    ensures value { GivesSo (λ _. variables.new) result (left (after (increased variables.old name.now amount.now) (stores limits.now name.now variables.old))) }
-    ensures err { OnErr result (variables.new ≡ variables.old) }
-{
-    let integer = integer_there(variables, name)?;
-    let amount = integer_in(amount)?;
-    store_sum_quietly(alloc, variables, name, integer, amount, limits)?;
-    Ok(())
+impl Making for Increase<'_> {
+    ghost use Rattle.tks_tcl.specs.Making.{amount_text};
+    ghost use Rattle.tks_tcl.specs.Variables.{sum_of};
+
+    ghost makes = { λ it. sum_of (amount_text it.0) };
+
+    fn make(self, alloc: Global, value: &mut ListText, limits: &Limits) -> Result<(), Interrupt> {
+        let integer = integer_in(value.as_text())?;
+        let amount = amount_in(self.0)?;
+        let sum = within(sum(alloc, integer, amount)?, limits)?;
+        *value = ListText::of(sum);
+        Ok(())
+    }
 }
 
 // incr name ?n?
@@ -376,13 +293,11 @@ fn run_incr(
 {
     match words {
         [name] => {
-            let value = increased_by_one(alloc, variables, name)?;
-            let value = store(variables, name, value, limits)?;
+            let value = make(alloc, variables, name, Increase(None), b"0", limits)?;
             Ok(value)
         }
         [name, amount] => {
-            let value = increased(alloc, variables, name, amount)?;
-            let value = store(variables, name, value, limits)?;
+            let value = make(alloc, variables, name, Increase(Some(amount)), b"0", limits)?;
             Ok(value)
         }
         _ => Err(wrong_words(command)),
@@ -402,8 +317,8 @@ fn run_append(
     ensures err { OnErr result (variables.new ≡ variables.old) }
 {
     match words {
-        [name, values @ ..] if !values.is_empty() => {
-            let value = add_texts(alloc, variables, name, values, limits)?;
+        [name, texts @ ..] if !texts.is_empty() => {
+            let value = make(alloc, variables, name, MoreTexts(texts), b"", limits)?;
             Ok(value)
         }
         _ => Err(wrong_words(command)),
@@ -423,8 +338,8 @@ fn run_lappend(
     ensures err { OnErr result (variables.new ≡ variables.old) }
 {
     match words {
-        [name, values @ ..] if !values.is_empty() => {
-            let value = add_elements(alloc, variables, name, values, limits)?;
+        [name, elements @ ..] if !elements.is_empty() => {
+            let value = make(alloc, variables, name, MoreElements(elements), b"", limits)?;
             Ok(value)
         }
         _ => Err(wrong_words(command)),

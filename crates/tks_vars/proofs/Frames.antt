@@ -1,19 +1,17 @@
 -- Changes of the innermost frame, which the code keeps last.
 use Rattle.std.proofs.Common.{◌≡◌, ℕ, ◌+◌, ◌-◌, ◌<◌, false, if◌then◌else◌, List, [], ◌∷◌, ◌++◌, length, drop, get_or, Option, Some, None, Result, Ok, Err, refl, sym, subst, ap, ◌∙◌, arith}
 use Rattle.std.specs.Prelude.{reverse, slice_set}
-use Rattle.std.proofs.lemmas.List.{reverse-append}
+use Rattle.std.proofs.lemmas.List.{reverse-append, set-get_or}
 use Rattle.std.specs.FinMap as map
 use Rattle.tks_text.specs.declared.fault.ErrorNumber.{ErrorNumber}
 use Rattle.tks_vars.specs.Table.{Map}
 use Rattle.tks_vars.specs.Names.{Name, named}
-use Rattle.tks_vars.specs.Variables.{Variables, Frame, about, after, updated, taken, on_name, is_link, is_global, innermost, seen_through, with_value, without_at, with_link, with_global_link, content_of, with_content, left_with}
-use Rattle.tks_vars.specs.Parts.{own, local_left, put_local, take_local}
-use Rattle.tks_vars.specs.Growth.{with_more, lengthened, lengthen_local}
+use Rattle.tks_vars.specs.Variables.{Variables, Frame, about, after, taken, on_name, is_link, is_global, innermost, changed, seen_through, without_at, with_link, with_global_link, content_of, with_content, left_with}
+use Rattle.tks_vars.specs.Parts.{own, local_left, take_local}
 use Rattle.tks_vars.specs.declared.content.Content.{Content}
 use Rattle.tks_vars.specs.declared.content.Local.{Local}
 use Rattle.tks_vars.specs.declared.content.Local.TheVariants.{Own, Link}
 use Rattle.tks_vars.specs.declared.procedure.Procedure.{Procedure}
-use Rattle.tks_vars.proofs.Growing.{by_content}
 
 module _ {A : Type 0} where
   last_first : (x : A) (xs : List A) (d : A) → reverse (x ∷ xs) ≡ get_or (x ∷ xs) (length xs) d ∷ drop 1 (reverse (x ∷ xs))
@@ -37,6 +35,26 @@ module _ {A : Type 0} where
   pub innermost_set : (xs : List A) (k : ℕ) (y : A) → k + 1 ≡ length xs → reverse (slice_set xs k y) ≡ y ∷ drop 1 (reverse xs)
   innermost_set [] k y e = absurd (omega arith)
   innermost_set (x ∷ xs) k y e = let same : length xs ≡ k = omega arith in subst (λ i. reverse (slice_set (x ∷ xs) i y) ≡ y ∷ drop 1 (reverse (x ∷ xs))) same (last_set x xs y)
+
+module _ (frames : List (Option Frame)) (there : Option Frame) (frame new : Frame) (some : 0 < length frames) (found : get_or frames (length frames - 1) there ≡ Some frame) where
+  last : (length frames - 1) + 1 ≡ length frames
+  last = omega (arith, some)
+
+  last_first_of : reverse frames ≡ Some frame ∷ drop 1 (reverse frames)
+  last_first_of = innermost_first frames (length frames - 1) there last ∙ ap (λ f. f ∷ drop 1 (reverse frames)) found
+
+  -- the last of these frames is the innermost one
+  pub last_present : innermost (reverse frames) ≡ Some frame
+  last_present = ap innermost last_first_of
+
+  pub last_changed : (change : Frame → Frame) → new ≡ change frame → reverse (slice_set frames (length frames - 1) (Some new)) ≡ changed change (reverse frames)
+  last_changed change is =
+      innermost_set frames (length frames - 1) (Some new) last
+      ∙ ap (λ f. Some f ∷ drop 1 (reverse frames)) is
+      ∙ sym (ap (changed change) last_first_of)
+
+  pub last_kept : new ≡ frame → slice_set frames (length frames - 1) (Some new) ≡ frames
+  last_kept same = ap (λ f. slice_set frames (length frames - 1) f) (ap Some same ∙ sym found) ∙ set-get_or frames (length frames - 1) there
 
 -- where a name is no global's there is a frame
 some_frame : (frames : List (Option Frame)) (variable : List ℕ) → is_global (innermost (reverse frames)) variable ≡ false → 0 < length frames
@@ -87,40 +105,17 @@ module _ (globals : Map Content) (procedures : Map Procedure) (below : List (Opt
     leaves_own None = ap (λ b. if b then record (holding frame) { globals = map.remove globals name.variable } else holding (map.remove frame name.variable)) no_link
     leaves_own (Some c) = puts_own c
 
-    local_put : (value : List ℕ) → after (updated (content_of (holding frame) name.variable) name.index value) (with_content (holding frame) name.variable) ≡ after (put_local frame name value) holding
-    local_put value =
-        ap (λ (o : Option Content). after (updated o name.index value) (with_content (holding frame) name.variable)) reads_own
-        ∙ after_same (updated (own (map.get frame name.variable)) name.index value) _ _ puts_own
-        ∙ sym (after_both (updated (own (map.get frame name.variable)) name.index value) (λ c. map.insert frame name.variable (Own c)) holding)
-
     local_taken : after (taken (content_of (holding frame) name.variable) name.index) (left_with (holding frame) name.variable) ≡ after (take_local frame name) holding
     local_taken =
         ap (λ (o : Option Content). after (taken o name.index) (left_with (holding frame) name.variable)) reads_own
         ∙ after_same (taken (own (map.get frame name.variable)) name.index) _ _ leaves_own
         ∙ sym (after_both (taken (own (map.get frame name.variable)) name.index) (local_left frame name.variable) holding)
 
-    local_lengthened : (more : List ℕ) → after (lengthened (content_of (holding frame) name.variable) name.index more) (with_content (holding frame) name.variable) ≡ after (lengthen_local frame name more) holding
-    local_lengthened more =
-        ap (λ (o : Option Content). after (lengthened o name.index more) (with_content (holding frame) name.variable)) reads_own
-        ∙ after_same (lengthened (own (map.get frame name.variable)) name.index more) _ _ puts_own
-        ∙ sym (after_both (lengthened (own (map.get frame name.variable)) name.index more) (λ c. map.insert frame name.variable (Own c)) holding)
-
   module _ (now : Variables) (frame : Frame) (held : now ≡ holding frame) (text : List ℕ) where
     no_link_in : (name : Name) → is_global (innermost now.locals) name.variable ≡ false → is_link (map.get frame name.variable) ≡ false
     no_link_in name local = ap (λ (v : Variables). is_global (innermost v.locals) name.variable) (sym held) ∙ local
 
-    -- a change of a procedure's own variable is one of the innermost frame
-    pub sets : (name : Name) (value : List ℕ) → named text ≡ Some name → is_global (innermost now.locals) name.variable ≡ false → with_value now text value ≡ about text (after (put_local frame name value) holding)
-    sets name value is local =
-        ap (λ v. with_value v text value) held
-        ∙ ap (λ (n : Option Name). about text (on_name n (λ name. after (updated (content_of (holding frame) name.variable) name.index value) (with_content (holding frame) name.variable)))) is
-        ∙ ap (about text) (local_put frame name (no_link_in name local) value)
-
-    -- and so is a text behind its value
-    pub lengthens : (name : Name) (more : List ℕ) → named text ≡ Some name → is_global (innermost now.locals) name.variable ≡ false → with_more now text more ≡ about text (after (lengthen_local frame name more) holding)
-    lengthens name more is local =
-        ap (λ v. with_more v text more) held ∙ by_content (holding frame) text more name is ∙ ap (about text) (local_lengthened frame name (no_link_in name local) more)
-
+    -- to take a procedure's own variable out is a change of the innermost frame
     pub takes : (name : Name) → named text ≡ Some name → is_global (innermost now.locals) name.variable ≡ false → without_at now text ≡ after (take_local frame name) holding
     takes name is local =
         ap (λ v. without_at v text) held

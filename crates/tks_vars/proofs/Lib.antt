@@ -7,7 +7,7 @@ pub mod Scripting
 pub mod Linking
 pub mod Spelled
 pub mod Framing
-pub mod Growing
+pub mod Standing
 pub mod Firsts
 pub mod Calling
 pub mod Linked

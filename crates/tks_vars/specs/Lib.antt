@@ -5,7 +5,6 @@ pub mod Laws
 pub mod Parts
 pub mod View
 pub mod Meets
-pub mod Growth
-pub mod Setting
+pub mod Changing
 pub mod Few
 pub mod Links

@@ -20,10 +20,6 @@ own (Some Link) = None
 abbrev pub put_global : Map Content → Name → List ℕ → Result (Map Content) ErrorNumber
 put_global globals name value = after (updated (map.get globals name.variable) name.index value) (map.insert globals name.variable)
 
--- the same of a procedure's frame, where the name is no link
-abbrev pub put_local : Frame → Name → List ℕ → Result Frame ErrorNumber
-put_local frame name value = after (updated (own (map.get frame name.variable)) name.index value) (λ content. map.insert frame name.variable (Own content))
-
 abbrev pub global_left : Map Content → List ℕ → Option Content → Map Content
 global_left globals variable None = map.remove globals variable
 global_left globals variable (Some content) = map.insert globals variable content

@@ -1,18 +1,16 @@
 //! What stands under the name of a variable.
 ghost use Rattle.std.specs.Prelude.{◌≡◌, IfOk, OnErr, None, Some, Ok};
 ghost use Rattle.tks_text.specs.Fault.{Gives};
-ghost use Rattle.tks_vars.specs.Growth.{lengthened};
+ghost use Rattle.tks_vars.specs.Changing.{ChangesInside};
 ghost use Rattle.tks_vars.specs.Meets.{AnswersSo, index_seen};
 ghost use Rattle.tks_vars.specs.Names.{IsIndex};
 ghost use Rattle.tks_vars.specs.Table.{IsName};
 ghost use Rattle.tks_vars.specs.Variables.{about, value_in, updated, taken, is_there, grown_inside};
 
-use crate::growth::lengthen_element;
-use crate::reading::keep_element;
 use crate::table::Table;
 use std::alloc::{AllocError, Global};
-use tks_list::{ListText, Suffix};
-use tks_share::{Copied, Share};
+use tks_list::ListText;
+use tks_share::{Change, Copied, Share};
 use tks_text::{ErrorNumber, Failure, Txt};
 
 /// What stands under the name of a variable.
@@ -90,32 +88,22 @@ impl Content {
         }
     }
 
-    /// Puts a text behind the value of the whole variable, or of an element. The error tells the name.
-    pub fn append(&mut self, name: &Txt, index: Option<&[u8]>, more: &Suffix) -> Result<(), Failure>
-        ensures value { Gives (λ _. self.new) result (about name.now (lengthened (Some self.old) (index_seen index.entry) more.now)) }
-        ensures err { OnErr result (self.new ≡ self.old) }
+    /// Changes the value of the whole variable, or of an element, where it stands, if it is there. The error tells the name.
+    pub fn change<C: Change<ListText>>(
+        &mut self,
+        name: &Txt,
+        index: Option<&[u8]>,
+        change: &mut C,
+    ) -> Result<Option<C::Answer>, Failure>
+        ensures { ChangesInside (C.gives change.old) name.now (index_seen index.entry) self.old self.new result }
     {
         match (self, index) {
-            (Content::Scalar(value), None) => {
-                value.append(more)?;
-                Ok(())
-            }
+            (Content::Scalar(value), None) => Ok(Some(change.change(value))),
             (Content::Array(elements), Some(index)) => {
-                lengthen_element(elements, name, index, more)?;
-                Ok(())
+                let answer = elements.change(index, change)?;
+                Ok(answer)
             }
             _ => Err(Failure::about(ErrorNumber::WrongKindOfVariable, name)),
-        }
-    }
-
-    /// Has the value of the whole variable, or of an element, keep the list that it splits into, where memory serves.
-    pub fn keep_list(&mut self, alloc: Global, index: Option<&[u8]>)
-        ensures { self.new ≡ self.old }
-    {
-        match (self, index) {
-            (Content::Scalar(value), None) => value.keep_list(alloc),
-            (Content::Array(elements), Some(index)) => keep_element(alloc, elements, index),
-            _ => {}
         }
     }
 

@@ -2,16 +2,14 @@
 #![tactic(auto)]
 
 mod call;
+mod changing;
 mod content;
 mod few;
 mod frame;
-mod growth;
 mod laws;
 mod links;
 mod name;
 mod procedure;
-mod reading;
-mod setting;
 mod table;
 mod vars;
 mod writing;

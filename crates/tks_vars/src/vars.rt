@@ -2,26 +2,26 @@
 ghost use Rattle.std.specs.Prelude.{◌≡◌, length, reverse, true, false, Some, IfOk, IfSome, OnOk, OnErr, IsOk, option_copied};
 ghost use Rattle.std.specs.FinMap as map;
 ghost use Rattle.tks_text.specs.Fault.{Gives};
-ghost use Rattle.tks_list.specs.Growing.{TakesElements};
 ghost use Rattle.tks_list.specs.Reading.{list_of};
-ghost use Rattle.tks_vars.specs.Growth.{with_more};
+ghost use Rattle.tks_vars.specs.Changing.{ReachesSo, LeadsSo, ChangesSo};
 ghost use Rattle.tks_vars.specs.Links.{AreLinked};
-ghost use Rattle.tks_vars.specs.Meets.{AnswersSo, IsValue};
-ghost use Rattle.tks_vars.specs.Variables.{no_variables, at_global_level, innermost, content_of, is_global, value_at, value_of, with_value, global_value_at, global_value_of, with_global_value, without, exists, with_global_link, pushed, pushed_global, frame_of, pushed_with, frame_size, popped, with_procedure, size_in, grown_by_value, grown_by_global_value, grown_by_link};
+ghost use Rattle.tks_vars.specs.Meets.{AnswersSo, IsValue, index_seen};
+ghost use Rattle.tks_vars.specs.Table.{IsName};
+ghost use Rattle.tks_vars.specs.declared.content.Local.TheVariants.{Own};
+ghost use Rattle.tks_vars.specs.Variables.{no_variables, at_global_level, innermost, content_of, is_global, value_at, value_of, with_value, changed, global_value_at, global_value_of, with_global_value, without, exists, with_global_link, pushed, pushed_global, frame_of, pushed_with, frame_size, popped, with_procedure, grown, grown_by_value, grown_by_global_value, grown_by_link};
 
 use crate::call::{Arguments, frame_of};
+use crate::changing::{KeepList, OwnChange, Reached, Setting, ValueChange};
 use crate::content::{Content, Local};
 use crate::frame::Frame;
-use crate::growth::{lengthen_global, lengthen_local};
-use crate::name::named;
+use crate::name::{Name, named};
 use crate::procedure::Procedure;
-use crate::reading::{keep_global, keep_local};
 use crate::table::Table;
-use crate::writing::{link, take_global, take_local, write_global, write_local};
+use crate::writing::{link, take_global, take_local, write_global};
 use std::alloc::{AllocError, Global};
 use std::marker::Model;
-use tks_list::{Elements, ListText, Suffix};
-use tks_share::{Share, Shared};
+use tks_list::{Elements, ListText};
+use tks_share::{Change, Share, Shared};
 use tks_text::{ErrorNumber, Failure, Txt};
 
 /// The variables of scripts, and the procedures. Calls speak of the present frame: that of the innermost
@@ -56,6 +56,49 @@ impl Model for Vars {
     ghost view = { λ v. record { globals = v.globals; locals = reverse v.locals.items; procedures = v.procedures } };
 }
 
+// Changes a variable of the present frame's own where it stands, if there is one by this name.
+fn change_own<K: Change<Content> + Copy>(
+    frames: &mut [Option<Frame>],
+    variable: &[u8],
+    change: K,
+) -> Result<Reached<K::Answer>, AllocError>
+    ensures reached { IfOk result (ReachesSo (K.gives change) variable.now (reverse frames.old) (reverse frames.new)) }
+    ensures err { OnErr result (frames.new ≡ frames.old) }
+{
+    if frames.is_empty() {
+        return Ok(Reached::Global);
+    }
+    let top = frames.len() - 1;
+    let Some(frame) = &mut frames[top] else {
+        return Ok(Reached::Global);
+    };
+    match frame.change(variable, &mut OwnChange { change })? {
+        None => Ok(Reached::Nowhere),
+        Some(Some(answer)) => Ok(Reached::Changed(answer)),
+        Some(None) => Ok(Reached::Global),
+    }
+}
+
+// Puts a variable of the present frame's own in, where this is a procedure's.
+fn insert_own(
+    frames: &mut [Option<Frame>],
+    variable: &[u8],
+    content: Content,
+) -> Result<(), AllocError>
+    requires { IsName variable.now }
+    ensures ok { OnOk result (reverse frames.new ≡ changed (λ frame. map.insert frame variable.now (Own content)) (reverse frames.old)) }
+    ensures err { OnErr result (frames.new ≡ frames.old) }
+{
+    if frames.is_empty() {
+        return Ok(());
+    }
+    let top = frames.len() - 1;
+    if let Some(frame) = &mut frames[top] {
+        frame.insert(variable, Local::Own(content))?;
+    }
+    Ok(())
+}
+
 // The present frame, or none where that is the globals.
 fn innermost(locals: &[Option<Frame>]) -> Option<&Frame>
     ensures { option_copied result ≡ innermost (reverse locals.now) }
@@ -63,6 +106,16 @@ fn innermost(locals: &[Option<Frame>]) -> Option<&Frame>
     match locals.last() {
         Some(Some(frame)) => Some(frame),
         _ => None,
+    }
+}
+
+// How many members the list has that would grow by giving a global a value: the globals, or the elements of one.
+fn grown_among(globals: &Table<Content>, part: Name<'_>) -> Option<usize>
+    ensures { result ≡ grown (map.get globals.now part.entry.variable.now) (index_seen part.entry.index) (map.len globals.now) }
+{
+    match globals.get(part.variable) {
+        Some(content) => content.grown(part.index),
+        None => Some(globals.len()),
     }
 }
 
@@ -197,68 +250,68 @@ impl Vars {
         }
     }
 
-    /// Whether elements are known to join the list in a variable or an element when they are put behind its value as they
-    /// are spelled.
-    pub fn takes_elements(&self, name: &Txt) -> bool
-        ensures { result ≡ true → IsValue TakesElements (value_of self.now name.now) }
-    {
-        let value = self.value(name.as_bytes());
-        match value {
-            Ok(value) => value.takes_elements(),
-            Err(_) => false,
-        }
-    }
-
-    // The list that is kept beside the value of a variable or an element.
-    fn kept_list(&self, name: &Txt) -> Option<Shared<Elements>>
-        ensures { IfSome result (λ l. IsValue (λ v. list_of v ≡ Some l) (value_of self.now name.now)) }
-    {
-        let value = self.value(name.as_bytes());
-        match value {
-            Ok(value) => value.list(),
-            Err(_) => None,
-        }
-    }
-
-    // Whether the value of a variable or an element is long enough for its list to be worth keeping.
-    fn is_long(&self, name: &Txt) -> bool {
-        let value = self.value(name.as_bytes());
-        match value {
-            Ok(value) => value.is_long(),
-            Err(_) => false,
-        }
-    }
-
-    // Has the value of a variable or an element keep its list.
-    fn keep_list(&mut self, name: &Txt)
-        ensures { self.new ≡ self.old }
-    {
-        let Some(part) = named(name.as_bytes()) else {
-            return;
-        };
-        if self.is_global(part.variable) {
-            keep_global(self.alloc, &mut self.globals, part.variable, part.index);
-            return;
-        }
-        let top = self.locals.len() - 1;
-        let Some(frame) = &mut self.locals[top] else {
-            return;
-        };
-        keep_local(self.alloc, frame, part.variable, part.index);
-    }
-
     /// The list that the value of a variable or an element splits into, which is kept beside it, and read where it wasn't yet.
     /// None where there is no value or it splits into none, where it has fewer than 32 bytes, or where memory is refused.
     pub fn list(&mut self, name: &Txt) -> Option<Shared<Elements>>
         ensures list { IfSome result (λ l. IsValue (λ v. list_of v ≡ Some l) (value_of self.old name.now)) }
         ensures same { self.new ≡ self.old }
     {
-        let kept = self.kept_list(name);
-        if kept.is_some() || !self.is_long(name) {
+        let Ok(value) = self.value(name.as_bytes()) else {
+            return None;
+        };
+        let kept = value.list();
+        if kept.is_some() || !value.is_long() {
             return kept;
         }
-        self.keep_list(name);
-        self.kept_list(name)
+        match self.change(name, KeepList { alloc: self.alloc }) {
+            Ok(Some(list)) => list,
+            _ => None,
+        }
+    }
+
+    // Changes what stands under the name of a variable where it stands. Where nothing does, it is told where it could.
+    fn change_under<K: Change<Content> + Copy>(
+        &mut self,
+        variable: &[u8],
+        change: K,
+    ) -> Result<Reached<K::Answer>, AllocError>
+        ensures reached { IfOk result (LeadsSo (K.gives change) variable.now self.old self.new) }
+        ensures err { OnErr result (self.new ≡ self.old) }
+    {
+        match change_own(&mut self.locals, variable, change)? {
+            Reached::Changed(answer) => Ok(Reached::Changed(answer)),
+            Reached::Nowhere => Ok(Reached::Nowhere),
+            Reached::Global => {
+                let mut change = change;
+                match self.globals.change(variable, &mut change)? {
+                    Some(answer) => Ok(Reached::Changed(answer)),
+                    None => Ok(Reached::Global),
+                }
+            }
+        }
+    }
+
+    /// Changes the value of a variable or an element where it stands. None where there is no such variable or element: then no
+    /// change was asked for. The name is looked up once in the present frame, and once among the globals where it leads there.
+    pub fn change<C: Change<ListText> + Copy>(
+        &mut self,
+        name: &Txt,
+        change: C,
+    ) -> Result<Option<C::Answer>, Failure>
+        ensures { ChangesSo (C.gives change) name.now self.old self.new result }
+    {
+        let Some(part) = named(name.as_bytes()) else {
+            return Err(Failure::about(ErrorNumber::BadName, name));
+        };
+        let change = ValueChange {
+            name,
+            index: part.index,
+            change,
+        };
+        match self.change_under(part.variable, change)? {
+            Reached::Changed(answer) => answer,
+            Reached::Nowhere | Reached::Global => Ok(None),
+        }
     }
 
     /// Gives a variable or an element a value, and makes what is missing of it.
@@ -279,36 +332,24 @@ impl Vars {
         let Some(part) = named(name.as_bytes()) else {
             return Err(Failure::about(ErrorNumber::BadName, name));
         };
-        if self.is_global(part.variable) {
-            write_global(self.alloc, &mut self.globals, name, part, value)?;
-            return Ok(());
+        let setting = Setting {
+            name,
+            index: part.index,
+            value: &value,
+        };
+        match self.change_under(part.variable, setting)? {
+            Reached::Changed(given) => given,
+            Reached::Nowhere => {
+                let content = Content::of(self.alloc, part.index, value)?;
+                insert_own(&mut self.locals, part.variable, content)?;
+                Ok(())
+            }
+            Reached::Global => {
+                let content = Content::of(self.alloc, part.index, value)?;
+                self.globals.insert(part.variable, content)?;
+                Ok(())
+            }
         }
-        let top = self.locals.len() - 1;
-        let Some(frame) = &mut self.locals[top] else {
-            return Ok(());
-        };
-        write_local(self.alloc, frame, name, part, value)?;
-        Ok(())
-    }
-
-    /// Puts a text behind the value of a variable or an element, in time that goes by what is put there.
-    pub fn append(&mut self, name: &Txt, more: &Suffix) -> Result<(), Failure>
-        ensures value { Gives (λ _. self.new) result (with_more self.old name.now more.now) }
-        ensures err { OnErr result (self.new ≡ self.old) }
-    {
-        let Some(part) = named(name.as_bytes()) else {
-            return Err(Failure::about(ErrorNumber::BadName, name));
-        };
-        if self.is_global(part.variable) {
-            lengthen_global(&mut self.globals, name, part, more)?;
-            return Ok(());
-        }
-        let top = self.locals.len() - 1;
-        let Some(frame) = &mut self.locals[top] else {
-            return Ok(());
-        };
-        lengthen_local(frame, name, part, more)?;
-        Ok(())
     }
 
     /// The same as `set`, of the globals, whatever the present frame is.
@@ -448,28 +489,19 @@ impl Vars {
         Ok(())
     }
 
-    // How many variables there are where a name of the present frame would join them.
-    fn size(&self, variable: &[u8]) -> usize
-        ensures { result ≡ size_in self.now.globals (innermost self.now.locals) variable.now }
-    {
-        match innermost(&self.locals) {
-            None => self.globals.len(),
-            Some(frame) => match frame.get(variable) {
-                Some(Local::Link) => self.globals.len(),
-                _ => frame.len(),
-            },
-        }
-    }
-
     /// How many members the list has that would grow by giving a name a value: the variables, where the
     /// name is new, or else the elements of its array. None where no list would.
     pub fn grown_by_value(&self, name: &Txt) -> Option<usize>
         ensures { result ≡ grown_by_value self.now name.now }
     {
         let name = named(name.as_bytes())?;
-        match self.content(name.variable) {
-            Some(content) => content.grown(name.index),
-            None => Some(self.size(name.variable)),
+        let Some(frame) = innermost(&self.locals) else {
+            return grown_among(&self.globals, name);
+        };
+        match frame.get(name.variable) {
+            None => Some(frame.len()),
+            Some(Local::Own(content)) => content.grown(name.index),
+            Some(Local::Link) => grown_among(&self.globals, name),
         }
     }
 
@@ -477,11 +509,7 @@ impl Vars {
     pub fn grown_by_global_value(&self, name: &Txt) -> Option<usize>
         ensures { result ≡ grown_by_global_value self.now name.now }
     {
-        let name = named(name.as_bytes())?;
-        match self.globals.get(name.variable) {
-            Some(content) => content.grown(name.index),
-            None => Some(self.globals.len()),
-        }
+        grown_among(&self.globals, named(name.as_bytes())?)
     }
 
     /// How many variables the present frame has, where a link by this name would join them.

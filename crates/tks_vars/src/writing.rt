@@ -4,14 +4,14 @@ ghost use Rattle.std.specs.FinMap as map;
 ghost use Rattle.tks_text.specs.Fault.{Gives};
 ghost use Rattle.tks_vars.specs.View.{name_seen};
 ghost use Rattle.tks_vars.specs.Variables.{about, is_link, with_link};
-ghost use Rattle.tks_vars.specs.Parts.{put_global, put_local, without_name, take_global, take_local};
+ghost use Rattle.tks_vars.specs.Parts.{put_global, without_name, take_global, take_local};
 ghost use Rattle.tks_vars.specs.Names.{element, IsSpelled};
 ghost use Rattle.tks_vars.specs.Table.{IsName};
 
+use crate::changing::Setting;
 use crate::content::{Content, Local};
 use crate::frame::Frame;
 use crate::name::{Name, named};
-use crate::setting::Setting;
 use crate::table::Table;
 use std::alloc::Global;
 use tks_list::ListText;
@@ -32,41 +32,13 @@ pub fn write_global(
     let mut setting = Setting {
         name,
         index: part.index,
-        value: Some(value),
+        value: &value,
     };
     match globals.change(part.variable, &mut setting)? {
         Some(answer) => answer,
         None => {
-            let content = Content::of(alloc, part.index, setting.into_value())?;
+            let content = Content::of(alloc, part.index, value)?;
             globals.insert(part.variable, content)?;
-            Ok(())
-        }
-    }
-}
-
-/// The same of a procedure's own variable.
-pub fn write_local(
-    alloc: Global,
-    frame: &mut Frame,
-    name: &Txt,
-    part: Name<'_>,
-    value: ListText,
-) -> Result<(), Failure>
-    requires own { is_link (map.get frame.old part.variable.now) ≡ false }
-    requires spelled { IsSpelled (name_seen part) }
-    ensures value { Gives (λ _. frame.new) result (about name.now (put_local frame.old (name_seen part.entry) value)) }
-    ensures err { OnErr result (frame.new ≡ frame.old) }
-{
-    let mut setting = Setting {
-        name,
-        index: part.index,
-        value: Some(value),
-    };
-    match frame.change(part.variable, &mut setting)? {
-        Some(answer) => answer,
-        None => {
-            let content = Content::of(alloc, part.index, setting.into_value())?;
-            frame.insert(part.variable, Local::Own(content))?;
             Ok(())
         }
     }

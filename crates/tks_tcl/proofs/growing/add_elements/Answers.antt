@@ -1,8 +1,0 @@
-use Rattle.std.proofs.lemmas.Result.{err_from_is_err_and}
-use Rattle.tks_tcl.proofs.Added.{list_unmade}
-use Rattle.tks_tcl.proofs.growing.add_elements.Goals as goal
-
-pub returns-in_err-list-clause-value : goal.returns-in_err-list-clause-value
-returns-in_err-list-clause-value c =
-    let p = err_from_is_err_and c.from_residual-in_err-list.result c.from_residual-in_err-list.ensures.1 in
-    rw (p.1, p.2) (list_unmade c.args.limits.now c.args.name.now c.args.variables.now c.args.elements.now c.in_err-list.field-0.0 c.in_err-list.ensures)
