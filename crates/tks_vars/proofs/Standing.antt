@@ -1,6 +1,6 @@
 -- Values that are changed where they stand.
-use Rattle.std.proofs.Common.{◌≡◌, ℕ, true, if◌then◌else◌, List, [], ◌∷◌, Option, Some, None, is_some, option_and_then, Result, Ok, Err, refl, sym, subst, ap, ◌∙◌}
-use Rattle.std.specs.Prelude.{OnErr, IfSome}
+use Rattle.std.proofs.Common.{◌≡◌, ◌<◌, ◌-◌, ℕ, length, get_or, true, if◌then◌else◌, List, [], ◌∷◌, Option, Some, None, is_some, option_and_then, Result, Ok, Err, refl, sym, subst, ap, ◌∙◌}
+use Rattle.std.specs.Prelude.{OnErr, IfSome, reverse, slice_set}
 use mathlib.Core.Logic.{inl, inr}
 use Rattle.std.specs.FinMap as fin
 use Rattle.std.specs.Cmp.Lexicographic.{nat_list_cmp_total}
@@ -16,12 +16,14 @@ use Rattle.tks_vars.specs.Names.{Name, named}
 use Rattle.tks_vars.specs.Variables.{Variables, Frame, about, after, on_name, value_in, element_of, updated, is_link, is_global, innermost, seen_through, content_in, content_of, with_content, value_of, with_value, grown, grown_inside, grown_by_value, size_in}
 use Rattle.tks_vars.specs.Variables as variables
 use Rattle.tks_vars.specs.Changing.{IsRefused, IsChanged, ChangesSo, IsChangedInside, ChangesInside, ChangesOwn, IsChangedUnder, IsChangedHere, ReachesSo, GivenSo}
+use Rattle.tks_vars.specs.declared.changing.Reached.{Reached}
 use Rattle.tks_vars.specs.declared.changing.Reached.TheVariants as reached
 use Rattle.tks_vars.specs.declared.content.Content.{Content}
 use Rattle.tks_vars.specs.declared.content.Content.TheVariants.{Scalar, Array}
 use Rattle.tks_vars.specs.declared.content.Local.{Local}
 use Rattle.tks_vars.specs.declared.content.Local.TheVariants.{Own, Link}
 use Rattle.tks_vars.specs.declared.procedure.Procedure.{Procedure}
+use Rattle.tks_vars.proofs.Frames.{last_present, last_changed, last_kept}
 use Rattle.tks_vars.proofs.Keeping.{same_or_other, put_here, put_elsewhere}
 
 -- what holds of an answer that is there
@@ -94,7 +96,7 @@ module _ {A : Type 0} (gives : Content → Content → A → Type 0) (name : Lis
     own_by answer Link (Own put) puts found given now = absurd given
     own_by answer Link Link puts found given now = absurd given
 
-    pub reached_own : (answer : A) → ((change : Frame → Frame) → new ≡ change old → frames' ≡ variables.changed change frames)
+    reached_own : (answer : A) → ((change : Frame → Frame) → new ≡ change old → frames' ≡ variables.changed change frames)
         → IsChangedIn (ChangesOwn gives) name old new (Some answer) → ReachesSo gives name frames frames' (reached.Changed answer)
     reached_own answer puts c = own_by answer c.before c.after puts c.found c.given c.now
 
@@ -104,13 +106,32 @@ module _ {A : Type 0} (gives : Content → Content → A → Type 0) (name : Lis
     link_by (Own before) (Own put) found given now = absurd given
     link_by (Own before) Link found given now = absurd given
 
-    pub reached_global : (new ≡ old → frames' ≡ frames) → IsChangedIn (ChangesOwn gives) name old new None → ReachesSo gives name frames frames' reached.Global
+    reached_global : (new ≡ old → frames' ≡ frames) → IsChangedIn (ChangesOwn gives) name old new None → ReachesSo gives name frames frames' reached.Global
     reached_global is c =
         let by = link_by c.before c.after c.found c.given c.now in
         (ap (λ f. is_global f name) present ∙ by.0, is by.1)
 
-    pub reached_nowhere : (new ≡ old → frames' ≡ frames) → (new ≡ old) × (fin.get old name ≡ None) → ReachesSo gives name frames frames' reached.Nowhere
+    reached_nowhere : (new ≡ old → frames' ≡ frames) → (new ≡ old) × (fin.get old name ≡ None) → ReachesSo gives name frames frames' reached.Nowhere
     reached_nowhere is c = (record { frame = old; present = present; missing = c.1 }, is c.0)
+
+  -- the same of the last of these frames, in which what was changed was put
+  module _ (frames : List (Option Frame)) (there : Option Frame) (some : 0 < length frames) (found : get_or frames (length frames - 1) there ≡ Some old) (o : Option (Option A)) where
+    abbrev Leads : Reached A → Type 0
+    Leads r = ReachesSo gives name (reverse frames) (reverse (slice_set frames (length frames - 1) (Some new))) r
+
+    pub last_own : (answer : A) → o ≡ Some (Some answer) → IfSome o (IsChangedIn (ChangesOwn gives) name old new) → Leads (reached.Changed answer)
+    last_own answer is changed =
+        reached_own (reverse frames) _ (last_present frames there old new some found) answer (last_changed frames there old new some found)
+        (told (IsChangedIn (ChangesOwn gives) name old new) o (Some answer) is changed)
+
+    pub last_global : o ≡ Some None → IfSome o (IsChangedIn (ChangesOwn gives) name old new) → Leads reached.Global
+    last_global is changed =
+        reached_global (reverse frames) _ (last_present frames there old new some found) (λ same. ap reverse (last_kept frames there old new some found same))
+        (told (IsChangedIn (ChangesOwn gives) name old new) o None is changed)
+
+    pub last_nowhere : (new ≡ old) × (fin.get old name ≡ None) → Leads reached.Nowhere
+    last_nowhere missing =
+        reached_nowhere (reverse frames) _ (last_present frames there old new some found) (λ same. ap reverse (last_kept frames there old new some found same)) missing
 
 -- the name of a variable that isn't there
 module _ (v : Variables) (text : List ℕ) (n : Name) (is : named text ≡ Some n) where
