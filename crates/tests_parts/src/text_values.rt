@@ -2,7 +2,7 @@
 
 use std::alloc::Global;
 use tks_list::backslash_form;
-use tks_text::{Txt, TxtFault, is_text, is_text_byte};
+use tks_text::{TextBuilder, Txt, TxtFault, is_text, is_text_byte};
 
 // A text that grew by its calls.
 fn grown(alloc: Global) -> Option<Txt> {
@@ -34,6 +34,45 @@ fn grows_and_compares(alloc: Global) -> Option<bool> {
 fn texts_grow_and_compare(rt: HostRuntime) {
     assert!(rt; Txt::new(rt.alloc()).is_empty());
     assert_eq!(rt; grows_and_compares(rt.alloc()), Some(true));
+}
+
+// The text that is built of bytes one by one, and of a text behind them.
+fn built(alloc: Global, bytes: &[u8], more: &Txt) -> Option<Txt> {
+    let mut text = TextBuilder::new(alloc);
+    for byte in bytes {
+        if !is_text_byte(*byte) {
+            return None;
+        }
+        text.push_byte(*byte).ok()?;
+    }
+    text.push_bytes(more.as_bytes()).ok()?;
+    if text.len() != bytes.len() + more.as_bytes().len() || text.is_empty() {
+        return None;
+    }
+    text.into_text().ok()
+}
+
+// Whether a text that is built of so many letters and ten digits has both, in their order.
+fn has_what_was_put_in(alloc: Global, count: usize) -> Option<bool> {
+    let letters = b"abcdefghijklmnopqrstuvwxyz".get(..count)?;
+    let text = built(alloc, letters, &Txt::from_bytes(alloc, b"0123456789").ok()?)?;
+    let bytes = text.as_bytes();
+    Some(bytes.get(..count)? == letters && bytes.get(count..)? == b"0123456789".as_slice())
+}
+
+// Up to 24 bytes lie in one place and more in another: in some rows a letter moves them there, in others the digits do.
+#[test]
+fn texts_are_built(rt: HostRuntime) {
+    for count in 0..=26 {
+        assert_eq!(rt;
+            has_what_was_put_in(rt.alloc(), count),
+            Some(true),
+            "{count} letters"
+        );
+    }
+    let none = TextBuilder::new(rt.alloc());
+    assert!(rt; none.is_empty());
+    assert!(rt; none.into_text().is_ok_and(|text| text.is_empty()));
 }
 
 // Whether three calls say that a byte stands in texts.

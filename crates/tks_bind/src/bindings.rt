@@ -30,7 +30,7 @@ use std::alloc::{AllocError, Global};
 use std::marker::Model;
 use tks_event::{Event, Sequence};
 use tks_share::{Items, Share, Shared, SharedList, SharedMap};
-use tks_text::{MAX_NUMBER, Seq, Txt};
+use tks_text::{MAX_NUMBER, Seq, TextBuilder, Txt};
 
 /// The bindings, in the order in which they were made. Copies share what they have in common.
 pub struct Bindings {
@@ -379,14 +379,14 @@ fn appended(alloc: Global, script: Option<&Txt>, more: &[u8]) -> Result<Txt, All
     requires { IsText more.now }
     ensures { IfOk result (λ t. t ≡ appended (option_copied script.entry) more.now) }
 {
-    let more = Txt::from_text(alloc, more)?;
     let Some(script) = script else {
-        return Ok(more);
+        return Txt::from_text(alloc, more);
     };
-    let mut text = script.try_clone()?;
+    let mut text = TextBuilder::new(alloc);
+    text.push_bytes(script.as_bytes())?;
     text.push_byte(b'\n')?;
-    text.append(&more)?;
-    Ok(text)
+    text.push_bytes(more)?;
+    text.into_text()
 }
 
 // How long the script is that is set where this one is there and that one is given.

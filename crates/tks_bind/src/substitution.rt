@@ -10,7 +10,7 @@ use itoa::Buffer;
 use std::alloc::{AllocError, Global};
 use tks_event::{Event, keysym_char};
 use tks_list::backslash_form;
-use tks_text::{Txt, decimal_of};
+use tks_text::{TextBuilder, Txt, decimal_of};
 
 /// A script with each percent form replaced by what it stands for: `%%` by a percent sign, `%A %d %K %W %b %s %t %x %y
 /// %X %Y` by the value of the event's field in backslash form, or by `??` where the event lacks the field. A percent
@@ -38,7 +38,7 @@ pub fn percents_within(
 }
 
 // Whether a text is longer than a bound, if there is one.
-fn is_over(text: &Txt, most: Option<usize>) -> bool
+fn is_over(text: &TextBuilder, most: Option<usize>) -> bool
     ensures { result ≡ is_over most text.now }
 {
     match most {
@@ -68,7 +68,7 @@ fn replaced(
 ) -> Result<Option<Txt>, AllocError>
     ensures { IfOk result (λ t. t ≡ held_to most (percents event.now path.now script.now)) }
 {
-    let mut text = Txt::new(alloc);
+    let mut text = TextBuilder::new(alloc);
     let mut is_behind_percent = false;
     for letter in script.as_bytes() {
         if is_over(&text, most) {
@@ -86,13 +86,13 @@ fn replaced(
     if is_behind_percent {
         text.push_byte(b'%')?;
     }
-    Ok(held(text, most))
+    Ok(held(text.into_text()?, most))
 }
 
 // Adds what a percent sign and a character stand for.
 fn push_formed(
     alloc: Global,
-    text: &mut Txt,
+    text: &mut TextBuilder,
     event: &Event,
     path: &Txt,
     letter: u8,
@@ -117,7 +117,7 @@ fn push_formed(
 // Adds the value of a field in backslash form, or `??` where the event lacks it.
 fn push_value(
     alloc: Global,
-    text: &mut Txt,
+    text: &mut TextBuilder,
     event: &Event,
     path: &Txt,
     field: Field,
@@ -126,7 +126,7 @@ fn push_value(
 {
     if field.is_of(event.kind) {
         let value = field_text(alloc, event, path, field)?;
-        text.append(&backslash_form(alloc, &value)?)?;
+        text.push_bytes(backslash_form(alloc, &value)?.as_bytes())?;
     } else {
         text.push_byte(b'?')?;
         text.push_byte(b'?')?;
@@ -157,11 +157,10 @@ fn char_text(alloc: Global, letter: Option<u8>) -> Result<Txt, AllocError>
     requires { IfSome letter (λ c. is_text_byte c ≡ true) }
     ensures { IfOk result (λ t. t ≡ char_text letter) }
 {
-    let mut text = Txt::new(alloc);
-    if let Some(letter) = letter {
-        text.push_byte(letter)?;
+    match letter {
+        Some(letter) => Txt::from_text(alloc, &[letter]),
+        None => Ok(Txt::new(alloc)),
     }
-    Ok(text)
 }
 
 // A number in decimal.

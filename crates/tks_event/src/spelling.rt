@@ -8,121 +8,100 @@ use crate::kind::Kind;
 use crate::modifiers::{Modifier, Modifiers};
 use crate::pattern::Pattern;
 use std::alloc::{AllocError, Global};
-use tks_text::Txt;
-
-// Adds a word that is known to be a text.
-fn push_word(alloc: Global, text: &mut Txt, word: &[u8]) -> Result<(), AllocError>
-    requires { IsText word.now }
-    ensures { OnOk result (text.new ≡ text.old ++ word.now) }
-{
-    let word = Txt::from_text(alloc, word)?;
-    text.append(&word)?;
-    Ok(())
-}
+use tks_text::{TextBuilder, Txt};
 
 // Adds a word and a dash.
-fn push_dashed(alloc: Global, text: &mut Txt, word: &[u8]) -> Result<(), AllocError>
+fn push_dashed(text: &mut TextBuilder, word: &[u8]) -> Result<(), AllocError>
     requires { IsText word.now }
     ensures { OnOk result (text.new ≡ text.old ++ dashed word.now) }
 {
-    push_word(alloc, text, word)?;
+    text.push_bytes(word)?;
     text.push_byte(b'-')?;
     Ok(())
 }
 
 // Adds the repeat word of a pattern that comes so often.
-fn push_repeat(alloc: Global, text: &mut Txt, times: usize) -> Result<(), AllocError>
+fn push_repeat(text: &mut TextBuilder, times: usize) -> Result<(), AllocError>
     ensures { OnOk result (text.new ≡ text.old ++ repeat_text times) }
 {
     if times == 2 {
-        push_dashed(alloc, text, b"Double")?;
+        push_dashed(text, b"Double")?;
     } else if times == 3 {
-        push_dashed(alloc, text, b"Triple")?;
+        push_dashed(text, b"Triple")?;
     } else if times == 4 {
-        push_dashed(alloc, text, b"Quadruple")?;
+        push_dashed(text, b"Quadruple")?;
     }
     Ok(())
 }
 
 // Adds a modifier, where it is in the set.
 fn push_modifier(
-    alloc: Global,
-    text: &mut Txt,
+    text: &mut TextBuilder,
     set: Modifiers,
     modifier: Modifier,
 ) -> Result<(), AllocError>
     ensures { OnOk result (text.new ≡ text.old ++ (if has set modifier then dashed (modifier_name modifier) else [])) }
 {
     if set.has(modifier) {
-        push_dashed(alloc, text, modifier.name())?;
+        push_dashed(text, modifier.name())?;
     }
     Ok(())
 }
 
 // Adds the modifiers of a set, by rising bit.
-fn push_modifiers(alloc: Global, text: &mut Txt, set: Modifiers) -> Result<(), AllocError>
+fn push_modifiers(text: &mut TextBuilder, set: Modifiers) -> Result<(), AllocError>
     ensures { OnOk result (text.new ≡ text.old ++ modifiers_text set all_modifiers) }
 {
     for modifier in &Modifier::ALL {
-        push_modifier(alloc, text, set, *modifier)?;
+        push_modifier(text, set, *modifier)?;
     }
     Ok(())
 }
 
 // Adds a detail and a dash before it, where there is one.
-fn push_detail(text: &mut Txt, detail: &Txt) -> Result<(), AllocError>
+fn push_detail(text: &mut TextBuilder, detail: &Txt) -> Result<(), AllocError>
     ensures { OnOk result (text.new ≡ text.old ++ detail_text detail.now) }
 {
     if !detail.is_empty() {
         text.push_byte(b'-')?;
-        text.append(detail)?;
+        text.push_bytes(detail.as_bytes())?;
     }
     Ok(())
 }
 
 // Adds a pattern of physical events that comes so often.
-fn push_physical(
-    alloc: Global,
-    text: &mut Txt,
-    pattern: &Pattern,
-    times: usize,
-) -> Result<(), AllocError>
+fn push_physical(text: &mut TextBuilder, pattern: &Pattern, times: usize) -> Result<(), AllocError>
     ensures { OnOk result (text.new ≡ text.old ++ physical_text pattern.now times) }
 {
     text.push_byte(b'<')?;
-    push_repeat(alloc, text, times)?;
-    push_modifiers(alloc, text, pattern.modifiers)?;
-    push_word(alloc, text, pattern.kind.name())?;
+    push_repeat(text, times)?;
+    push_modifiers(text, pattern.modifiers)?;
+    text.push_bytes(pattern.kind.name())?;
     push_detail(text, &pattern.detail)?;
     text.push_byte(b'>')?;
     Ok(())
 }
 
 // Adds the pattern of a virtual event.
-fn push_virtual(text: &mut Txt, name: &Txt) -> Result<(), AllocError>
+fn push_virtual(text: &mut TextBuilder, name: &Txt) -> Result<(), AllocError>
     ensures { OnOk result (text.new ≡ text.old ++ virtual_text name.now) }
 {
     text.push_byte(b'<')?;
     text.push_byte(b'<')?;
-    text.append(name)?;
+    text.push_bytes(name.as_bytes())?;
     text.push_byte(b'>')?;
     text.push_byte(b'>')?;
     Ok(())
 }
 
 // Adds a pattern that comes so often.
-fn push_pattern(
-    alloc: Global,
-    text: &mut Txt,
-    pattern: &Pattern,
-    times: usize,
-) -> Result<(), AllocError>
+fn push_pattern(text: &mut TextBuilder, pattern: &Pattern, times: usize) -> Result<(), AllocError>
     ensures { OnOk result (text.new ≡ text.old ++ pattern_text pattern.now times) }
 {
     if pattern.kind.is(Kind::Virtual) {
         push_virtual(text, &pattern.detail)?;
     } else {
-        push_physical(alloc, text, pattern, times)?;
+        push_physical(text, pattern, times)?;
     }
     Ok(())
 }
@@ -136,16 +115,11 @@ fn near_count(patterns: &[Pattern]) -> usize
 }
 
 // Adds the first of some patterns, with its repeats, where it isn't near.
-fn push_first(
-    alloc: Global,
-    text: &mut Txt,
-    first: &Pattern,
-    behind: &[Pattern],
-) -> Result<(), AllocError>
+fn push_first(text: &mut TextBuilder, first: &Pattern, behind: &[Pattern]) -> Result<(), AllocError>
     ensures { OnOk result (text.new ≡ text.old ++ (if first.now.near then [] else pattern_text first.now (1 + near_count behind.now))) }
 {
     if !first.near {
-        push_pattern(alloc, text, first, 1 + near_count(behind))?;
+        push_pattern(text, first, 1 + near_count(behind))?;
     }
     Ok(())
 }
@@ -156,11 +130,11 @@ fn push_first(
 pub(crate) fn canonical(alloc: Global, patterns: &[Pattern]) -> Result<Txt, AllocError>
     ensures { IfOk result (λ t. t ≡ canonical patterns.now) }
 {
-    let mut text = Txt::new(alloc);
+    let mut text = TextBuilder::new(alloc);
     let mut rest = patterns;
     'patterns: while let Some((first, behind)) = rest.split_first() {
-        push_first(alloc, &mut text, first, behind)?;
+        push_first(&mut text, first, behind)?;
         rest = behind;
     }
-    Ok(text)
+    text.into_text()
 }

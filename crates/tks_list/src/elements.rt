@@ -9,7 +9,7 @@ use crate::writing::push_quoted;
 use std::alloc::{AllocError, Global};
 use std::marker::Model;
 use tks_share::Copied;
-use tks_text::{Seq, Txt};
+use tks_text::{Seq, TextBuilder, Txt};
 
 /// Where bytes stand in a text: from a place on, and before another.
 #[derive(Clone, Copy)]
@@ -145,17 +145,22 @@ impl Elements {
         requires bound { behind ≤ length self.now }
         ensures { IfOk result (λ t. t ≡ joined (drop front (take behind self.now))) }
     {
-        let mut text = Txt::new(alloc);
         if front == behind {
-            return Ok(text);
+            return Ok(Txt::new(alloc));
         }
+        let mut text = TextBuilder::new(alloc);
         push_quoted(&mut text, self.at(front))?;
         self.push_spaced(&mut text, front + 1, behind)?;
-        Ok(text)
+        text.into_text()
     }
 
     // Adds the elements from an index on and before another, each with a space before it.
-    fn push_spaced(&self, text: &mut Txt, front: usize, behind: usize) -> Result<(), AllocError>
+    fn push_spaced(
+        &self,
+        text: &mut TextBuilder,
+        front: usize,
+        behind: usize,
+    ) -> Result<(), AllocError>
         requires order { front ≤ behind }
         requires bound { behind ≤ length self.now }
         ensures { OnOk result (text.new ≡ text.old ++ spaced (drop front (take behind self.now))) }

@@ -12,7 +12,7 @@ use crate::writing::{join, push_spaced};
 use std::alloc::{AllocError, Global};
 use std::marker::Model;
 use tks_share::{Copied, Shared};
-use tks_text::Txt;
+use tks_text::{TextBuilder, Txt};
 
 /// What is put behind a text: it knows whether it is elements of a list, each with a space before it. Contracts see the text.
 #[derive(Drop)]
@@ -47,10 +47,10 @@ impl Suffix {
     pub fn of_elements(alloc: Global, elements: &[Txt]) -> Result<Suffix, AllocError>
         ensures { IfOk result (λ s. s ≡ spaced elements.now) }
     {
-        let mut text = Txt::new(alloc);
+        let mut text = TextBuilder::new(alloc);
         push_spaced(&mut text, elements)?;
         Ok(Suffix {
-            text,
+            text: text.into_text()?,
             is_elements: true,
         })
     }

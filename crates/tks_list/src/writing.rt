@@ -5,7 +5,7 @@ ghost use Rattle.tks_text.specs.Text.{IsText, is_text_byte};
 ghost use Rattle.tks_list.specs.Quoting.{is_sign, is_special, held_after, balances, stands_bare, stands_in_braces, in_braces, backslashed_char, backslashed_chars, backslashed, quoted, spaced, joined};
 
 use std::alloc::{AllocError, Global};
-use tks_text::{Txt, is_space};
+use tks_text::{TextBuilder, Txt, is_space};
 
 // Whether a byte is one of `" $ ; [ ] \ { }`.
 fn is_sign(c: u8) -> bool
@@ -80,7 +80,7 @@ fn stands_in_braces(element: &[u8]) -> bool
 }
 
 // Adds a character in backslash form.
-fn push_backslashed_char(text: &mut Txt, c: u8) -> Result<(), AllocError>
+fn push_backslashed_char(text: &mut TextBuilder, c: u8) -> Result<(), AllocError>
     requires { is_text_byte c ≡ true }
     ensures { OnOk result (text.new ≡ text.old ++ backslashed_char c) }
 {
@@ -100,7 +100,7 @@ fn push_backslashed_char(text: &mut Txt, c: u8) -> Result<(), AllocError>
 }
 
 // Adds characters in backslash form.
-fn push_backslashed_chars(text: &mut Txt, chars: &[u8]) -> Result<(), AllocError>
+fn push_backslashed_chars(text: &mut TextBuilder, chars: &[u8]) -> Result<(), AllocError>
     requires { IsText chars.now }
     ensures { OnOk result (text.new ≡ text.old ++ backslashed_chars chars.now) }
 {
@@ -111,7 +111,7 @@ fn push_backslashed_chars(text: &mut Txt, chars: &[u8]) -> Result<(), AllocError
 }
 
 // Adds an element in backslash form.
-fn push_backslashed(text: &mut Txt, element: &[u8]) -> Result<(), AllocError>
+fn push_backslashed(text: &mut TextBuilder, element: &[u8]) -> Result<(), AllocError>
     requires { IsText element.now }
     ensures { OnOk result (text.new ≡ text.old ++ backslashed element.now) }
 {
@@ -127,7 +127,7 @@ fn push_backslashed(text: &mut Txt, element: &[u8]) -> Result<(), AllocError>
 }
 
 // Adds an element in braces.
-fn push_in_braces(text: &mut Txt, element: &[u8]) -> Result<(), AllocError>
+fn push_in_braces(text: &mut TextBuilder, element: &[u8]) -> Result<(), AllocError>
     requires { IsText element.now }
     ensures { OnOk result (text.new ≡ text.old ++ in_braces element.now) }
 {
@@ -138,7 +138,7 @@ fn push_in_braces(text: &mut Txt, element: &[u8]) -> Result<(), AllocError>
 }
 
 /// Adds an element, quoted where it has to be.
-pub(crate) fn push_quoted(text: &mut Txt, element: &[u8]) -> Result<(), AllocError>
+pub(crate) fn push_quoted(text: &mut TextBuilder, element: &[u8]) -> Result<(), AllocError>
     requires { IsText element.now }
     ensures { OnOk result (text.new ≡ text.old ++ quoted element.now) }
 {
@@ -152,7 +152,7 @@ pub(crate) fn push_quoted(text: &mut Txt, element: &[u8]) -> Result<(), AllocErr
 }
 
 /// Adds elements, each with a space before it.
-pub(crate) fn push_spaced(text: &mut Txt, list: &[Txt]) -> Result<(), AllocError>
+pub(crate) fn push_spaced(text: &mut TextBuilder, list: &[Txt]) -> Result<(), AllocError>
     ensures { OnOk result (text.new ≡ text.old ++ spaced list.now) }
 {
     for element in list {
@@ -167,9 +167,9 @@ pub(crate) fn push_spaced(text: &mut Txt, list: &[Txt]) -> Result<(), AllocError
 pub fn quote(alloc: Global, element: &Txt) -> Result<Txt, AllocError>
     ensures { IfOk result (λ t. t ≡ quoted element.now) }
 {
-    let mut text = Txt::new(alloc);
+    let mut text = TextBuilder::new(alloc);
     push_quoted(&mut text, element.as_bytes())?;
-    Ok(text)
+    text.into_text()
 }
 
 /// An element in backslash form: a backslash before each space, before each of `" $ ; [ ] \ { }` and
@@ -177,19 +177,19 @@ pub fn quote(alloc: Global, element: &Txt) -> Result<Txt, AllocError>
 pub fn backslash_form(alloc: Global, element: &Txt) -> Result<Txt, AllocError>
     ensures { IfOk result (λ t. t ≡ backslashed element.now) }
 {
-    let mut text = Txt::new(alloc);
+    let mut text = TextBuilder::new(alloc);
     push_backslashed(&mut text, element.as_bytes())?;
-    Ok(text)
+    text.into_text()
 }
 
 /// The text of a list: its elements as `quote` writes them, with single spaces between them.
 pub fn join(alloc: Global, list: &[Txt]) -> Result<Txt, AllocError>
     ensures { IfOk result (λ t. t ≡ joined list.now) }
 {
-    let mut text = Txt::new(alloc);
+    let mut text = TextBuilder::new(alloc);
     if let [first, rest @ ..] = list {
         push_quoted(&mut text, first.as_bytes())?;
         push_spaced(&mut text, rest)?;
     }
-    Ok(text)
+    text.into_text()
 }

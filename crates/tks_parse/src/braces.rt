@@ -8,7 +8,7 @@ ghost use Rattle.tks_parse.specs.Reading.{braced_at};
 use crate::syntax::Syntax;
 use crate::tree::{Part, Parts};
 use std::alloc::{AllocError, Global};
-use tks_text::{ErrorNumber, Failure, Txt, blank_len};
+use tks_text::{ErrorNumber, Failure, TextBuilder, Txt, blank_len};
 
 // Whether a character is a backslash that quotes what follows.
 fn quotes(quoted: bool, c: u8) -> bool
@@ -108,7 +108,7 @@ fn next_verbatim(text: &[u8]) -> Option<(Verbatim, usize)>
 
 impl Verbatim {
     // Adds it to a text.
-    fn add_to(self, text: &mut Txt) -> Result<(), AllocError>
+    fn add_to(self, text: &mut TextBuilder) -> Result<(), AllocError>
         requires { IsTextVerbatim self }
         ensures { OnOk result (text.new ≡ text.old ++ text_of_verbatim self) }
     {
@@ -128,13 +128,13 @@ pub fn braced_value(alloc: Global, text: &[u8]) -> Result<Txt, AllocError>
     requires { IsText text.now }
     ensures { IfOk result (λ value. value ≡ verbatim text.now) }
 {
-    let mut value = Txt::new(alloc);
+    let mut value = TextBuilder::new(alloc);
     let mut rest = text;
     'verbatim: while let Some((next, more)) = next_verbatim(rest) {
         next.add_to(&mut value)?;
         rest = rest.split_at(1 + more).1;
     }
-    Ok(value)
+    value.into_text()
 }
 
 /// What stands behind an opening brace, up to the one that closes it, and how many bytes it takes with that.

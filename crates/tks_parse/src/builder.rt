@@ -5,7 +5,8 @@ ghost use Rattle.tks_parse.specs.Gives.{IsTextPiece, parts_of_piece};
 use crate::tree::{Part, Parts};
 use std::alloc::{AllocError, Global};
 use std::marker::Model;
-use tks_text::Txt;
+use std::mem;
+use tks_text::{TextBuilder, Txt};
 
 /// What stands at the front of a word.
 #[derive(Drop)]
@@ -23,11 +24,7 @@ impl Piece {
         ensures { IfOk result (λ parts. parts ≡ parts_of_piece self) }
     {
         let part = match self {
-            Piece::Char(c) => {
-                let mut text = Txt::new(alloc);
-                text.push_byte(c)?;
-                Part::Text(text)
-            }
+            Piece::Char(c) => Part::Text(Txt::from_text(alloc, &[c])?),
             Piece::Whole(part) => part,
         };
         let mut parts = Vec::new(alloc);
@@ -41,7 +38,7 @@ impl Piece {
 pub struct Builder {
     alloc: Global,
     parts: Vec<Part>,
-    text: Txt,
+    text: TextBuilder,
 }
 
 impl Model for Builder {
@@ -69,7 +66,7 @@ impl Builder {
         Builder {
             alloc,
             parts: Vec::new(alloc),
-            text: Txt::new(alloc),
+            text: TextBuilder::new(alloc),
         }
     }
 
@@ -94,36 +91,35 @@ impl Builder {
             text,
         } = self;
         if !text.is_empty() {
-            parts.push(Part::Text(text))?;
+            parts.push(Part::Text(text.into_text()?))?;
         }
         Ok(parts)
     }
 
     // Adds a part.
     #[tactic(auto, using(crate::proofs::Building::built_part))]
-    fn push(self, part: Part) -> Result<Builder, AllocError>
-        ensures { IfOk result (λ b. b ≡ join_parts self (parts_of (part ∷ []))) }
+    fn push(&mut self, part: Part) -> Result<(), AllocError>
+        ensures { OnOk result (self.new ≡ join_parts self.old (parts_of (part ∷ []))) }
     {
         let alloc = self.alloc;
-        let mut parts = self.into_parts()?;
+        let before = mem::replace(self, Builder::new(alloc));
+        let mut parts = before.into_parts()?;
         parts.push(part)?;
-        Ok(Builder {
+        *self = Builder {
             alloc,
             parts,
-            text: Txt::new(alloc),
-        })
+            text: TextBuilder::new(alloc),
+        };
+        Ok(())
     }
 
     /// Adds what stands at the front of a word.
-    pub fn add(mut self, piece: Piece) -> Result<Builder, AllocError>
+    pub fn add(&mut self, piece: Piece) -> Result<(), AllocError>
         requires { IsTextPiece piece }
-        ensures { IfOk result (λ b. b ≡ join_parts self (parts_of_piece piece)) }
+        ensures { OnOk result (self.new ≡ join_parts self.old (parts_of_piece piece)) }
     {
         match piece {
-            Piece::Char(c) => {
-                self.push_char(c)?;
-                Ok(self)
-            }
+            Piece::Char(c) => self.push_char(c),
             Piece::Whole(part) => self.push(part),
         }
     }

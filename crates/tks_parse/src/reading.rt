@@ -198,7 +198,7 @@ fn read_parts(alloc: Global, text: &[u8], mode: Mode, depth: u32) -> Result<(Par
     let mut taken = 0;
     let mut rest = text;
     'pieces: while let Some((piece, more)) = read_piece(alloc, rest, mode, depth)? {
-        builder = builder.add(piece)?;
+        builder.add(piece)?;
         taken += 1 + more;
         rest = rest.split_at(1 + more).1;
     }

@@ -1,7 +1,9 @@
 //! Bytes that several hold.
 ghost use Rattle.std.specs.Prelude.{◌≡◌, ◌++◌, [], ◌∷◌, length, IfOk, OnOk, OnErr};
 ghost use Rattle.tks_text.specs.Bytes.{bytes_in};
+ghost use Rattle.tks_text.specs.Short.{IsShort};
 
+use crate::list::MAX_LEN;
 use arrayvec::ArrayVec;
 use std::alloc::{AllocError, Global};
 use std::marker::Model;
@@ -17,36 +19,54 @@ enum Place {
     Many(Vec<u8>),
 }
 
-/// Bytes in one place.
+/// Fewer than 2^32 bytes in one place. What would be more is refused as memory is.
 #[derive(Debug, Drop)]
-struct Held {
+pub(crate) struct Held {
     place: Place,
 }
 
 impl Model for Held {
     ghost use Rattle.std.specs.Prelude.{List, ℕ};
     ghost use Rattle.tks_text.specs.Bytes.{bytes_in};
+    ghost use Rattle.tks_text.specs.Short.{IsShort};
 
     ghost Value = { List ℕ };
 
     ghost view = { λ h. bytes_in h.place };
-}
 
-// A few bytes, or all of them where they aren't few.
-fn placed(alloc: Global, bytes: &[u8]) -> Result<Place, AllocError>
-    ensures { IfOk result (λ place. bytes_in place ≡ bytes.now) }
-{
-    let mut few = ArrayVec::new();
-    match few.try_extend_from_slice(bytes) {
-        Ok(()) => Ok(Place::Few(few)),
-        Err(_) => Ok(Place::Many(Vec::from_slice(alloc, bytes)?)),
-    }
+    ghost invariant = { λ h. IsShort (bytes_in h.place) };
 }
 
 impl Held {
-    // The bytes.
-    fn as_slice(&self) -> &[u8]
-        ensures { result.now ≡ self.now }
+    /// No bytes.
+    pub(crate) fn new() -> Held
+        ensures { result ≡ [] }
+    {
+        Held {
+            place: Place::Few(ArrayVec::new()),
+        }
+    }
+
+    // These bytes.
+    fn of(alloc: Global, bytes: &[u8]) -> Result<Held, AllocError>
+        ensures value { IfOk result (λ held. held ≡ bytes.now) }
+        ensures short { OnOk result (IsShort bytes.now) }
+    {
+        if bytes.len() > MAX_LEN {
+            return Err(AllocError);
+        }
+        let mut few = ArrayVec::new();
+        let place = match few.try_extend_from_slice(bytes) {
+            Ok(()) => Place::Few(few),
+            Err(_) => Place::Many(Vec::from_slice(alloc, bytes)?),
+        };
+        Ok(Held { place })
+    }
+
+    /// The bytes.
+    pub(crate) fn as_slice(&self) -> &[u8]
+        ensures value { result.now ≡ self.now }
+        ensures short { IsShort self.now }
     {
         match &self.place {
             Place::Few(few) => few.as_slice(),
@@ -54,50 +74,68 @@ impl Held {
         }
     }
 
-    // Adds bytes at the end.
-    fn append(&mut self, alloc: Global, more: &[u8]) -> Result<(), AllocError>
+    /// Adds bytes at the end.
+    pub(crate) fn append(&mut self, alloc: Global, more: &[u8]) -> Result<(), AllocError>
         ensures ok { OnOk result (self.new ≡ self.old ++ more.now) }
-        ensures err { OnErr result (self.new ≡ self.old) }
-    {
-        match &mut self.place {
-            Place::Many(many) => many.extend_from_slice(more),
-            Place::Few(few) => match few.try_extend_from_slice(more) {
-                Ok(()) => Ok(()),
-                Err(_) => {
-                    self.place = Place::Many(joined(alloc, few.as_slice(), more)?);
-                    Ok(())
-                }
-            },
-        }
-    }
-
-    // Adds a byte at the end.
-    fn push(&mut self, alloc: Global, byte: u8) -> Result<(), AllocError>
-        ensures ok { OnOk result (self.new ≡ self.old ++ byte ∷ []) }
+        ensures short { OnOk result (IsShort self.new) }
         ensures err { OnErr result (self.new ≡ self.old) }
     {
         match &mut self.place {
             Place::Many(many) => {
+                if more.len() > MAX_LEN - many.len() {
+                    return Err(AllocError);
+                }
+                many.extend_from_slice(more)
+            }
+            Place::Few(few) => match few.try_extend_from_slice(more) {
+                Ok(()) => Ok(()),
+                Err(_) => self.move_and_append(alloc, more),
+            },
+        }
+    }
+
+    /// Adds a byte at the end.
+    pub(crate) fn push(&mut self, alloc: Global, byte: u8) -> Result<(), AllocError>
+        ensures ok { OnOk result (self.new ≡ self.old ++ byte ∷ []) }
+        ensures short { OnOk result (IsShort self.new) }
+        ensures err { OnErr result (self.new ≡ self.old) }
+    {
+        match &mut self.place {
+            Place::Many(many) => {
+                if many.len() >= MAX_LEN {
+                    return Err(AllocError);
+                }
                 many.push(byte)?;
                 Ok(())
             }
             Place::Few(few) => match few.try_push(byte) {
                 Ok(()) => Ok(()),
-                Err(_) => {
-                    self.place = Place::Many(joined(alloc, few.as_slice(), &[byte])?);
-                    Ok(())
-                }
+                Err(_) => self.move_and_append(alloc, &[byte]),
             },
         }
+    }
+
+    // Moves the bytes into a vector and adds more at the end.
+    fn move_and_append(&mut self, alloc: Global, more: &[u8]) -> Result<(), AllocError>
+        ensures ok { OnOk result (self.new ≡ self.old ++ more.now) }
+        ensures short { OnOk result (IsShort self.new) }
+        ensures err { OnErr result (self.new ≡ self.old) }
+    {
+        self.place = Place::Many(joined(alloc, self.as_slice(), more)?);
+        Ok(())
     }
 }
 
 // Bytes and more behind them, with room for as many again.
 fn joined(alloc: Global, bytes: &[u8], more: &[u8]) -> Result<Vec<u8>, AllocError>
-    ensures { IfOk result (λ all. all.items ≡ bytes.now ++ more.now) }
+    requires { IsShort bytes.now }
+    ensures value { IfOk result (λ all. all.items ≡ bytes.now ++ more.now) }
+    ensures short { IfOk result (λ all. IsShort all.items) }
 {
-    let count = bytes.len().saturating_add(more.len());
-    let mut all = Vec::with_capacity(alloc, count.saturating_mul(2))?;
+    if more.len() > MAX_LEN - bytes.len() {
+        return Err(AllocError);
+    }
+    let mut all = Vec::with_capacity(alloc, 2 * (bytes.len() + more.len()))?;
     all.extend_from_slice(bytes)?;
     all.extend_from_slice(more)?;
     Ok(all)
@@ -123,7 +161,8 @@ impl Clone for Held {
     }
 }
 
-/// Bytes that several may hold. A change copies them first where others hold them too. Contracts see them as a list.
+/// Fewer than 2^32 bytes that several may hold. A change copies them first where others hold them too. Contracts see them
+/// as a list.
 #[derive(Debug)]
 pub(crate) struct Bytes {
     alloc: Global,
@@ -147,17 +186,6 @@ impl Model for Bytes {
     ghost view = { λ b. bytes_held b.held };
 }
 
-// Bytes in a place of their own.
-fn hold(alloc: Global, bytes: &[u8]) -> Result<Rc<Held>, AllocError>
-    ensures { IfOk result (λ held. held.value ≡ bytes.now) }
-{
-    let place = placed(alloc, bytes)?;
-    match Rc::new(alloc, Held { place }) {
-        Ok(held) => Ok(held),
-        Err(_) => Err(AllocError),
-    }
-}
-
 impl Bytes {
     /// No bytes.
     pub(crate) fn new(alloc: Global) -> Bytes
@@ -168,15 +196,26 @@ impl Bytes {
 
     /// These bytes.
     pub(crate) fn of(alloc: Global, bytes: &[u8]) -> Result<Bytes, AllocError>
-        ensures { IfOk result (λ b. b ≡ bytes.now) }
+        ensures value { IfOk result (λ b. b ≡ bytes.now) }
+        ensures short { OnOk result (IsShort bytes.now) }
     {
-        if bytes.is_empty() {
+        Bytes::of_held(alloc, Held::of(alloc, bytes)?)
+    }
+
+    /// The bytes that lie in a place.
+    pub(crate) fn of_held(alloc: Global, held: Held) -> Result<Bytes, AllocError>
+        ensures { IfOk result (λ b. b ≡ held) }
+    {
+        if held.as_slice().is_empty() {
             return Ok(Bytes::new(alloc));
         }
-        Ok(Bytes {
-            alloc,
-            held: Some(hold(alloc, bytes)?),
-        })
+        match Rc::new(alloc, held) {
+            Ok(held) => Ok(Bytes {
+                alloc,
+                held: Some(held),
+            }),
+            Err(_) => Err(AllocError),
+        }
     }
 
     /// The bytes.
@@ -213,11 +252,12 @@ impl Bytes {
     /// Adds a byte at the end.
     pub(crate) fn push(&mut self, byte: u8) -> Result<(), AllocError>
         ensures ok { OnOk result (self.new ≡ self.old ++ byte ∷ []) }
+        ensures short { OnOk result (IsShort self.new) }
         ensures err { OnErr result (self.new ≡ self.old) }
     {
         match &mut self.held {
             None => {
-                self.held = Some(hold(self.alloc, &[byte])?);
+                *self = Bytes::of(self.alloc, &[byte])?;
                 Ok(())
             }
             Some(held) => Rc::make_mut(held)?.push(self.alloc, byte),
@@ -227,6 +267,7 @@ impl Bytes {
     /// Adds bytes at the end.
     pub(crate) fn append(&mut self, more: &[u8]) -> Result<(), AllocError>
         ensures ok { OnOk result (self.new ≡ self.old ++ more.now) }
+        ensures short { OnOk result (IsShort self.new) }
         ensures err { OnErr result (self.new ≡ self.old) }
     {
         match &mut self.held {

@@ -3,6 +3,7 @@
 #![tactic(auto)]
 
 mod backslash;
+mod builder;
 mod bytes;
 mod class;
 mod fault;
@@ -15,6 +16,7 @@ mod text;
 mod truth;
 
 pub use backslash::{blank_len, escape, is_blank};
+pub use builder::TextBuilder;
 pub use class::Class;
 pub use fault::{ErrorNumber, Failure, ScriptFault};
 pub use integer::{

@@ -4,7 +4,7 @@ ghost use Rattle.tks_text.specs.Short.{IsShort};
 ghost use Rattle.tks_text.specs.Text.{is_text_byte, is_text, begins_dot, IsText};
 
 use crate::bytes::Bytes;
-use crate::list::{MAX_LEN, Seq};
+use crate::list::Seq;
 use std::alloc::{AllocError, Global};
 use std::hash::{Hash, Hasher};
 use std::marker::Model;
@@ -88,6 +88,15 @@ impl Txt {
         }
     }
 
+    /// The text that these bytes are.
+    pub(crate) fn of(bytes: Bytes) -> Txt
+        requires text { IsText bytes }
+        requires short { IsShort bytes }
+        ensures { result ≡ bytes }
+    {
+        Txt { bytes }
+    }
+
     /// The text of these bytes. `Byte` names the first that stands in no text.
     #[tactic(auto, using(crate::proofs::Texts::text_from_none))]
     pub fn from_bytes(alloc: Global, bytes: &[u8]) -> Result<Txt, TxtFault>
@@ -109,9 +118,6 @@ impl Txt {
         requires { IsText bytes.now }
         ensures { IfOk result (λ t. t ≡ bytes.now) }
     {
-        if bytes.len() > MAX_LEN {
-            return Err(AllocError);
-        }
         Ok(Txt {
             bytes: Bytes::of(alloc, bytes)?,
         })
@@ -140,9 +146,6 @@ impl Txt {
         ensures ok { OnOk result (self.new ≡ self.old ++ byte ∷ []) }
         ensures err { OnErr result (self.new ≡ self.old) }
     {
-        if self.bytes.len() >= MAX_LEN {
-            return Err(AllocError);
-        }
         self.bytes.push(byte)
     }
 
@@ -153,9 +156,6 @@ impl Txt {
         ensures ok { OnOk result (self.new ≡ self.old ++ bytes.now) }
         ensures err { OnErr result (self.new ≡ self.old) }
     {
-        if bytes.len() > MAX_LEN - self.bytes.len() {
-            return Err(AllocError);
-        }
         self.bytes.append(bytes)
     }
 
@@ -175,9 +175,6 @@ impl Txt {
     {
         let bytes = more.as_bytes();
         let count = count.min(bytes.len());
-        if count > MAX_LEN - self.bytes.len() {
-            return Err(AllocError);
-        }
         self.bytes.append(&bytes[..count])
     }
 
@@ -189,9 +186,6 @@ impl Txt {
     {
         let bytes = more.as_bytes();
         let bytes = &bytes[count.min(bytes.len())..];
-        if bytes.len() > MAX_LEN - self.bytes.len() {
-            return Err(AllocError);
-        }
         self.bytes.append(bytes)
     }
 

@@ -1,4 +1,4 @@
-use Rattle.std.proofs.Common.{arith}
+use Rattle.std.proofs.Common.{◌≡◌, IfOk, subst, arith}
 use Rattle.tks_text.proofs.Texts.{text_drop}
 use Rattle.tks_parse.specs.Gives.{text_of_verbatim}
 use Rattle.tks_parse.proofs.Loops.{verbatim_goes, verbatim_stops}
@@ -13,4 +13,6 @@ verbatim-preserved c =
     }
 
 pub returns : goal.returns
-returns c = verbatim_stops c.verbatim.value c.verbatim.rest.now _ c.verbatim.invariant.so_far c.in_default.ensures.gives
+returns c =
+    let whole = verbatim_stops c.verbatim.value c.verbatim.rest.now _ c.verbatim.invariant.so_far c.in_default.ensures.gives in
+    subst (λ value. IfOk c.into_text.result (λ t. t ≡ value)) whole c.into_text.ensures

@@ -15,7 +15,7 @@ read_parts-pieces-preserved t c =
     let read = rw c.in-Some.is at c.in_ok-piece.ensures.gives in
     let lt : c.in-Some.more < length c.pieces.rest.now = rw c.in-Some.is at c.in_ok-piece.ensures.bound in
     record {
-      so_far = rw (c.in_ok-builder.ensures, c.split_at.ensures.back) (parts_go (nest c.args.depth) (index c.args.depth) c.args.mode c.pieces.builder (parts_of_piece c.in-Some.piece) c.pieces.taken c.in-Some.more c.pieces.rest.now _ c.pieces.invariant.so_far read lt);
+      so_far = rw (c.in_ok-add.ensures, c.split_at.ensures.back) (parts_go (nest c.args.depth) (index c.args.depth) c.args.mode c.pieces.builder (parts_of_piece c.in-Some.piece) c.pieces.taken c.in-Some.more c.pieces.rest.now _ c.pieces.invariant.so_far read lt);
       len = omega arith;
       is_text = rw c.split_at.ensures.back (text_drop _ _ c.pieces.invariant.is_text);
     }

@@ -1,4 +1,4 @@
-use Rattle.std.proofs.Common.{◌≡◌, ◌+◌, ◌<◌, ◌∷◌, ◌++◌, take, drop, sym, ap, ◌∙◌, arith}
+use Rattle.std.proofs.Common.{◌≡◌, ◌+◌, ◌<◌, ◌∷◌, ◌++◌, take, drop, IfOk, sym, ap, subst, ◌∙◌, arith}
 use Rattle.std.proofs.lemmas.Bool.Decides.{nat_tests}
 use Rattle.tks_list.specs.Quoting.{quoted, spaced, joined}
 use Rattle.tks_list.proofs.Cuts.{element_at}
@@ -12,6 +12,6 @@ returns c =
     let rest = drop (front + 1) elements in
     let some : front < c.args.behind = grind (arith, nat_tests, c.requires.order, c.if-front-behind.false) in
     let here : drop front elements ≡ element ∷ rest = element_at c.args.self.now front c.args.behind element some c.requires.bound c.at.ensures.value in
-    c.in_ok-push_spaced.ensures
-    ∙ ap (λ t. t ++ spaced rest) (c.in_ok-push_quoted.ensures ∙ ap (λ t. t ++ quoted element) c.new-text.ensures)
-    ∙ ap joined (sym here)
+    let first = c.in_ok-push_quoted.ensures ∙ ap (λ t. t ++ quoted element) c.new-text.ensures in
+    let whole = c.in_ok-push_spaced.ensures ∙ ap (λ t. t ++ spaced rest) first ∙ ap joined (sym here) in
+    subst (λ text. IfOk c.into_text.result (λ t. t ≡ text)) whole c.into_text.ensures
