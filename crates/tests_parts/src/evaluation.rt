@@ -116,6 +116,64 @@ fn scripts_on_a_second_host(rt: HostRuntime) {
     }
 }
 
+// What tclsh makes of scripts that come to the same however deep they stand, as a list of code and text
+// (tools/rows/nested_scripts.tcl).
+fn rows_of_nested() -> &'static str {
+    "list a [list b [list c]] => 0 {a {b c}}\n\
+set k 2; set a($k) 7; expr {$a([list $k]) + [expr {1 + [list 2]}]} => 0 10\n\
+set c(1) x; set b \"<$c([list 1])>\"; list $b$c(1) => 0 <x>x\n\
+list {*}[list a b] [lindex {x y} 1] => 0 {a b y}\n\
+eval list [list a] {[list b]} => 0 {a b}\n\
+if {[list 0]} {list a} elseif {[list 1]} {list [list b]} else {list c} => 0 b\n\
+set r {}; foreach x {1 2 3 4} {if {$x == 2} {continue}; if {[expr {$x == 4}]} {break}; lappend r [list $x]}; set r => 0 {1 3}\n\
+set r {}; for {set i [list 0]} {[list $i] < 3} {incr i [list 1]} {lappend r [list $i]}; set r => 0 {0 1 2}\n\
+for {set i 0} 1 {incr i; if {$i == 2} break} {if {$i > 5} {return no}}; set i => 0 2\n\
+set i 0; while {[list $i] < 5} {incr i; if {$i == 3} {return [list $i]}} => 2 3\n\
+proc f {x} {if {[list $x] > 2} {return [list big $x]} else {list small [list $x]}}; list [f 1] [f 3] => 0 {{small 1} {big 3}}\n\
+proc f {n} {if {$n < 2} {return $n}; expr {[f [expr {$n - 1}]] + [f [expr {$n - 2}]]}}; f 3 => 0 2\n\
+list [catch {error [list e]} m] $m [catch {break}] => 0 {1 e 3}\n\
+foreach x {1 2} {error [list at $x]} => 1 {at 1}\n\
+set x [catch {foreach y {1 2} {return [list $y]}} m]; list $x $m => 0 {2 1}"
+}
+
+// The script that makes such a list, where it is the same behind up to 21 `eval` in one another.
+const NEST: &str =
+    "proc nest {levels script} {for {set level 0} {$level < $levels} {incr level} {set script [list eval $script]}; set script}; set script {";
+
+const TRY: &str =
+    "}; set wanted [list [catch $script text] $text]; for {set deep 1} {$deep < 22} {incr deep} {set found [list [catch [nest $deep $script] text] $text]; if {![string equal $found $wanted]} {error [list $deep $found]}}; set wanted";
+
+// Whether the script of a row comes to what stands behind its arrow, however deep it stands.
+fn ends_so_nested(alloc: Global, row: &str, limits: &Limits) -> Option<bool> {
+    let (script, want) = row.split_once(" => ")?;
+    let nested = format!(in alloc; "{NEST}{script}{TRY}").ok()?;
+    let want = format!(in alloc; "0 {want}").ok()?;
+    Some(end(alloc, nested.as_str(), limits)?.as_str() == want.as_str())
+}
+
+// Scripts nest deeper here than they are run where they stand.
+#[test]
+fn scripts_come_to_the_same_however_deep(rt: HostRuntime) {
+    let limits = Limits::format1();
+    for row in rows_of_nested().lines() {
+        assert_eq!(rt;
+            ends_so_nested(rt.alloc(), row, &limits),
+            Some(true),
+            "at {row}"
+        );
+    }
+    let own = "set n 5; top {set n} => 0 5\n\
+proc h {} {set n 1; top {set n 2}; set n}; list [h] $n => 0 {1 2}\n\
+proc h {} {top {return [list v]}; list after}; h => 0 after";
+    for row in own.lines() {
+        assert_eq!(rt;
+            ends_so_nested(rt.alloc(), row, &limits),
+            Some(true),
+            "at {row}"
+        );
+    }
+}
+
 // Scripts under 3 steps, 3 scripts open, texts of 12 bytes and lists of 2 members.
 fn rows_of_limits() -> &'static str {
     "up; up; up => 0 \n\

@@ -1,9 +1,9 @@
 -- What items do, one after the other, is what an expression does; and what weighs less.
-use Rattle.std.proofs.Common.{◌≡◌, ◌≤◌, ◌+◌, ◌-◌, ◌*◌, ℕ, zero, suc, Bool, true, false, if◌then◌else◌, List, [], ◌∷◌, drop, length, min, Result, Ok, Err, refl, sym, ap, ◌∙◌, arith, codes}
+use Rattle.std.proofs.Common.{◌≡◌, ◌≤◌, ◌+◌, ◌-◌, ℕ, zero, suc, Bool, true, false, if◌then◌else◌, List, [], ◌∷◌, drop, length, min, Result, Ok, Err, refl, sym, ap, ◌∙◌, arith, codes}
 use Rattle.tks_text.specs.declared.fault.ScriptFault.{ScriptFault}
 use Rattle.tks_text.specs.declared.limits.Limits.{Limits}
 use Rattle.tks_parse.proofs.Drops.{drop_next}
-use Rattle.tks_parse.specs.Tree.{Parts, no_part, char, variable, element, nested, parts_size}
+use Rattle.tks_parse.specs.Tree.{Parts}
 use Rattle.tks_vars.specs.Variables.{Variables}
 use Rattle.tks_expr.specs.Compiled.{compiled, items_in, items_do, leaf_text, operated}
 use Rattle.tks_expr.specs.Compiled as items
@@ -21,12 +21,10 @@ use Rattle.tks_expr.proofs.Compiled.{items_make}
 use Rattle.tks_tcl.specs.Cause.{Cause, Fault, OverLimit, value_or_fault}
 use Rattle.tks_tcl.specs.Cause as tcl
 use Rattle.tks_eval.specs.Outcome.{Outcome, End, Next, Level, after, fails, given}
-use Rattle.tks_eval.specs.Evaluation.{text_done, and_then, made_text, parts_do, with_value, value_does, expression_does}
-use Rattle.tks_eval.specs.Filling.{filled}
-use Rattle.tks_eval.specs.Counting.{on_top, Count, All, Upto, whole_or, leaf_value, put, put_two, done_on_top, item_done, counted_from, items_go, counts_on}
+use Rattle.tks_eval.specs.Evaluation.{text_done, and_then, made_text, with_value, value_does, expression_does}
+use Rattle.tks_eval.specs.Counting.{leaf_value, put, put_two, done_on_top, item_done, items_go}
 use Rattle.tks_eval.specs.Machine.{items_weight}
 use Rattle.tks_eval.proofs.After.{after_after, after_done, after_fails, given_after, given_same}
-use Rattle.tks_eval.proofs.Filling.{parts_filled, filled_falls}
 
 -- no more items are passed over than there are
 pub drop_most : {X : Type 0} (n : ℕ) (xs : List X) → drop (min n (length xs)) xs ≡ drop n xs
@@ -49,28 +47,6 @@ left_behind zero all rest left within = left
 left_behind (suc k) all [] left within = left
 left_behind (suc k) all (x ∷ more) left within = left_behind k all more (left_next all (x ∷ more) more x refl left within) (omega (arith, within))
 
-module _ (limits : Limits) (variables : Variables) where
-  -- items are passed over
-  pub passed_over : (n : ℕ) (rest : List Item) (stack : List (List ℕ)) → counted_from limits variables n rest stack ≡ counted_from limits variables 0 (drop n rest) stack
-  passed_over zero rest stack = refl
-  passed_over (suc n) [] stack = refl
-  passed_over (suc n) (i ∷ rest) stack = passed_over n rest stack
-
-  -- one that makes no text is done
-  pub counted_next : (i : Item) (rest : List Item) (stack : List (List ℕ)) → ((parts : Parts) → i ≡ item.Make parts → ⊥)
-      → counted_from limits variables 0 (i ∷ rest) stack ≡ tcl.after (item_done limits variables i stack) (λ z. counted_from limits variables z.0 rest z.1)
-  counted_next (item.Make parts) rest stack other = absurd (other parts refl)
-  counted_next (item.Load a) rest stack other = refl
-  counted_next (item.Two op a b) rest stack other = refl
-  counted_next (item.Skip n) rest stack other = refl
-  counted_next (item.Right op b) rest stack other = refl
-  counted_next (item.Operator op) rest stack other = refl
-  counted_next (item.Sign op) rest stack other = refl
-  counted_next (item.And n) rest stack other = refl
-  counted_next (item.Or n) rest stack other = refl
-  counted_next item.Truth rest stack other = refl
-  counted_next (item.If n) rest stack other = refl
-
 -- ---- what they do
 
 module _ {S : Type 0} (limits : Limits) (state : S) (variables : Variables) (fuel : ℕ) where
@@ -87,11 +63,6 @@ module _ {S : Type 0} (limits : Limits) (state : S) (variables : Variables) (fue
 
     abbrev does_here : ℕ × List (List ℕ) → List Item → Outcome S
     does_here x rest = does x.0 rest x.1 state variables fuel
-
-    -- what there is to do where items came so far
-    abbrev pub count_does : Count → Outcome S
-    count_does (All stack) = End 0 (on_top stack) state variables fuel
-    count_does (Upto rest stack parts made) = counts_on limits inner (rest, stack) (parts_do limits inner parts made state variables fuel)
 
     leaf_then : (x : Leaf) (next : List ℕ → Next S)
         → after (leaf_text text_done (fails limits) and_then (made_text limits inner) x state variables fuel) next ≡ given limits (leaf_value limits variables x) state variables fuel (λ text. next text state variables fuel)
@@ -149,7 +120,7 @@ module _ {S : Type 0} (limits : Limits) (state : S) (variables : Variables) (fue
         ∙ sym (given_after limits state variables fuel (leaf_value limits variables a) (λ x. tcl.after (leaf_value limits variables b) (put_two op stack x)) (λ z. does_here z rest))
 
     -- an item that makes no text
-    item_then : (i : Item) (stack : List (List ℕ)) (rest : List Item) → ((parts : Parts) → i ≡ item.Make parts → ⊥)
+    pub item_then : (i : Item) (stack : List (List ℕ)) (rest : List Item) → ((parts : Parts) → i ≡ item.Make parts → ⊥)
         → does 0 (i ∷ rest) stack state variables fuel ≡ given limits (item_done limits variables i stack) state variables fuel (λ z. does_here z rest)
     item_then (item.Load a) stack rest other =
         leaf_then a (λ text. does 0 rest (text ∷ stack)) ∙ sym (given_after limits state variables fuel (leaf_value limits variables a) (put stack) (λ z. does_here z rest))
@@ -173,52 +144,11 @@ module _ {S : Type 0} (limits : Limits) (state : S) (variables : Variables) (fue
     item_then (item.If n) [] rest other = refl
     item_then (item.If n) (x ∷ stack) rest other = chosen_then (truth_of x) (does 0 rest stack) (does n rest stack) (0, stack) (n, stack) rest refl refl
 
-    -- items come so far, and then do what there is to do
-    abbrev Comes : ℕ → List Item → List (List ℕ) → Type 0
-    Comes n items stack = does n items stack state variables fuel ≡ given limits (counted_from limits variables n items stack) state variables fuel count_does
-
-    top_is : (stack : List (List ℕ)) → items.top text_done (fails limits) and_then (made_text limits inner) stack state variables fuel ≡ End 0 (on_top stack) state variables fuel
-    top_is [] = refl
-    top_is (x ∷ stack) = refl
-
-    item_comes : (i : Item) (rest : List Item) (stack : List (List ℕ)) → ((parts : Parts) → i ≡ item.Make parts → ⊥) → ((n : ℕ) (stack : List (List ℕ)) → Comes n rest stack)
-        → does 0 (i ∷ rest) stack state variables fuel ≡ given limits (tcl.after (item_done limits variables i stack) (λ z. counted_from limits variables z.0 rest z.1)) state variables fuel count_does
-    item_comes i rest stack other come =
-        item_then i stack rest other ∙ given_same limits state variables fuel (item_done limits variables i stack) _ _ (λ z. come z.0 z.1)
-        ∙ sym (given_after limits state variables fuel (item_done limits variables i stack) (λ z. counted_from limits variables z.0 rest z.1) count_does)
-
-    filled_comes : (parts : Parts) (made : List ℕ) (rest : List Item) (stack : List (List ℕ)) → ((n : ℕ) (stack : List (List ℕ)) → Comes n rest stack)
-        → after (parts_do limits inner parts made state variables fuel) (λ text. does 0 rest (text ∷ stack))
-        ≡ given limits (whole_or parts (Upto rest stack parts made) (counted_from limits variables 0 rest (made ∷ stack))) state variables fuel count_does
-    filled_comes no_part made rest stack come = come 0 (made ∷ stack)
-    filled_comes (char c parts) made rest stack come = refl
-    filled_comes (variable name parts) made rest stack come = refl
-    filled_comes (element name index parts) made rest stack come = refl
-    filled_comes (nested script parts) made rest stack come = refl
-
-    text_comes : (r : Result (Parts × List ℕ) Cause) (rest : List Item) (stack : List (List ℕ)) → ((n : ℕ) (stack : List (List ℕ)) → Comes n rest stack)
-        → after (given limits r state variables fuel (λ x. parts_do limits inner x.0 x.1 state variables fuel)) (λ text. does 0 rest (text ∷ stack))
-        ≡ given limits (tcl.after r (λ x. whole_or x.0 (Upto rest stack x.0 x.1) (counted_from limits variables 0 rest (x.1 ∷ stack)))) state variables fuel count_does
-    text_comes (Ok x) rest stack come = filled_comes x.0 x.1 rest stack come
-    text_comes (Err (Fault fault)) rest stack come = after_fails limits fault state variables fuel (λ text. does 0 rest (text ∷ stack))
-    text_comes (Err OverLimit) rest stack come = refl
-
-    pub items_come : (items : List Item) (n : ℕ) (stack : List (List ℕ)) → Comes n items stack
-    items_come [] zero stack = top_is stack
-    items_come [] (suc n) stack = top_is stack
-    items_come (i ∷ rest) (suc n) stack = items_come rest n stack
-    items_come (item.Make parts ∷ rest) zero stack =
-        ap (λ o. after o (λ text. does 0 rest (text ∷ stack))) (parts_filled limits variables inner state fuel parts []) ∙ text_comes (filled limits variables parts []) rest stack (items_come rest)
-    items_come (item.Load a ∷ rest) zero stack = item_comes (item.Load a) rest stack (λ parts e. absurd cc) (items_come rest)
-    items_come (item.Two op a b ∷ rest) zero stack = item_comes (item.Two op a b) rest stack (λ parts e. absurd cc) (items_come rest)
-    items_come (item.Skip n ∷ rest) zero stack = item_comes (item.Skip n) rest stack (λ parts e. absurd cc) (items_come rest)
-    items_come (item.Right op b ∷ rest) zero stack = item_comes (item.Right op b) rest stack (λ parts e. absurd cc) (items_come rest)
-    items_come (item.Operator op ∷ rest) zero stack = item_comes (item.Operator op) rest stack (λ parts e. absurd cc) (items_come rest)
-    items_come (item.Sign op ∷ rest) zero stack = item_comes (item.Sign op) rest stack (λ parts e. absurd cc) (items_come rest)
-    items_come (item.And n ∷ rest) zero stack = item_comes (item.And n) rest stack (λ parts e. absurd cc) (items_come rest)
-    items_come (item.Or n ∷ rest) zero stack = item_comes (item.Or n) rest stack (λ parts e. absurd cc) (items_come rest)
-    items_come (item.Truth ∷ rest) zero stack = item_comes item.Truth rest stack (λ parts e. absurd cc) (items_come rest)
-    items_come (item.If n ∷ rest) zero stack = item_comes (item.If n) rest stack (λ parts e. absurd cc) (items_come rest)
+    -- items are passed over
+    pub passed_over : (n : ℕ) (rest : List Item) (stack : List (List ℕ)) → does n rest stack state variables fuel ≡ does 0 (drop n rest) stack state variables fuel
+    passed_over zero rest stack = refl
+    passed_over (suc n) [] stack = refl
+    passed_over (suc n) (i ∷ rest) stack = passed_over n rest stack
 
     -- an expression does what its items do
     then_done : (text : List ℕ) (next : List ℕ → Next S) → and_then (text_done text) next ≡ next text
@@ -246,7 +176,7 @@ module _ {S : Type 0} (limits : Limits) (state : S) (variables : Variables) (fue
 
 -- ---- weights
 
-weighs_more : (i : Item) (rest : List Item) → items_weight rest ≤ items_weight (i ∷ rest)
+pub weighs_more : (i : Item) (rest : List Item) → items_weight rest ≤ items_weight (i ∷ rest)
 weighs_more (item.Make parts) rest = omega arith
 weighs_more (item.Load a) rest = omega arith
 weighs_more (item.Two op a b) rest = omega arith
@@ -258,56 +188,3 @@ weighs_more (item.And n) rest = omega arith
 weighs_more (item.Or n) rest = omega arith
 weighs_more item.Truth rest = omega arith
 weighs_more (item.If n) rest = omega arith
-
-module _ (limits : Limits) (variables : Variables) where
-  -- less is left where items wait
-  abbrev Falls : List Item → Type 0
-  Falls items = (n : ℕ) (stack : List (List ℕ)) (rest : List Item) (below : List (List ℕ)) (parts : Parts) (made : List ℕ)
-      → counted_from limits variables n items stack ≡ Ok (Upto rest below parts made) → items_weight rest + 4 * parts_size parts + 3 ≤ items_weight items
-
-  item_falls : (i : Item) (items : List Item) → Falls items → (r : Result (ℕ × List (List ℕ)) Cause) (rest : List Item) (below : List (List ℕ)) (parts : Parts) (made : List ℕ)
-      → tcl.after r (λ z. counted_from limits variables z.0 items z.1) ≡ Ok (Upto rest below parts made) → items_weight rest + 4 * parts_size parts + 3 ≤ items_weight (i ∷ items)
-  item_falls i items fall (Ok z) rest below parts made h = omega (arith, weighs_more i items, fall z.0 z.1 rest below parts made h)
-  item_falls i items fall (Err why) rest below parts made h = absurd cc
-
-  here : (p : Parts) (items rest : List Item) (parts : Parts) (size : ℕ) → parts_size p ≤ size → rest ≡ items → parts ≡ p
-      → items_weight rest + 4 * parts_size parts + 3 ≤ 4 * size + 3 + items_weight items
-  here p items rest parts size less same_rest same_parts = omega (arith, less, ap items_weight same_rest, ap parts_size same_parts)
-
-  upto_falls : (left : Parts) (so_far : List ℕ) (items : List Item) (stack : List (List ℕ)) → Falls items → (size : ℕ) → parts_size left ≤ size
-      → (rest : List Item) (below : List (List ℕ)) (parts : Parts) (made : List ℕ)
-      → whole_or left (Upto items stack left so_far) (counted_from limits variables 0 items (so_far ∷ stack)) ≡ Ok (Upto rest below parts made)
-      → items_weight rest + 4 * parts_size parts + 3 ≤ 4 * size + 3 + items_weight items
-  upto_falls no_part so_far items stack fall size less rest below parts made h = omega (arith, fall 0 (so_far ∷ stack) rest below parts made h)
-  upto_falls (char c left) so_far items stack fall size less rest below parts made h =
-      let same_rest : rest ≡ items = cc in let same_parts : parts ≡ char c left = cc in here (char c left) items rest parts size less same_rest same_parts
-  upto_falls (variable name left) so_far items stack fall size less rest below parts made h =
-      let same_rest : rest ≡ items = cc in let same_parts : parts ≡ variable name left = cc in here (variable name left) items rest parts size less same_rest same_parts
-  upto_falls (element name index left) so_far items stack fall size less rest below parts made h =
-      let same_rest : rest ≡ items = cc in let same_parts : parts ≡ element name index left = cc in here (element name index left) items rest parts size less same_rest same_parts
-  upto_falls (nested script left) so_far items stack fall size less rest below parts made h =
-      let same_rest : rest ≡ items = cc in let same_parts : parts ≡ nested script left = cc in here (nested script left) items rest parts size less same_rest same_parts
-
-  make_falls : (whole : Parts) (items : List Item) (stack : List (List ℕ)) → Falls items → (r : Result (Parts × List ℕ) Cause) → ((x : Parts × List ℕ) → r ≡ Ok x → parts_size x.0 ≤ parts_size whole)
-      → (rest : List Item) (below : List (List ℕ)) (parts : Parts) (made : List ℕ)
-      → tcl.after r (λ x. whole_or x.0 (Upto items stack x.0 x.1) (counted_from limits variables 0 items (x.1 ∷ stack))) ≡ Ok (Upto rest below parts made)
-      → items_weight rest + 4 * parts_size parts + 3 ≤ 4 * parts_size whole + 3 + items_weight items
-  make_falls whole items stack fall (Ok x) less rest below parts made h = upto_falls x.0 x.1 items stack fall (parts_size whole) (less x refl) rest below parts made h
-  make_falls whole items stack fall (Err why) less rest below parts made h = absurd cc
-
-  pub counted_falls : (items : List Item) → Falls items
-  counted_falls [] zero stack rest below parts made h = absurd cc
-  counted_falls [] (suc n) stack rest below parts made h = absurd cc
-  counted_falls (i ∷ items) (suc n) stack rest below parts made h = omega (arith, weighs_more i items, counted_falls items n stack rest below parts made h)
-  counted_falls (item.Make whole ∷ items) zero stack rest below parts made h =
-      make_falls whole items stack (counted_falls items) (filled limits variables whole []) (λ x. filled_falls limits variables whole [] x) rest below parts made h
-  counted_falls (item.Load a ∷ items) zero stack rest below parts made h = item_falls (item.Load a) items (counted_falls items) (item_done limits variables (item.Load a) stack) rest below parts made h
-  counted_falls (item.Two op a b ∷ items) zero stack rest below parts made h = item_falls (item.Two op a b) items (counted_falls items) (item_done limits variables (item.Two op a b) stack) rest below parts made h
-  counted_falls (item.Skip n ∷ items) zero stack rest below parts made h = item_falls (item.Skip n) items (counted_falls items) (item_done limits variables (item.Skip n) stack) rest below parts made h
-  counted_falls (item.Right op b ∷ items) zero stack rest below parts made h = item_falls (item.Right op b) items (counted_falls items) (item_done limits variables (item.Right op b) stack) rest below parts made h
-  counted_falls (item.Operator op ∷ items) zero stack rest below parts made h = item_falls (item.Operator op) items (counted_falls items) (item_done limits variables (item.Operator op) stack) rest below parts made h
-  counted_falls (item.Sign op ∷ items) zero stack rest below parts made h = item_falls (item.Sign op) items (counted_falls items) (item_done limits variables (item.Sign op) stack) rest below parts made h
-  counted_falls (item.And n ∷ items) zero stack rest below parts made h = item_falls (item.And n) items (counted_falls items) (item_done limits variables (item.And n) stack) rest below parts made h
-  counted_falls (item.Or n ∷ items) zero stack rest below parts made h = item_falls (item.Or n) items (counted_falls items) (item_done limits variables (item.Or n) stack) rest below parts made h
-  counted_falls (item.Truth ∷ items) zero stack rest below parts made h = item_falls item.Truth items (counted_falls items) (item_done limits variables item.Truth stack) rest below parts made h
-  counted_falls (item.If n ∷ items) zero stack rest below parts made h = item_falls (item.If n) items (counted_falls items) (item_done limits variables (item.If n) stack) rest below parts made h

@@ -1,33 +1,19 @@
 -- Words that are made at once, up to a script or an index, come to what evaluation says of them.
-use Rattle.std.proofs.Common.{◌≡◌, ℕ, Bool, ◌+◌, ◌*◌, ◌≤◌, true, false, ◌&&◌, cond, List, [], ◌∷◌, ◌++◌, Some, Result, Ok, Err, refl, sym, ap, ◌∙◌, arith, append-nil, append_assoc}
+use Rattle.std.proofs.Common.{◌≡◌, ℕ, Bool, ◌+◌, true, false, ◌&&◌, cond, List, [], ◌∷◌, ◌++◌, Result, Ok, Err, refl, sym, ap, ◌∙◌, arith, append-nil, append_assoc}
 use Rattle.std.specs.List.{list_all}
 use Rattle.std.proofs.lemmas.Bool.{le-leb}
 use Rattle.tks_text.specs.declared.limits.Limits.{Limits}
-use Rattle.tks_parse.specs.Tree.{Words, no_word, word, Parts, no_part, char, variable, element, nested, chars, parts_size, words_size}
-use Rattle.tks_parse.specs.View.{parts_of, ready_words}
-use Rattle.tks_parse.specs.declared.tree.Part.{Part}
+use Rattle.tks_parse.specs.Tree.{Words, no_word, word, Parts, no_part, char, variable, element, nested, chars}
+use Rattle.tks_parse.specs.View.{ready_words}
 use Rattle.tks_vars.specs.Variables.{Variables}
 use Rattle.tks_tcl.specs.Cause.{Cause, Fault, OverLimit}
 use Rattle.tks_text.specs.Limits.{fits}
 use Rattle.tks_tcl.specs.Cause as tcl
-use Rattle.tks_tcl.specs.Meets.{FailsSo}
-use Rattle.tks_tcl.specs.declared.interrupt.Interrupt.{Interrupt}
-use Rattle.tks_tcl.specs.declared.interrupt.Interrupt.TheVariants as interrupt
 use Rattle.tks_eval.specs.Outcome.{Outcome, Stopped, TooLarge, Level, Meaning, appended, given, after}
-use Rattle.tks_eval.specs.Evaluation.{parts_do, with_value, words_in, words_do, call, evaluate}
-use Rattle.tks_eval.specs.Filling.{filled, left_of, waits_for, runs, Stand, All, Upto, made_or, words_made}
-use Rattle.tks_eval.specs.Machine.{resume, outcome_now, now_weight, frame_weight}
-use Rattle.tks_eval.specs.declared.frame.Frame.{Frame}
-use Rattle.tks_eval.specs.declared.words.Inner.{Inner}
-use Rattle.tks_eval.specs.declared.words.Inner.TheVariants as inner
+use Rattle.tks_eval.specs.Evaluation.{parts_do, with_value, words_in, words_do, call}
+use Rattle.tks_eval.specs.Filling.{filled, Stand, All, Upto, made_or, words_made}
 use Rattle.tks_eval.proofs.Runs.{appended_some, appended_on, appended_over}
 use Rattle.tks_eval.proofs.After.{after_fails, given_after, given_same}
-
--- an interrupt passes on
-pub fails_after : {X Y : Type 0} (why : Interrupt) (r : Result X Cause) (next : X → Result Y Cause) → FailsSo why r → FailsSo why (tcl.after r next)
-fails_after (interrupt.Script fault) r next h = ap (λ v. tcl.after v next) h
-fails_after interrupt.TooLarge r next h = ap (λ v. tcl.after v next) h
-fails_after interrupt.NoMemory r next h = tt
 
 module _ (limits : Limits) (variables : Variables) where
   -- a run of characters
@@ -67,47 +53,6 @@ module _ (limits : Limits) (variables : Variables) where
         | false ↦ refl
       ]
 
-  -- what is left is no more than what there was
-  after_falls : {X Y : Type 0} (size : Y → ℕ) (n : ℕ) (r : Result X Cause) (next : X → Result Y Cause) (y : Y)
-      → ((x : X) → next x ≡ Ok y → size y ≤ n) → tcl.after r next ≡ Ok y → size y ≤ n
-  after_falls size n (Ok x) next y h e = h x e
-  after_falls size n (Err why) next y h e = absurd cc
-
-  pub filled_falls : (parts : Parts) (made : List ℕ) (x : Parts × List ℕ) → filled limits variables parts made ≡ Ok x → parts_size x.0 ≤ parts_size parts
-  filled_falls no_part made x e = let same : x ≡ (no_part, made) = cc in rw same (omega arith)
-  filled_falls (char c rest) made x e = after_falls (λ x. parts_size x.0) (parts_size rest) (appended limits made (c ∷ [])) (λ made. filled limits variables rest made) x (λ m. filled_falls rest m x) e
-  filled_falls (variable name rest) made x e = after_falls (λ x. parts_size x.0) (parts_size rest) (with_value limits variables name made) (λ made. filled limits variables rest made) x (λ m. filled_falls rest m x) e
-  filled_falls (element name index rest) made x e = let same : x ≡ (element name index rest, made) = cc in rw same (omega arith)
-  filled_falls (nested script rest) made x e = let same : x ≡ (nested script rest, made) = cc in rw same (omega arith)
-
-  -- how much is left behind the words that were made at once
-  abbrev pub stand_size : Stand → ℕ
-  stand_size (All words) = 0
-  stand_size (Upto words expand parts made rest) = 1 + parts_size parts + words_size rest
-
-  word_falls : (expand : Bool) (parts : Parts) (rest : Words) (words : List (List ℕ)) (stand : Stand) (r : Result (Parts × List ℕ) Cause)
-      → ((x : Parts × List ℕ) → r ≡ Ok x → parts_size x.0 ≤ parts_size parts)
-      → ((words : List (List ℕ)) → words_made limits variables rest words ≡ Ok stand → stand_size stand ≤ words_size rest)
-      → tcl.after r (λ x. made_or x.0 (Upto words expand x.0 x.1 rest) (tcl.after (words_in expand x.1) (λ more. words_made limits variables rest (words ++ more)))) ≡ Ok stand
-      → stand_size stand ≤ 1 + parts_size parts + words_size rest
-  word_falls expand parts rest words stand (Ok (no_part, made)) f h e =
-      let less = after_falls stand_size (words_size rest) (words_in expand made) (λ more. words_made limits variables rest (words ++ more)) stand (λ more. h (words ++ more)) e in
-      omega (arith, less)
-  word_falls expand parts rest words stand (Ok (char c r, made)) f h e =
-      let same : stand ≡ Upto words expand (char c r) made rest = cc in rw same (omega (arith, f (char c r, made) refl))
-  word_falls expand parts rest words stand (Ok (variable name r, made)) f h e =
-      let same : stand ≡ Upto words expand (variable name r) made rest = cc in rw same (omega (arith, f (variable name r, made) refl))
-  word_falls expand parts rest words stand (Ok (element name index r, made)) f h e =
-      let same : stand ≡ Upto words expand (element name index r) made rest = cc in rw same (omega (arith, f (element name index r, made) refl))
-  word_falls expand parts rest words stand (Ok (nested script r, made)) f h e =
-      let same : stand ≡ Upto words expand (nested script r) made rest = cc in rw same (omega (arith, f (nested script r, made) refl))
-  word_falls expand parts rest words stand (Err why) f h e = absurd cc
-
-  pub words_fall : (ws : Words) (words : List (List ℕ)) (stand : Stand) → words_made limits variables ws words ≡ Ok stand → stand_size stand ≤ words_size ws
-  words_fall no_word words stand e = let same : stand ≡ All words = cc in rw same (omega arith)
-  words_fall (word expand parts rest) words stand e =
-      word_falls expand parts rest words stand (filled limits variables parts []) (λ x. filled_falls parts [] x) (λ words. words_fall rest words stand) e
-
   module _ {S : Type 0} (inner : Level S) (state : S) (fuel : ℕ) where
     -- the text of a word: first as far as it goes at once
     pub parts_filled : (parts : Parts) (made : List ℕ) → parts_do limits inner parts made state variables fuel
@@ -122,23 +67,7 @@ module _ (limits : Limits) (variables : Variables) where
     parts_filled (element name index rest) made = refl
     parts_filled (nested script rest) made = refl
 
--- what has to be run is left
-pub made_or_inner : (i : Inner) (rest : Parts) (upto : Stand) (next : Result Stand Cause) → made_or (left_of (Some i) rest) upto next ≡ Ok upto
-made_or_inner (inner.Index name index) rest upto next = refl
-made_or_inner (inner.Script script) rest upto next = refl
-
-pub inner_weighs : (i : Inner) (made : List ℕ) (parts : List Part)
-    → now_weight (runs i) + frame_weight (waits_for i made parts) ≤ 4 * parts_size (left_of (Some i) (parts_of parts))
-inner_weighs (inner.Index name index) made parts = omega arith
-inner_weighs (inner.Script script) made parts = omega arith
-
 module _ {S : Type 0} (host : Meaning S) (limits : Limits) where
-  pub inner_goes : (left : ℕ) (stack : List Frame) (i : Inner) (made : List ℕ) (parts : List Part) (state : S) (variables : Variables) (fuel : ℕ)
-      → resume host limits left stack (parts_do limits (evaluate host limits left) (left_of (Some i) (parts_of parts)) made state variables fuel)
-      ≡ resume host limits left (waits_for i made parts ∷ stack) (outcome_now host limits left (runs i) state variables fuel)
-  inner_goes left stack (inner.Index name index) made parts state variables fuel = refl
-  inner_goes left stack (inner.Script script) made parts state variables fuel = refl
-
   module _ (level : Level S) (state : S) (variables : Variables) (fuel : ℕ) where
     -- what follows on the words that were made at once
     abbrev pub words_go : Stand → Outcome S

@@ -1,5 +1,6 @@
 pub mod After
-pub mod Halts
+pub mod Frames
+pub mod Coming
 pub mod Halves
 pub mod Runs
 pub mod Spending
@@ -11,7 +12,9 @@ pub mod Grammar
 pub mod Parameters
 pub mod Filling
 pub mod Counting
-pub mod Coming
-pub mod AtOnce
-pub mod Reaching
 pub mod Lent
+pub mod Making
+pub mod Scripts
+pub mod Running
+pub mod Calling
+pub mod Looping

@@ -1,5 +1,5 @@
 -- A run of characters in a word joins what is made of it all at once.
-use Rattle.std.proofs.Common.{◌≡◌, ◌==◌, ◌||◌, suc, rules, ℕ, ◌<◌, ◌≤◌, true, false, cond, leb, List, [], ◌∷◌, ◌++◌, length, get_or, drop, Ok, Err, refl, sym, ap, ◌∙◌, arith, append-nil, append_assoc, length-append}
+use Rattle.std.proofs.Common.{◌≡◌, ◌==◌, ◌||◌, suc, rules, ℕ, ◌<◌, ◌≤◌, true, false, cond, leb, List, [], ◌∷◌, ◌++◌, length, get_or, Ok, Err, refl, sym, ap, ◌∙◌, arith, append-nil, append_assoc, length-append}
 use Rattle.std.proofs.lemmas.Bool.{le-leb, leb-true}
 use Rattle.tks_text.specs.declared.limits.Limits.{Limits}
 use Rattle.tks_parse.specs.Tree.{Parts, chars, parts_size}
@@ -14,23 +14,11 @@ pub chars_weigh : (t : List ℕ) (rest : Parts) → parts_size (chars t rest) �
 chars_weigh [] rest = refl
 chars_weigh (c ∷ t) rest = chars_weigh t rest
 
--- the first of words that are there
-pub first_of : (words : List (List ℕ)) (x : List ℕ) → 1 ≤ length words → x ≡ get_or words 0 x → words ≡ x ∷ drop 1 words
-first_of [] x l f = absurd (omega arith)
-first_of (y ∷ ys) x l f = ap (λ z. z ∷ ys) (sym f)
-
 -- the only one
 pub one_of : {A : Type 0} (xs : List A) (x : A) → 1 ≤ length xs → length xs < 2 → x ≡ get_or xs 0 x → xs ≡ x ∷ []
 one_of [] x l m f = absurd (omega (arith, l))
 one_of (a ∷ []) x l m f = ap (λ z. z ∷ []) (sym f)
 one_of (a ∷ b ∷ xs) x l m f = absurd (omega (arith, m))
-
--- two words, which are all
-pub two_of : (words : List (List ℕ)) (x y : List ℕ) → 2 ≤ length words → length words < 3 → x ≡ get_or words 0 x → y ≡ get_or words 1 y → words ≡ x ∷ y ∷ []
-two_of [] x y l m f g = absurd (omega (arith, l))
-two_of (a ∷ []) x y l m f g = absurd (omega (arith, l))
-two_of (a ∷ b ∷ []) x y l m f g = ap (λ z. z ∷ b ∷ []) (sym f) ∙ ap (λ z. x ∷ z ∷ []) (sym g)
-two_of (a ∷ b ∷ c ∷ words) x y l m f g = absurd (omega (arith, m))
 
 module _ (limits : Limits) where
   -- what joins is not empty

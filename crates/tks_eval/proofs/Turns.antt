@@ -1,5 +1,5 @@
 -- A loop is a test, its body and the loop again.
-use Rattle.std.proofs.Common.{◌≡◌, ◌==◌, ◌≤◌, ℕ, zero, suc, Bool, true, false, cond, List, [], ◌∷◌, Option, Result, Ok, Err, refl, ap, ◌∙◌, arith}
+use Rattle.std.proofs.Common.{◌≡◌, ◌==◌, ◌≤◌, ℕ, zero, suc, Bool, true, false, cond, List, [], Result, Ok, Err, refl, ap, ◌∙◌, arith}
 use Rattle.tks_text.specs.declared.limits.Limits.{Limits}
 use Rattle.tks_parse.specs.Reading.{script_of}
 use Rattle.tks_vars.specs.Variables.{Variables}
@@ -8,8 +8,7 @@ use Rattle.tks_expr.specs.Compiled.{items_in}
 use Rattle.tks_expr.specs.declared.items.Item.{Item}
 use Rattle.tks_expr.specs.Operation.{truth_of}
 use Rattle.tks_eval.specs.Outcome.{Outcome, End, Stopped, Next, Level, after, after_body, after_next, given}
-use Rattle.tks_eval.specs.Branches.{Test}
-use Rattle.tks_eval.specs.Evaluation.{Loop, if_holds, after_truth, expression_does, tested, script_does, branches_do, behind_body, turn_does, turns, loop_does, done}
+use Rattle.tks_eval.specs.Evaluation.{Loop, if_holds, after_truth, expression_does, tested, script_does, behind_body, turn_does, turns, loop_does, done}
 use Rattle.tks_eval.specs.Counting.{items_go}
 use Rattle.tks_eval.proofs.Counting.{expression_counts}
 use Rattle.tks_eval.proofs.Spending.{Spends, Thrifty, script_spends, expression_spends, optional_spends}
@@ -23,15 +22,6 @@ module _ {S : Type 0} where
       ap (tested limits inner condition first second state variables) step
       ∙ ap (λ o. after_truth limits o first second) (expression_counts limits state variables less inner condition
       ∙ ap (λ r. given limits (value_or_fault r) state variables less (λ items. items_go limits inner items [] state variables less)) read)
-
-  -- branches, once the step of the first test is taken and its condition is read
-  pub branches_read : (limits : Limits) (inner : Level S) (otherwise : Option (List ℕ)) (test : Test) (tests rest : List Test) (state : S) (variables : Variables) (fuel less : ℕ) (items : List Item)
-      → tests ≡ test ∷ rest → fuel ≡ suc less → items_in test.condition ≡ Ok items
-      → branches_do limits inner otherwise tests state variables fuel
-      ≡ after_truth limits (items_go limits inner items [] state variables less) (inner (script_of test.body)) (branches_do limits inner otherwise rest)
-  branches_read limits inner otherwise test tests rest state variables fuel less items is step read =
-      ap (λ ts. branches_do limits inner otherwise ts state variables fuel) is
-      ∙ tested_reads limits inner test.condition (inner (script_of test.body)) (branches_do limits inner otherwise rest) state variables fuel less items step read
 
   -- two ways to go on that are the same with no more steps than so many
   abbrev pub SameUpTo : ℕ → Next S → Next S → Type 0

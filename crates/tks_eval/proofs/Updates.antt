@@ -1,26 +1,15 @@
 -- Things that wait are done one after the other, until none waits.
-use Rattle.std.proofs.Common.{◌≡◌, ◌==◌, ◌||◌, ◌≤◌, ℕ, zero, suc, true, false, cond, List, [], ◌∷◌, None, Ok, Err, refl, sym, subst, ap, ◌∙◌, arith}
-use Rattle.tks_text.specs.Fault.{fault_text}
-use Rattle.tks_text.specs.declared.fault.ErrorNumber.TheVariants.{OutsideLoop}
+use Rattle.std.proofs.Common.{◌≡◌, ◌≤◌, ℕ, zero, suc, List, [], refl, subst, ap, ◌∙◌, arith}
 use Rattle.tks_text.specs.declared.limits.Limits.{Limits}
 use Rattle.tks_vars.specs.Variables.{Variables}
-use Rattle.tks_tcl.specs.Cause.{bare}
-use Rattle.tks_tcl.specs.declared.stop.Stop.{Stop}
-use Rattle.tks_tcl.specs.declared.stop.Stop.TheVariants as stop
-use Rattle.tks_eval.specs.Outcome.{Outcome, End, Stopped, OutOfSteps, TooLarge, Next, Level, Taken, Nothing, Takes, TooMuch, Meaning, after_step, after_taken, caught, fails}
-use Rattle.tks_eval.specs.Meets.{TakesSo, TakesStep, StopsSo, FailsSo}
-use Rattle.tks_eval.specs.Evaluation.{settled, plan_with, noted, thing_with, things_do, update_does, plan_does, thing_does, evaluate}
+use Rattle.tks_eval.specs.Outcome.{Outcome, End, Stopped, OutOfSteps, Next, Level, Taken, Nothing, Takes, TooMuch, Meaning, after_step, after_taken, caught}
+use Rattle.tks_eval.specs.Evaluation.{settled, plan_with, noted, thing_with, things_do, update_does, thing_does, evaluate}
 use Rattle.tks_eval.specs.Laws.{UpdatesUnroll, UpdatesLeaveNothing}
-use Rattle.tks_eval.specs.Machine.{resume}
-use Rattle.tks_eval.specs.declared.frame.Ending.{Ending}
-use Rattle.tks_eval.specs.declared.frame.Frame.{Frame}
-use Rattle.tks_eval.specs.declared.frame.Frame.TheVariants as frame
 use Rattle.tks_eval.specs.declared.host.Due.{Due}
 use Rattle.tks_eval.specs.declared.host.Plan.{Plan}
 use Rattle.tks_eval.specs.declared.host.Plan.TheVariants as plan
 use Rattle.tks_eval.proofs.Spending.{Spends, Thrifty, Within, thing_with_spends, things_spend, evaluate_spends}
 use Rattle.tks_eval.proofs.Turns.{SameUpTo}
-use Rattle.tks_eval.proofs.Halts.{resume_stopped}
 
 module _ {S : Type 0} where
   caught_same : (bound : ℕ) (outcome : Outcome S) (f g : ℕ → List ℕ → Next S) → Spends bound outcome → ((code : ℕ) (text : List ℕ) → SameUpTo bound (f code text) (g code text))
@@ -130,74 +119,3 @@ module _ {S : Type 0} (host : Meaning S) (due : Due) where
 pub updates_leave_nothing : {S : Type 0} (host : Meaning S) → UpdatesLeaveNothing host
 updates_leave_nothing host limits inner due state variables fuel code text state' variables' left e =
     subst (LeavesNothing host due) e (things_leave_nothing host due limits inner fuel state variables fuel)
-
--- ---- on the machine
-
-module _ {S : Type 0} (host : Meaning S) (limits : Limits) (left levels : ℕ) (stack : List Frame) (due : Due) (state : S) (variables : Variables) (fuel : ℕ) where
-  -- what comes of `update`
-  abbrev whole : Outcome S
-  whole = resume host limits levels stack (update_does host limits (evaluate host limits left) due state variables fuel)
-
-  -- what follows on what is taken out, behind a step
-  abbrev behind : Plan → Next S
-  behind p state variables fuel = after_step fuel (λ fuel.
-      caught (thing_does host limits (evaluate host limits left) p state variables fuel) (λ code text. update_does host limits (evaluate host limits left) due))
-
-  -- where this was taken out
-  taken_so : (taken : Taken S) → host.next due state ≡ taken → whole ≡ resume host limits levels stack (after_taken taken state variables fuel behind)
-  taken_so taken h = ap (resume host limits levels stack) (updates_unroll host limits left due state variables fuel ∙ ap (λ t. after_taken t state variables fuel behind) h)
-
-  -- nothing waits
-  pub nothing_goes : (new : S) → TakesSo (host.next due state) (Ok None) state new → whole ≡ resume host limits levels stack (End 0 [] new variables fuel)
-  nothing_goes new h = taken_so Nothing h.0 ∙ ap (λ s. resume host limits levels stack (End 0 [] s variables fuel)) (sym h.1)
-
-  -- a thing goes on behind its step
-  pub thing_goes : (p : Plan) (new : S) (less : ℕ) → host.next due state ≡ Takes p new → fuel ≡ suc less
-      → whole ≡ resume host limits left (frame.Thing ∷ frame.Update due levels ∷ stack) (plan_does host limits (evaluate host limits left) p new variables less)
-  thing_goes p new less h step = taken_so (Takes p new) h ∙ ap (λ u. resume host limits levels stack (behind p new variables u)) step
-
-  -- the host stops
-  pub taking_halts : (new : S) (why : Stop) → TakesSo (host.next due state) (Err why) state new → StopsSo whole why
-  taking_halts new stop.TooLarge h = taken_so TooMuch h ∙ resume_stopped host limits levels stack TooLarge
-  taking_halts new stop.NoMemory h = tt
-  taking_halts new stop.Budget h = absurd h
-  taking_halts new stop.Depth h = absurd h
-
-  -- there is no step left for it
-  pub thing_halts : (p : Plan) (new : S) (less : ℕ) (why : Stop) → host.next due state ≡ Takes p new → TakesStep (Err why) fuel less → StopsSo whole why
-  thing_halts p new less stop.Budget h t =
-      taken_so (Takes p new) h ∙ ap (λ u. resume host limits levels stack (behind p new variables u)) t.0 ∙ resume_stopped host limits levels stack OutOfSteps
-  thing_halts p new less stop.Depth h t = absurd t
-  thing_halts p new less stop.TooLarge h t = absurd t
-  thing_halts p new less stop.NoMemory h t = absurd t
-
-module _ {S : Type 0} (host : Meaning S) (limits : Limits) (left : ℕ) (stack : List Frame) (state : S) (variables : Variables) (fuel : ℕ) where
-  -- a thing that ended by a `break` or a `continue`
-  abbrev outside : ℕ → List ℕ → Outcome S
-  outside code text = resume host limits left (frame.Thing ∷ stack) (End code text state variables fuel)
-
-  outside_fails : (code : ℕ) (text : List ℕ) → code == 2 ≡ false → code == 3 || code == 4 ≡ true
-      → outside code text ≡ resume host limits left stack (noted host (fails limits (bare OutsideLoop) state variables fuel))
-  outside_fails code text h k =
-      ap (λ b. resume host limits left stack (noted host (cond b (End 0 text state variables fuel) (cond (code == 3 || code == 4) (fails limits (bare OutsideLoop) state variables fuel) (End code text state variables fuel))))) h
-      ∙ ap (λ b. resume host limits left stack (noted host (cond b (fails limits (bare OutsideLoop) state variables fuel) (End code text state variables fuel)))) k
-
-  -- the text of its error joins the faults
-  pub outside_goes : (code : ℕ) (text : List ℕ) (told : Ending) (new : S) → code == 2 ≡ false → code == 3 || code == 4 ≡ true → FailsSo limits (bare OutsideLoop) (Ok told)
-      → new ≡ host.faulted state told.text → outside code text ≡ resume host limits left stack (End 0 [] new variables fuel)
-  outside_goes code text told new h k f e =
-      outside_fails code text h k
-      ∙ ap (λ b. resume host limits left stack (noted host (cond b (End 1 (fault_text (bare OutsideLoop)) state variables fuel) (Stopped TooLarge)))) f.2
-      ∙ ap (λ t. resume host limits left stack (End 0 [] (host.faulted state t) variables fuel)) (sym f.1)
-      ∙ ap (λ s. resume host limits left stack (End 0 [] s variables fuel)) (sym e)
-
-  -- or it passes the limit
-  pub outside_halts : (code : ℕ) (text : List ℕ) (why : Stop) → code == 2 ≡ false → code == 3 || code == 4 ≡ true → FailsSo limits (bare OutsideLoop) (Err why)
-      → StopsSo (outside code text) why
-  outside_halts code text stop.TooLarge h k f =
-      outside_fails code text h k
-      ∙ ap (λ b. resume host limits left stack (noted host (cond b (End 1 (fault_text (bare OutsideLoop)) state variables fuel) (Stopped TooLarge)))) f
-      ∙ resume_stopped host limits left stack TooLarge
-  outside_halts code text stop.NoMemory h k f = tt
-  outside_halts code text stop.Budget h k f = absurd f
-  outside_halts code text stop.Depth h k f = absurd f

@@ -1,8 +1,6 @@
--- How far the items of an expression are done at once: up to a text that waits for a script or an index.
-use Rattle.std.specs.Prelude.{◌≡◌, ℕ, zero, suc, if◌then◌else◌, codes, List, [], ◌∷◌, reverse, Option, Some, None, Result, Ok, Err}
+-- What the items of an expression do with a stack of texts.
+use Rattle.std.specs.Prelude.{ℕ, if◌then◌else◌, codes, List, [], ◌∷◌, reverse, Option, Some, None, Result, Ok}
 use Rattle.tks_text.specs.declared.limits.Limits.{Limits}
-use Rattle.tks_parse.specs.Tree.{Parts, no_part, char, variable, element, nested}
-use Rattle.tks_parse.specs.View.{parts_of}
 use Rattle.tks_vars.specs.Variables.{Variables}
 use Rattle.tks_expr.specs.Compiled.{items_do}
 use Rattle.tks_expr.specs.Operation.{truth_of, applied, applied_unary}
@@ -15,14 +13,6 @@ use Rattle.tks_tcl.specs.Cause.{Cause, after, value_or_fault}
 use Rattle.tks_eval.specs.Outcome.{Outcome, Next, Level, fails}
 use Rattle.tks_eval.specs.Outcome as outcome
 use Rattle.tks_eval.specs.Evaluation.{text_done, and_then, made_text, with_value}
-use Rattle.tks_eval.specs.Filling.{filled, left_of}
-use Rattle.tks_eval.specs.declared.expressions.Awaited.{Awaited}
-use Rattle.tks_eval.specs.declared.expressions.Awaited.TheVariants as awaited
-use Rattle.tks_eval.specs.declared.expressions.Stop.{Stop}
-use Rattle.tks_eval.specs.declared.expressions.Counted.{Counted}
-use Rattle.tks_eval.specs.declared.expressions.Counted.TheVariants as counted
-use Rattle.tks_tcl.specs.Meets.{FailsSo}
-use Rattle.tks_tcl.specs.declared.interrupt.Interrupt.{Interrupt}
 
 -- the texts of values, that on top first
 abbrev pub stack_of : Option (List ℕ) → List (List ℕ) → List (List ℕ)
@@ -33,20 +23,6 @@ stack_of (Some top) below = top ∷ reverse below
 abbrev pub on_top : List (List ℕ) → List ℕ
 on_top [] = []
 on_top (x ∷ stack) = x
-
--- all items are done, with these texts on the stack; or those before a text that was begun: the items behind it, the texts
--- below it, the parts that are left of it, and what is made so far
-pub data Count : Type 0 where
-  All : (stack : List (List ℕ)) → Count
-  Upto : (rest : List Item) (stack : List (List ℕ)) (parts : Parts) (made : List ℕ) → Count
-
--- what follows where nothing is left of a text's parts
-abbrev pub whole_or : Parts → Count → Result Count Cause → Result Count Cause
-whole_or no_part upto next = next
-whole_or (char c rest) upto next = Ok upto
-whole_or (variable name rest) upto next = Ok upto
-whole_or (element name index rest) upto next = Ok upto
-whole_or (nested script rest) upto next = Ok upto
 
 -- a text on top, and nothing passed over
 abbrev pub put : List (List ℕ) → List ℕ → Result (ℕ × List (List ℕ)) Cause
@@ -87,15 +63,6 @@ module _ (limits : Limits) (variables : Variables) where
   item_done i [] = Ok (0, [])
   item_done i (x ∷ stack) = done_on_top i x stack
 
-  -- how far items come, behind so many that are passed over
-  abbrev pub counted_from : ℕ → List Item → List (List ℕ) → Result Count Cause
-  counted_from (suc n) [] stack = Ok (All stack)
-  counted_from (suc n) (i ∷ rest) stack = counted_from n rest stack
-  counted_from zero [] stack = Ok (All stack)
-  counted_from zero (item.Make parts ∷ rest) stack =
-      after (filled limits variables parts []) (λ x. whole_or x.0 (Upto rest stack x.0 x.1) (counted_from 0 rest (x.1 ∷ stack)))
-  counted_from zero (i ∷ rest) stack = after (item_done i stack) (λ x. counted_from x.0 rest x.1)
-
 module _ {S : Type 0} (limits : Limits) (inner : Level S) where
   -- what items do, with these texts on the stack
   abbrev pub items_go : List Item → List (List ℕ) → Next S
@@ -104,27 +71,3 @@ module _ {S : Type 0} (limits : Limits) (inner : Level S) where
   -- what follows on a text that an expression waited for: it comes on top, and then the items behind it
   abbrev pub counts_on : List Item × List (List ℕ) → Outcome S → Outcome S
   counts_on c whole = outcome.after whole (λ text. items_go c.0 (text ∷ c.1))
-
--- what is left of a text that is awaited, and what is made of it
-abbrev pub left_in : Awaited → Parts × List ℕ
-left_in (awaited.Script script) = (nested script no_part, [])
-left_in (awaited.Text text) = (left_of (Some text.value.inner) (parts_of text.value.parts), text.value.made)
-
--- what a call returned that did items up to a text that waits
-abbrev pub StopsAt : Result (Option Stop) Interrupt → List (List ℕ) → Result Count Cause → Type 0
-StopsAt (Ok None) stack count = count ≡ Ok (All stack)
-StopsAt (Ok (Some stop)) stack count = count ≡ Ok (Upto stop.rest.now stack (left_in stop.awaited).0 (left_in stop.awaited).1)
-StopsAt (Err why) stack count = FailsSo why count
-
--- the text on top, where all items are done
-abbrev pub whole_text : Result Count Cause → Option (List ℕ)
-whole_text (Ok (All stack)) = Some (on_top stack)
-whole_text (Ok (Upto rest stack parts made)) = None
-whole_text (Err why) = None
-
--- how far an expression came
-abbrev pub ComesSo : Result Counted Interrupt → Result Count Cause → Type 0
-ComesSo (Ok (counted.Value value)) count = whole_text count ≡ Some value
-ComesSo (Ok (counted.Waits w)) count =
-    count ≡ Ok (Upto w.counting.0 w.counting.1 (left_in w.awaited).0 (left_in w.awaited).1)
-ComesSo (Err why) count = FailsSo why count

@@ -1,19 +1,11 @@
 -- How far words are made at once: up to a script or an index, which has to be run first.
-use Rattle.std.specs.Prelude.{◌≡◌, ℕ, Bool, false, List, [], ◌∷◌, ◌++◌, Option, Some, None, Result, Ok, Err}
+use Rattle.std.specs.Prelude.{◌≡◌, ℕ, Bool, false, List, [], ◌∷◌, ◌++◌, Some, Result, Ok, Err}
 use Rattle.tks_text.specs.declared.limits.Limits.{Limits}
 use Rattle.tks_parse.specs.Tree.{Words, no_word, word, Parts, no_part, char, variable, element, nested}
-use Rattle.tks_parse.specs.View.{parts_of}
 use Rattle.tks_vars.specs.Variables.{Variables}
 use Rattle.tks_tcl.specs.Cause.{Cause, after}
 use Rattle.tks_eval.specs.Outcome.{appended}
 use Rattle.tks_eval.specs.Evaluation.{with_value, words_in}
-use Rattle.tks_eval.specs.declared.words.Inner.{Inner}
-use Rattle.tks_eval.specs.declared.words.Inner.TheVariants as inner
-use Rattle.tks_eval.specs.declared.frame.Frame.{Frame}
-use Rattle.tks_eval.specs.declared.frame.Frame.TheVariants as frame
-use Rattle.tks_eval.specs.declared.frame.Now.{Now}
-use Rattle.tks_eval.specs.declared.frame.Now.TheVariants as now
-use Rattle.tks_parse.specs.declared.tree.Part.{Part}
 use Rattle.tks_parse.specs.declared.tree.Word.{Word}
 use Rattle.tks_list.specs.Reading.{list_of}
 
@@ -24,21 +16,6 @@ filled limits variables (char c rest) made = after (appended limits made (c ∷ 
 filled limits variables (variable name rest) made = after (with_value limits variables name made) (λ made. filled limits variables rest made)
 filled limits variables (element name index rest) made = Ok (element name index rest, made)
 filled limits variables (nested script rest) made = Ok (nested script rest, made)
-
--- what has to be run, if anything has, and the parts behind it
-abbrev pub left_of : Option Inner → Parts → Parts
-left_of None rest = no_part
-left_of (Some (inner.Index name index)) rest = element name (parts_of index) rest
-left_of (Some (inner.Script script)) rest = nested script rest
-
--- what waits for it, and what is to be run
-abbrev pub waits_for : Inner → List ℕ → List Part → Frame
-waits_for (inner.Index name index) made parts = frame.Element name made parts
-waits_for (inner.Script script) made parts = frame.Nested made parts
-
-abbrev pub runs : Inner → Now
-runs (inner.Index name index) = now.Index index
-runs (inner.Script script) = now.Open script
 
 -- all words; or those before one that was begun, and that one: the parts that are left of it, its text so far, and the
 -- words behind it

@@ -1,10 +1,9 @@
--- What a stack of frames means: each frame is one sequencing of the evaluation, read backwards.
+-- What frames mean: each is one sequencing of the evaluation, read backwards.
 use Rattle.std.specs.Prelude.{◌≡◌, ℕ, Bool, true, false, not, is_some, ◌+◌, ◌*◌, ◌≤◌, ◌<◌, List, [], ◌∷◌, ◌++◌, Option, Some, None, Result, Ok, Err}
 use Rattle.tks_text.specs.declared.limits.Limits.{Limits}
-use Rattle.tks_parse.specs.Tree.{Script, no_command, Words, Parts, no_part, nested, script_size, words_size, parts_size}
-use Rattle.tks_parse.specs.declared.tree.Word.{Word}
+use Rattle.tks_parse.specs.Tree.{Words, script_size, words_size, parts_size}
 use Rattle.tks_parse.specs.Reading.{script_of}
-use Rattle.tks_parse.specs.View.{parts_of, words_of, first_words}
+use Rattle.tks_parse.specs.View.{parts_of, words_of}
 use Rattle.tks_vars.specs.Variables.{Variables}
 use Rattle.tks_tcl.specs.Plain as commands
 use Rattle.tks_tcl.specs.Plain.{plain}
@@ -13,41 +12,31 @@ use Rattle.tks_tcl.specs.Meets.{text_of, AnswersSo}
 use Rattle.tks_eval.specs.Outcome.{Outcome, End, Stopped, Meaning, Next, Level, after, after_body, caught, appended, fails, given}
 use Rattle.tks_expr.specs.declared.items.Item.{Item}
 use Rattle.tks_expr.specs.declared.items.Item.TheVariants as item
-use Rattle.tks_eval.specs.Evaluation.{Loop, loop_does, element_name, with_value, parts_do, words_in, words_do, commands_do, evaluate, control_does, host_does, after_truth, branches_do, catch_ends, each, settled, without_frame, returned, after_script, scripts_do, noted, update_does, plan_does, result_told}
-use Rattle.tks_eval.specs.Filling.{left_of, Stand, All, Upto, words_made}
+use Rattle.tks_eval.specs.Evaluation.{Loop, element_name, with_value, parts_do, words_in, words_do, commands_do, evaluate, after_truth, branches_do, catch_ends, each, settled, without_frame, returned, after_script, scripts_do, noted, update_does, result_told}
+use Rattle.tks_eval.specs.Filling.{Stand, All, Upto, words_made}
 use Rattle.tks_eval.specs.Names.{Control, control_named}
 use Rattle.tks_eval.specs.Names as control
-use Rattle.tks_eval.specs.Counting.{counts_on, left_in}
+use Rattle.tks_eval.specs.Counting.{counts_on}
 use Rattle.tks_eval.specs.Loops.{after_stage}
-use Rattle.tks_eval.specs.Meets.{StopsSo}
+use Rattle.tks_eval.specs.Meets.{FailsSo, StopsSo}
 use Rattle.tks_eval.specs.declared.control.Control.{Control as Coded}
 use Rattle.tks_eval.specs.declared.control.Control.TheVariants as coded
 use Rattle.tks_eval.specs.declared.frame.Frame.{Frame}
 use Rattle.tks_eval.specs.declared.frame.Frame.TheVariants as frame
-use Rattle.tks_eval.specs.declared.expressions.Waits.{Waits}
-use Rattle.tks_eval.specs.declared.expressions.Counted.{Counted}
-use Rattle.tks_eval.specs.declared.expressions.Counted.TheVariants as counted
+use Rattle.tks_eval.specs.declared.expressions.Valued.{Valued}
+use Rattle.tks_eval.specs.declared.expressions.Valued.TheVariants as valued
 use Rattle.tks_eval.specs.declared.loops.Stage.{Stage}
 use Rattle.tks_eval.specs.declared.loops.Stage.TheVariants as stage
-use Rattle.tks_eval.specs.declared.loops.Turn.{Turn}
-use Rattle.tks_eval.specs.declared.loops.Turn.TheVariants as turn
 use Rattle.tks_eval.specs.declared.frame.Ending.{Ending}
-use Rattle.tks_eval.specs.declared.frame.Now.{Now}
-use Rattle.tks_eval.specs.declared.frame.Now.TheVariants.{Open, Index, Counts, Planned, At}
-use Rattle.tks_eval.specs.declared.host.Plan.{Plan}
-use Rattle.tks_eval.specs.declared.host.Plan.TheVariants as plan
+use Rattle.tks_eval.specs.declared.frame.Opens.{Opens}
+use Rattle.tks_eval.specs.declared.frame.Opens.TheVariants as opens
+use Rattle.tks_eval.specs.declared.frame.Waiting.{Waiting}
+use Rattle.tks_eval.specs.declared.frame.Came.{Came}
+use Rattle.tks_eval.specs.declared.frame.Came.TheVariants as came
 use Rattle.tks_eval.specs.declared.machine.Machine.{Machine}
-use Rattle.tks_eval.specs.declared.words.Filled.{Filled}
-use Rattle.tks_eval.specs.declared.words.Filled.TheVariants as filled
-use Rattle.tks_eval.specs.declared.reach.Given.{Given}
-use Rattle.tks_eval.specs.declared.reach.Given.TheVariants as words
-use Rattle.tks_eval.specs.declared.reach.Waiting.{Waiting}
-use Rattle.tks_eval.specs.declared.reach.Reached.{Reached}
-use Rattle.tks_eval.specs.declared.reach.Reached.TheVariants as reached
 use Rattle.tks_eval.specs.declared.halt.Halt.{Halt}
 use Rattle.tks_eval.specs.declared.halt.Halt.TheVariants as halt
 use Rattle.tks_tcl.specs.declared.stop.Stop.{Stop}
-use Rattle.tks_tcl.specs.declared.stop.Stop.TheVariants as stops
 
 -- the command that the code means
 abbrev pub control_of : Coded → Control
@@ -59,11 +48,6 @@ control_of coded.Foreach = control.Foreach
 control_of coded.If = control.If
 control_of coded.Proc = control.Proc
 control_of coded.While = control.While
-
--- the words of a command
-abbrev pub given_words : Given → List (List ℕ)
-given_words (words.Ready texts) = texts.value.items
-given_words (words.Made made) = made
 
 -- the text that an outcome tells
 abbrev pub text_told : {S : Type 0} → Outcome S → List ℕ
@@ -106,11 +90,15 @@ AnswersWords limits variables words code text =
     × (runs_none (words_filled (words_made limits variables words [])) ≡ true)
     × (plain limits (words_filled (words_made limits variables words [])) variables ≡ Some (commands.Answers code text variables))
 
--- what follows on a script in a word
-abbrev pub behind_script : {S : Type 0} → Limits → Level S → Parts → List ℕ → Outcome S → Outcome S
-behind_script limits inner parts made outcome =
-    after outcome (λ text state variables fuel. given limits (appended limits made text) state variables fuel (λ made.
-    parts_do limits inner parts made state variables fuel))
+-- how many scripts may be opened in one another behind a frame
+abbrev pub left_below : ℕ → Frame → ℕ
+left_below left (frame.Commands rest levels) = levels
+left_below left frame = left
+
+-- the same behind frames
+abbrev pub left_behind : ℕ → List Frame → ℕ
+left_behind left [] = left
+left_behind left (frame ∷ below) = left_behind (left_below left frame) below
 
 module _ {S : Type 0} (host : Meaning S) (limits : Limits) where
   -- what a frame makes of the end that it waited for, where so many scripts may yet be opened in one another
@@ -128,135 +116,102 @@ module _ {S : Type 0} (host : Meaning S) (limits : Limits) where
   after_frame left (frame.Catch name) outcome = caught outcome (catch_ends limits name)
   after_frame left (frame.Each name body elements) outcome = after_body outcome (each limits (evaluate host limits left) name body elements)
   after_frame left (frame.Value c) outcome = counts_on limits (evaluate host limits left) c outcome
-  after_frame left (frame.Operand c) outcome =
-      counts_on limits (evaluate host limits left) c (behind_script limits (evaluate host limits left) no_part [] outcome)
   after_frame left frame.Whole outcome = result_told limits outcome
   after_frame left (frame.Branch body rest) outcome =
       after_truth limits outcome (evaluate host limits left (script_of body)) (branches_do limits (evaluate host limits left) rest.otherwise rest.tests)
   after_frame left (frame.Turns stage loop) outcome = after_stage limits (evaluate host limits left) stage loop outcome
-  after_frame left (frame.Procedure levels) outcome = settled limits (without_frame outcome)
-  after_frame left (frame.Global levels) outcome = returned (without_frame outcome)
-  after_frame left (frame.Scripts window scripts levels) outcome = after_script host (without_frame outcome) (scripts_do host (evaluate host limits left) window scripts)
+  after_frame left frame.Procedure outcome = settled limits (without_frame outcome)
+  after_frame left frame.Global outcome = returned (without_frame outcome)
+  after_frame left (frame.Scripts window scripts) outcome = after_script host (without_frame outcome) (scripts_do host (evaluate host limits left) window scripts)
   after_frame left frame.Thing outcome = noted host (settled limits outcome)
-  after_frame left (frame.Update due levels) outcome = caught outcome (λ code text. update_does host limits (evaluate host limits left) due)
-
-  -- how many scripts may be opened in one another behind a frame
-  abbrev pub left_below : ℕ → Frame → ℕ
-  left_below left (frame.Commands rest levels) = levels
-  left_below left (frame.Procedure levels) = levels
-  left_below left (frame.Global levels) = levels
-  left_below left (frame.Scripts window scripts levels) = levels
-  left_below left (frame.Update due levels) = levels
-  left_below left frame = left
+  after_frame left (frame.Update due) outcome = caught outcome (λ code text. update_does host limits (evaluate host limits left) due)
 
   -- what comes of an end on top of a stack
   abbrev pub resume : ℕ → List Frame → Outcome S → Outcome S
   resume left [] outcome = outcome
   resume left (frame ∷ below) outcome = resume (left_below left frame) below (after_frame left frame outcome)
 
-  -- an expression that waits
-  abbrev pub waits_do : ℕ → Waits → Next S
-  waits_do left w state variables fuel =
-      counts_on limits (evaluate host limits left) w.counting
-      (parts_do limits (evaluate host limits left) (left_in w.awaited).0 (left_in w.awaited).1 state variables fuel)
+  -- what is to be opened
+  abbrev pub opens_do : ℕ → Opens → Next S
+  opens_do left (opens.Script script) = evaluate host limits left script
+  opens_do left (opens.Index parts) = parts_do limits (evaluate host limits left) (parts_of parts) []
+  opens_do left (opens.Things due) = update_does host limits (evaluate host limits left) due
 
-  -- the end on top
-  abbrev pub outcome_now : ℕ → Now → Next S
-  outcome_now left (Open script) state variables fuel = evaluate host limits left script state variables fuel
-  outcome_now left (Index parts) state variables fuel = parts_do limits (evaluate host limits left) (parts_of parts) [] state variables fuel
-  outcome_now left (Counts w) state variables fuel = waits_do left w.value state variables fuel
-  outcome_now left (Planned p) state variables fuel = plan_does host limits (evaluate host limits left) p state variables fuel
-  outcome_now left (At ended) state variables fuel = End ended.code ended.text state variables fuel
+  -- what waits
+  abbrev pub waits_do : ℕ → Waiting → Next S
+  waits_do left w state variables fuel = resume left w.frames.items (opens_do left w.opens state variables fuel)
 
-  -- the machine goes on to this outcome of the whole
-  abbrev pub GoesSo : Outcome S → Result Now Halt → Machine → S → Variables → Type 0
-  GoesSo whole (Ok now) m state variables = whole ≡ resume m.left m.stack (outcome_now m.left now state variables m.fuel)
-  GoesSo whole (Err (halt.Fault fault)) m state variables = whole ≡ resume m.left m.stack (fails limits fault state variables m.fuel)
-  GoesSo whole (Err (halt.Stop why)) m state variables = StopsSo whole why
+-- a thing, the result of which is told
+abbrev pub told_by : {S : Type 0} → Limits → Next S → Next S
+told_by limits thing state variables fuel = result_told limits (thing state variables fuel)
 
-  -- there is nothing to go on with
-  abbrev pub HaltsSo : Outcome S → Halt → S → Variables → ℕ → Type 0
-  HaltsSo whole (halt.Fault fault) state variables fuel = whole ≡ fails limits fault state variables fuel
-  HaltsSo whole (halt.Stop why) state variables fuel = StopsSo whole why
+-- a stop, as what there is nothing to go on with
+abbrev pub halted : Result Came Stop → Result Came Halt
+halted (Ok c) = Ok c
+halted (Err why) = Err (halt.Stop why)
 
-  -- how far an expression came at once
-  abbrev pub CountsSo : ℕ → Outcome S → Result Counted Halt → S → Variables → ℕ → Type 0
-  CountsSo left whole (Ok (counted.Value value)) state variables fuel = whole ≡ End 0 value state variables fuel
-  CountsSo left whole (Ok (counted.Waits w)) state variables fuel = whole ≡ waits_do left w state variables fuel
-  CountsSo left whole (Err why) state variables fuel = HaltsSo whole why state variables fuel
+-- the same, where an error is an end
+abbrev pub ToldSo : Limits → Result Came Halt → Result Came Stop → Type 0
+ToldSo limits (Ok c) (Ok told) = told ≡ c
+ToldSo limits (Ok c) (Err why) = ⊥
+ToldSo limits (Err (halt.Fault fault)) (Ok (came.Ended end)) = FailsSo limits fault (Ok end)
+ToldSo limits (Err (halt.Fault fault)) (Ok (came.Waits w)) = ⊥
+ToldSo limits (Err (halt.Fault fault)) (Err why) = FailsSo limits fault (Err why)
+ToldSo limits (Err (halt.Stop why)) (Ok told) = ⊥
+ToldSo limits (Err (halt.Stop why)) (Err told) = told ≡ why
 
-  -- how far a word was made at once
-  abbrev pub FillsSo : ℕ → Outcome S → Result Filled Halt → S → Variables → ℕ → Type 0
-  FillsSo left whole (Ok (filled.Ended end)) state variables fuel = whole ≡ End end.code end.text state variables fuel
-  FillsSo left whole (Ok (filled.Waits made inner parts)) state variables fuel =
-      whole ≡ parts_do limits (evaluate host limits left) (left_of (Some inner) (parts_of parts)) made state variables fuel
-  FillsSo left whole (Err why) state variables fuel = HaltsSo whole why state variables fuel
+-- scripts, where as many may be opened in one another as a machine has left
+abbrev pub level_of : {S : Type 0} → Meaning S → Machine → Level S
+level_of host m = evaluate host m.limits m.left
 
-  -- a command that runs scripts, behind its step
-  abbrev pub control_called : Level S → Control → List (List ℕ) → Next S
-  control_called inner c [] state variables fuel = End 0 [] state variables fuel
-  control_called inner c (first ∷ words) state variables fuel = control_does host limits inner c first words state variables fuel
+-- an end, as what is done
+abbrev pub ended : {S : Type 0} → Ending → Next S
+ended end state variables fuel = End end.code end.text state variables fuel
 
-  -- a command of the host, or a procedure, behind its step
-  abbrev pub called : Level S → List (List ℕ) → Next S
-  called inner [] state variables fuel = End 0 [] state variables fuel
-  called inner (first ∷ words) state variables fuel =
-      host_does host limits inner first words (host.commands state variables (first ∷ words)) state variables fuel
+-- what is done in a state, with a machine's variables and its steps
+abbrev pub done_by : {S : Type 0} → Next S → S → Machine → Outcome S
+done_by thing state m = thing state m.variables m.fuel
 
-  -- a command, one of whose words waits
-  abbrev pub waiting_does : ℕ → Waiting → Next S
-  waiting_does left w state variables fuel =
-      after_frame left (frame.Command w.words w.expand w.rest)
-      (parts_do limits (evaluate host limits left) (left_of (Some w.inner) (parts_of w.parts)) w.made state variables fuel)
+module _ {S : Type 0} (host : Meaning S) where
+  -- how far a thing came, behind which so many scripts may be open. Where the text of an end by code 0 isn't asked for, another
+  -- one may stand for it
+  abbrev pub CameSo : Bool → ℕ → Outcome S → Came → Machine → S → Type 0
+  CameSo asked below whole (came.Ended end) m state = EndsAs asked whole end state m.variables m.fuel × (m.left ≡ below)
+  CameSo asked below whole (came.Waits w) m state =
+      (whole ≡ done_by (waits_do host m.limits m.left w.value) state m) × (left_behind m.left w.value.frames.items ≡ below)
 
-  -- what comes of a command that came so far
-  abbrev pub reached_does : ℕ → Reached → Next S
-  reached_does left (reached.Ended end) state variables fuel = End end.code end.text state variables fuel
-  reached_does left (reached.Opens script) state variables fuel = evaluate host limits left script state variables fuel
-  reached_does left (reached.Runs c given) state variables fuel = control_called (evaluate host limits left) (control_of c) (given_words given) state variables fuel
-  reached_does left (reached.Counts w) state variables fuel = result_told limits (waits_do left w.value state variables fuel)
-  reached_does left (reached.Calls given) state variables fuel = called (evaluate host limits left) (given_words given) state variables fuel
-  reached_does left (reached.Waits w) state variables fuel = waiting_does left w.value state variables fuel
+  -- the same of what no error ends
+  abbrev pub RunsSo : Bool → ℕ → Outcome S → Result Came Stop → Machine → S → Type 0
+  RunsSo asked below whole (Ok c) m state = CameSo asked below whole c m state
+  RunsSo asked below whole (Err why) m state = StopsSo whole why
 
-  -- how far a command came at once; where its text isn't asked for, another one may stand for that of an end by code 0
-  abbrev pub ReachesAs : Bool → ℕ → Outcome S → Reached → S → Variables → ℕ → Type 0
-  ReachesAs asked left whole (reached.Ended end) state variables fuel = EndsAs asked whole end state variables fuel
-  ReachesAs asked left whole came state variables fuel = whole ≡ reached_does left came state variables fuel
+  -- the same of what an error may end
+  abbrev pub ComesSo : Bool → ℕ → Outcome S → Result Came Halt → Machine → S → Type 0
+  ComesSo asked below whole (Ok c) m state = CameSo asked below whole c m state
+  ComesSo asked below whole (Err (halt.Fault fault)) m state = (whole ≡ fails m.limits fault state m.variables m.fuel) × (m.left ≡ below)
+  ComesSo asked below whole (Err (halt.Stop why)) m state = StopsSo whole why
 
-  -- the same, or there is nothing to go on with
-  abbrev pub ReachesSo : Bool → ℕ → Outcome S → Result Reached Halt → S → Variables → ℕ → Type 0
-  ReachesSo asked left whole (Ok came) state variables fuel = ReachesAs asked left whole came state variables fuel
-  ReachesSo asked left whole (Err why) state variables fuel = HaltsSo whole why state variables fuel
+  -- the same, behind which as many scripts may be open as before
+  abbrev pub DoesSo : Bool → Next S → S → Machine → Result Came Halt → S → Machine → Type 0
+  DoesSo asked thing state old result state' new = ComesSo asked old.left (done_by thing state old) result new state'
 
-  -- how far the commands of a script came at once, and what is behind them
-  abbrev pub RunsSo : ℕ → Outcome S → Result Reached Halt → Script → S → Variables → ℕ → Type 0
-  RunsSo left whole (Ok came) rest state variables fuel =
-      whole ≡ after (reached_does left came state variables fuel) (commands_do host limits (evaluate host limits left) rest)
-  RunsSo left whole (Err why) rest state variables fuel = HaltsSo whole why state variables fuel
+  -- how far an expression came
+  abbrev pub ValuedSo : ℕ → Outcome S → Result Valued Halt → Machine → S → Type 0
+  ValuedSo below whole (Ok (valued.Value value)) m state = (whole ≡ End 0 value state m.variables m.fuel) × (m.left ≡ below)
+  ValuedSo below whole (Ok (valued.Ended end)) m state =
+      (whole ≡ End end.code end.text state m.variables m.fuel) × (end.code ≡ 0 → ⊥) × (m.left ≡ below)
+  ValuedSo below whole (Ok (valued.Waits w)) m state =
+      (whole ≡ done_by (waits_do host m.limits m.left w.value) state m) × (left_behind m.left w.value.frames.items ≡ below)
+  ValuedSo below whole (Err (halt.Fault fault)) m state = (whole ≡ fails m.limits fault state m.variables m.fuel) × (m.left ≡ below)
+  ValuedSo below whole (Err (halt.Stop why)) m state = StopsSo whole why
 
-  -- how far a turn of a loop came at once, and what is left of the loop
-  abbrev pub TurnsSo : ℕ → Loop → Outcome S → Result Turn Halt → S → Variables → ℕ → Type 0
-  TurnsSo left loop whole (Ok turn.Again) state variables fuel = whole ≡ loop_does limits (evaluate host limits left) loop state variables fuel
-  TurnsSo left loop whole (Ok (turn.Ended end)) state variables fuel = whole ≡ End end.code end.text state variables fuel
-  TurnsSo left loop whole (Ok (turn.Waits stage now)) state variables fuel =
-      whole ≡ after_stage limits (evaluate host limits left) stage loop (outcome_now left now state variables fuel)
-  TurnsSo left loop whole (Err (halt.Fault fault)) state variables fuel = whole ≡ fails limits fault state variables fuel
-  TurnsSo left loop whole (Err (halt.Stop why)) state variables fuel = StopsSo whole why
-
--- how far the turn of a `foreach` came at once that has these elements behind it
-abbrev pub TakesElement : {S : Type 0} → Level S → List ℕ → List ℕ → List (List ℕ) → Limits → Outcome S → Result (Option Ending) Halt → S → Variables → ℕ → Type 0
-TakesElement inner name body items limits whole (Ok None) state variables fuel =
-    whole ≡ after_body (inner (script_of body) state variables fuel) (each limits inner name body items)
-TakesElement inner name body items limits whole (Ok (Some end)) state variables fuel =
-    whole ≡ after_body (End end.code end.text state variables fuel) (each limits inner name body items)
-TakesElement inner name body items limits whole (Err (halt.Fault fault)) state variables fuel = whole ≡ fails limits fault state variables fuel
-TakesElement inner name body items limits whole (Err (halt.Stop why)) state variables fuel = StopsSo whole why
-
--- what is left of a script on a stack: where nothing is left of it, a call on top restores the levels by itself
-abbrev pub waits_behind : Script → ℕ → List Frame → List Frame
-waits_behind no_command levels (frame.Procedure k ∷ below) = frame.Procedure k ∷ below
-waits_behind no_command levels (frame.Global k ∷ below) = frame.Global k ∷ below
-waits_behind rest levels stack = frame.Commands rest levels ∷ stack
+  -- how far a thing came, before a stack
+  abbrev pub GoesSo : Outcome S → List Frame → Result Came Halt → Machine → S → Type 0
+  GoesSo whole stack (Ok (came.Ended end)) m state = whole ≡ resume host m.limits m.left stack (done_by (ended end) state m)
+  GoesSo whole stack (Ok (came.Waits w)) m state =
+      whole ≡ resume host m.limits m.left (w.value.frames.items ++ stack) (done_by (opens_do host m.limits m.left w.value.opens) state m)
+  GoesSo whole stack (Err (halt.Fault fault)) m state = whole ≡ resume host m.limits m.left stack (done_by (fails m.limits fault) state m)
+  GoesSo whole stack (Err (halt.Stop why)) m state = StopsSo whole why
 
 -- ---- what is left to do before the next step
 
@@ -264,9 +219,6 @@ abbrev pub items_weight : List Item → ℕ
 items_weight [] = 0
 items_weight (item.Make parts ∷ rest) = 4 * parts_size parts + 3 + items_weight rest
 items_weight (i ∷ rest) = items_weight rest
-
-abbrev pub waits_weight : Waits → ℕ
-waits_weight w = items_weight w.counting.0 + 4 * parts_size (left_in w.awaited).0 + 2
 
 abbrev pub text_weight : List ℕ → ℕ
 text_weight text = 4 * script_size (script_of text) + 2
@@ -283,7 +235,6 @@ loop_weight stage.Next loop = 1
 
 abbrev pub frame_weight : Frame → ℕ
 frame_weight (frame.Value c) = items_weight c.0 + 1
-frame_weight (frame.Operand c) = items_weight c.0 + 2
 frame_weight frame.Whole = 1
 frame_weight (frame.Branch body rest) = text_weight body + optional_weight rest.otherwise + 1
 frame_weight (frame.Turns stage loop) = loop_weight stage loop
@@ -293,115 +244,39 @@ frame_weight (frame.Nested made parts) = 4 * parts_size (parts_of parts) + 2
 frame_weight (frame.Element name made parts) = 4 * parts_size (parts_of parts) + 2
 frame_weight (frame.Catch name) = 1
 frame_weight (frame.Each name body elements) = 1
-frame_weight (frame.Procedure levels) = 1
-frame_weight (frame.Global levels) = 1
-frame_weight (frame.Scripts window scripts levels) = 1
+frame_weight frame.Procedure = 1
+frame_weight frame.Global = 1
+frame_weight (frame.Scripts window scripts) = 1
 frame_weight frame.Thing = 1
-frame_weight (frame.Update due levels) = 1
+frame_weight (frame.Update due) = 1
 
-abbrev pub stack_weight : List Frame → ℕ
-stack_weight [] = 0
-stack_weight (frame ∷ below) = frame_weight frame + stack_weight below
+abbrev pub frames_weight : List Frame → ℕ
+frames_weight [] = 0
+frames_weight (frame ∷ below) = frame_weight frame + frames_weight below
 
-abbrev pub plan_weight : Plan → ℕ
-plan_weight (plan.Answer code text) = 1
-plan_weight (plan.Eval script) = text_weight script + 2
-plan_weight (plan.Dispatch window scripts) = 1
-plan_weight (plan.Update due) = 1
+abbrev pub opens_weight : Opens → ℕ
+opens_weight (opens.Script script) = 4 * script_size script + 2
+opens_weight (opens.Index parts) = 4 * parts_size (parts_of parts) + 1
+opens_weight (opens.Things due) = 1
 
-abbrev pub now_weight : Now → ℕ
-now_weight (Open script) = 4 * script_size script + 2
-now_weight (Index parts) = 4 * parts_size (parts_of parts) + 1
-now_weight (Counts w) = waits_weight w.value
-now_weight (Planned p) = plan_weight p
-now_weight (At ended) = 0
+abbrev pub waits_weight : Waiting → ℕ
+waits_weight w = opens_weight w.opens + frames_weight w.frames.items
 
-abbrev pub result_weight : Result Now Halt → ℕ
-result_weight (Ok now) = now_weight now
-result_weight (Err why) = 0
+-- a step was taken, or no more is left of what waits than this
+abbrev pub FallsTo : {E : Type 0} → Result Came E → ℕ → ℕ → ℕ → Type 0
+FallsTo (Ok (came.Ended end)) size old new = new ≤ old
+FallsTo (Ok (came.Waits w)) size old new = (new ≤ old) × (new ≡ old → waits_weight w.value ≤ size)
+FallsTo (Err why) size old new = new ≤ old
 
--- a step was taken, or less is left than this on top of the old stack
-abbrev pub Falls : Result Now Halt → ℕ → Machine → Machine → Type 0
-Falls result weight old new =
-    (new.fuel ≤ old.fuel) × (new.fuel ≡ old.fuel → result_weight result + stack_weight new.stack < weight + stack_weight old.stack)
+-- the same of an expression
+abbrev pub ValueFallsTo : {E : Type 0} → Result Valued E → ℕ → ℕ → ℕ → Type 0
+ValueFallsTo (Ok (valued.Value value)) size old new = new ≤ old
+ValueFallsTo (Ok (valued.Ended end)) size old new = new ≤ old
+ValueFallsTo (Ok (valued.Waits w)) size old new = (new ≤ old) × (new ≡ old → waits_weight w.value ≤ size)
+ValueFallsTo (Err why) size old new = new ≤ old
 
--- less is left of an expression that waits than there was
-abbrev pub CountFalls : Result Counted Halt → List Item × List (List ℕ) → Type 0
-CountFalls (Ok (counted.Value value)) c = Unit {0}
-CountFalls (Ok (counted.Waits w)) c = waits_weight w < items_weight c.0 + 1
-CountFalls (Err why) c = Unit {0}
-
--- a step was taken while a word was made, or no more is left of it than this
-abbrev pub FillFalls : Result Filled Halt → ℕ → ℕ → ℕ → Type 0
-FillFalls (Ok (filled.Ended end)) size old new = new ≤ old
-FillFalls (Ok (filled.Waits made inner parts)) size old new = (new ≤ old) × (new ≡ old → parts_size (left_of (Some inner) (parts_of parts)) ≤ size)
-FillFalls (Err why) size old new = new ≤ old
-
--- what is left of a command that waits
-abbrev pub waiting_weight : Waiting → ℕ
-waiting_weight w = 4 * parts_size (left_of (Some w.inner) (parts_of w.parts)) + 4 * words_size (words_of w.rest) + 2
-
--- a command waits for a script in its next word, which makes all of that; or memory is wanting
-abbrev pub WaitsAt : List (List ℕ) → List Word → Script → Result Reached Halt → Type 0
-WaitsAt words rest script (Ok (reached.Waits w)) =
-    (w.value.words ≡ words) × (w.value.expand ≡ false) × (w.value.rest ≡ rest) × (w.value.made ≡ [])
-    × (left_of (Some w.value.inner) (parts_of w.value.parts) ≡ nested script no_part)
-WaitsAt words rest script (Ok came) = ⊥
-WaitsAt words rest script (Err why) = why ≡ halt.Stop stops.NoMemory
-
--- a step was taken, or no more is left of a command than of words of this size
-abbrev pub ReachFalls : Result Reached Halt → ℕ → ℕ → ℕ → Type 0
-ReachFalls (Ok (reached.Ended end)) size old new = new ≤ old
-ReachFalls (Ok (reached.Opens script)) size old new = new < old
-ReachFalls (Ok (reached.Runs c given)) size old new = new < old
-ReachFalls (Ok (reached.Counts w)) size old new = new < old
-ReachFalls (Ok (reached.Calls given)) size old new = new < old
-ReachFalls (Ok (reached.Waits w)) size old new = (new ≤ old) × (new ≡ old → waiting_weight w.value ≤ 4 * size)
-ReachFalls (Err why) size old new = new ≤ old
-
--- a step was taken, or less is left of the commands of a script, which had this size and have that one behind these
-abbrev pub RunFalls : Result Reached Halt → ℕ → ℕ → ℕ → ℕ → Type 0
-RunFalls (Ok (reached.Ended end)) size behind old new = new ≤ old
-RunFalls (Ok (reached.Opens script)) size behind old new = new < old
-RunFalls (Ok (reached.Runs c given)) size behind old new = new < old
-RunFalls (Ok (reached.Counts w)) size behind old new = new < old
-RunFalls (Ok (reached.Calls given)) size behind old new = new < old
-RunFalls (Ok (reached.Waits w)) size behind old new = (new ≤ old) × (new ≡ old → waiting_weight w.value + 4 * behind ≤ 4 * size)
-RunFalls (Err why) size behind old new = new ≤ old
-
--- commands that ended well have none behind them
-abbrev pub IsDone : Result Reached Halt → Script → Type 0
-IsDone (Ok (reached.Ended end)) rest = end.code ≡ 0 → first_words rest ≡ None
-IsDone (Ok (reached.Opens script)) rest = Unit {0}
-IsDone (Ok (reached.Runs c given)) rest = Unit {0}
-IsDone (Ok (reached.Counts w)) rest = Unit {0}
-IsDone (Ok (reached.Calls given)) rest = Unit {0}
-IsDone (Ok (reached.Waits w)) rest = Unit {0}
-IsDone (Err why) rest = Unit {0}
-
--- a command that didn't end
-abbrev pub IsBegun : Reached → Type 0
-IsBegun (reached.Ended end) = ⊥
-IsBegun (reached.Opens script) = Unit {0}
-IsBegun (reached.Runs c given) = Unit {0}
-IsBegun (reached.Counts w) = Unit {0}
-IsBegun (reached.Calls given) = Unit {0}
-IsBegun (reached.Waits w) = Unit {0}
-
--- less is left of a command that ended or waits; of another one the step was taken
-abbrev pub GoesOn : Reached → Result Now Halt → Machine → Machine → Type 0
-GoesOn (reached.Ended end) result old new = Falls result 1 old new
-GoesOn (reached.Opens script) result old new = new.fuel ≤ old.fuel
-GoesOn (reached.Runs c given) result old new = new.fuel ≤ old.fuel
-GoesOn (reached.Counts w) result old new = new.fuel ≤ old.fuel
-GoesOn (reached.Calls given) result old new = new.fuel ≤ old.fuel
-GoesOn (reached.Waits w) result old new = Falls result (waiting_weight w.value) old new
-
--- the same before what is left of a script, which weighs so much
-abbrev pub GoesBefore : Reached → ℕ → Result Now Halt → Machine → Machine → Type 0
-GoesBefore (reached.Ended end) weight result old new = ⊥
-GoesBefore (reached.Opens script) weight result old new = new.fuel ≤ old.fuel
-GoesBefore (reached.Runs c given) weight result old new = new.fuel ≤ old.fuel
-GoesBefore (reached.Counts w) weight result old new = new.fuel ≤ old.fuel
-GoesBefore (reached.Calls given) weight result old new = new.fuel ≤ old.fuel
-GoesBefore (reached.Waits w) weight result old new = Falls result (waiting_weight w.value + weight) old new
+-- a step was taken, or less is left of what waits than this
+abbrev pub FallsBelow : {E : Type 0} → Result Came E → ℕ → ℕ → ℕ → Type 0
+FallsBelow (Ok (came.Ended end)) size old new = new ≤ old
+FallsBelow (Ok (came.Waits w)) size old new = (new ≤ old) × (new ≡ old → waits_weight w.value < size)
+FallsBelow (Err why) size old new = new ≤ old

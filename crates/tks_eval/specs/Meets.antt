@@ -1,13 +1,11 @@
 -- What the code's answers say of the definitions.
-use Rattle.std.specs.Prelude.{◌≡◌, ◌≤◌, ℕ, suc, true, false, List, Option, Some, None, Result, Ok, Err}
+use Rattle.std.specs.Prelude.{◌≡◌, ℕ, suc, true, false, Option, Some, None, Result, Ok, Err}
 use Rattle.tks_text.specs.Fault.{fault_text}
 use Rattle.tks_text.specs.declared.fault.ScriptFault.{ScriptFault}
 use Rattle.tks_text.specs.declared.limits.Limits.{Limits}
 use Rattle.tks_text.specs.declared.fault.Failure.{Failure}
 use Rattle.tks_text.specs.declared.fault.Failure.TheVariants as failure
 use Rattle.tks_vars.specs.Variables.{Variables}
-use Rattle.tks_expr.specs.declared.items.Item.{Item}
-use Rattle.tks_expr.specs.declared.items.Items.{Items}
 use Rattle.tks_tcl.specs.declared.interrupt.Interrupt.{Interrupt}
 use Rattle.tks_tcl.specs.declared.interrupt.Interrupt.TheVariants as interrupt
 use Rattle.tks_tcl.specs.declared.stop.Stop.{Stop}
@@ -87,11 +85,3 @@ abbrev pub TakesStep : Result (Unit {0}) Stop → ℕ → ℕ → Type 0
 TakesStep (Ok done) old new = old ≡ suc new
 TakesStep (Err stop.Budget) old new = (old ≡ 0) × (new ≡ 0)
 TakesStep (Err why) old new = ⊥
-
--- a step is taken, and then a condition is read
-abbrev pub ReadsSo : Result (List Item) ScriptFault → Result Items Halt → ℕ → ℕ → Type 0
-ReadsSo read (Ok items) old new = (old ≡ suc new) × (read ≡ Ok items)
-ReadsSo read (Err (halt.Fault fault)) old new = (old ≡ suc new) × (read ≡ Err fault)
-ReadsSo read (Err (halt.Stop stop.Budget)) old new = (old ≡ 0) × (new ≡ 0)
-ReadsSo read (Err (halt.Stop stop.NoMemory)) old new = new ≤ old
-ReadsSo read (Err (halt.Stop why)) old new = ⊥

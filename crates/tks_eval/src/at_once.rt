@@ -1,107 +1,23 @@
-//! Scripts of one command that runs no script. They are run where they stand, without a frame.
-ghost use Rattle.std.specs.Prelude.{◌≡◌, ◌<◌, ◌≤◌, ◌-◌, suc, true, [], IfSome, IfNone, Ok, Some, option_map};
+//! Commands whose words are lent, and those that run no script.
+ghost use Rattle.std.specs.Prelude.{◌≡◌, true, IfSome, Some, option_map};
 ghost use Rattle.tks_list.specs.Reading.{list_of};
-ghost use Rattle.tks_parse.specs.Tree as tree;
-ghost use Rattle.tks_parse.specs.View.{words_of, words_of_command};
-ghost use Rattle.tks_eval.specs.Outcome.{End};
-ghost use Rattle.tks_eval.specs.Evaluation.{evaluate, words_do, call};
-ghost use Rattle.tks_eval.specs.Filling.{All, words_made, IsWord, IsListWord};
-ghost use Rattle.tks_eval.specs.Machine.{EndsAs, AnswersAs, PlainlySo, AnswersWords};
+ghost use Rattle.tks_parse.specs.View.{words_of};
+ghost use Rattle.tks_eval.specs.Filling.{IsWord, IsListWord};
+ghost use Rattle.tks_eval.specs.Machine.{PlainlySo, AnswersWords};
 ghost use Rattle.tks_tcl.specs.Plain.{plain};
 
-use crate::commands::all_fit;
-use crate::control::Control;
-use crate::expressions::scalar;
 use crate::frame::Ending;
-use crate::host::Host;
-use crate::machine::Machine;
-use crate::reach::Reached;
-use crate::words::{add_words, fill_up, stands};
+use crate::words::lent;
 use std::alloc::Global;
 use tks_list::{Elements, LEAST_KEPT, read};
-use tks_parse::{Command, Part, Script, Word};
+use tks_parse::{Part, Word};
 use tks_share::Shared;
 use tks_tcl::{
-    ListTable, Quiet, Stop, is_built_in, is_word, lindex_answer, llength_answer, lrange_answer,
-    plain, plain_quietly, return_answer,
+    ListTable, Quiet, Stop, is_word, lindex_answer, llength_answer, lrange_answer, plain,
+    plain_quietly, return_answer,
 };
-use tks_text::{Limits, Seq, Txt, fits};
+use tks_text::{Limits, Txt};
 use tks_vars::Vars;
-
-// Adds what a word stands for, where nothing in it has to be run. Where something refuses, some of it may be there.
-fn add_word(
-    alloc: Global,
-    words: &mut Seq<Txt>,
-    word: &Word,
-    variables: &Vars,
-    limits: &Limits,
-) -> Option<()>
-    ensures { IfSome result (λ _. (rest : tree.Words) → words_made limits.now variables.now (tree.word word.now.expand word.now.parts rest) words.old ≡ words_made limits.now variables.now rest words.new) }
-{
-    let Ok(mut parts) = word.parts.remaining() else {
-        return None;
-    };
-    let mut text = Txt::new(alloc);
-    let Ok(None) = fill_up(&mut text, &mut parts, variables, limits) else {
-        return None;
-    };
-    let Ok(()) = add_words(alloc, words, word.expand, text) else {
-        return None;
-    };
-    Some(())
-}
-
-// Whether a command may be one that runs no script, or an `expr`. It is asked first, so that no word of a procedure's call is made
-// in vain.
-fn may_be_plain(command: &Word) -> bool {
-    match command.parts.as_slice() {
-        [Part::Text(name)] => is_built_in(name),
-        _ => true,
-    }
-}
-
-// The words of a command that runs no script, where all are made at once.
-fn words_at_once(
-    alloc: Global,
-    words: &[Word],
-    variables: &Vars,
-    limits: &Limits,
-) -> Option<Seq<Txt>>
-    ensures { IfSome result (λ made. words_made limits.now variables.now (words_of words.now) [] ≡ Ok (All made)) }
-{
-    let may_be_made = words.first().is_some_and(may_be_plain);
-    if !may_be_made || !words.iter().all(|word| stands(&word.parts)) {
-        return None;
-    }
-    let mut made = Seq::new(alloc);
-    let mut rest = words;
-    'word: while let Some((word, behind)) = rest.split_first() {
-        add_word(alloc, &mut made, word, variables, limits)?;
-        rest = behind;
-    }
-    Some(made)
-}
-
-/// The text that a word is, where it lies: its characters, or a variable's value.
-#[tactic(auto, using(crate::proofs::Lent::filled_one))]
-pub fn lent<'a>(word: &'a Word, variables: &'a Vars, limits: &Limits) -> Option<&'a Txt>
-    ensures { IfSome result (λ t. IsWord limits.now variables.now word.now t.now) }
-{
-    if word.expand {
-        return None;
-    }
-    let [part] = word.parts.as_slice() else {
-        return None;
-    };
-    match part {
-        Part::Text(text) if fits(text, limits) => Some(text),
-        Part::Variable(name, None) => match scalar(name, variables, limits) {
-            Ok(value) => Some(value),
-            Err(_) => None,
-        },
-        _ => None,
-    }
-}
 
 // The list that a text splits into.
 fn list_in(alloc: Global, text: &Txt) -> Option<Shared<Elements>>
@@ -285,143 +201,5 @@ pub fn plain_end(
         None => Ok(None),
         Some(Quiet::Done) => Ok(Some(Ending::silent(alloc))),
         Some(Quiet::Ended(code, text)) => Ok(Some(Ending { code, text })),
-    }
-}
-
-// The same. Nothing where something refuses.
-fn plain_at_once(
-    alloc: Global,
-    lists: &mut ListTable,
-    variables: &mut Vars,
-    words: &[Txt],
-    asked: bool,
-    limits: &Limits,
-) -> Option<Ending>
-    ensures some { IfSome result (λ end. AnswersAs asked (plain limits.now words.now variables.old) end variables.new) }
-    ensures none { IfNone result (variables.new ≡ variables.old) }
-{
-    match plain_end(alloc, lists, variables, words, asked, limits) {
-        Ok(end) => end,
-        Err(_) => None,
-    }
-}
-
-impl Machine {
-    // The end of a command of these words, behind its step, where it runs no script.
-    fn command_at_once<H: Host>(
-        &mut self,
-        alloc: Global,
-        host: &H,
-        variables: &mut Vars,
-        words: &[Txt],
-        asked: bool,
-        limits: &Limits,
-    ) -> Option<Ending>
-        ensures some { IfSome result (λ end. EndsAs asked (call H.meaning limits.now (evaluate H.meaning limits.now self.old.left) words.now (H.state host.now) variables.old (suc self.old.fuel)) end (H.state host.now) variables.new self.old.fuel) }
-        ensures none { IfNone result (variables.new ≡ variables.old) }
-        ensures kept { self.new ≡ self.old }
-    {
-        let (command, rest) = words.split_first()?;
-        match Control::named(command) {
-            Some(Control::Expr) => {
-                match self.reach_expr(alloc, host, variables, command, rest, limits)? {
-                    Reached::Ended(end) => Some(end),
-                    _ => None,
-                }
-            }
-            Some(_) => None,
-            None => plain_at_once(alloc, self.table.lists(), variables, words, asked, limits),
-        }
-    }
-
-    // The end of a script's only command, behind its step, where it runs no script.
-    fn only_command_at_once<H: Host>(
-        &mut self,
-        alloc: Global,
-        host: &H,
-        variables: &mut Vars,
-        command: &Command,
-        asked: bool,
-        limits: &Limits,
-    ) -> Option<Ending>
-        ensures some { IfSome result (λ end. EndsAs asked (words_do H.meaning limits.now (evaluate H.meaning limits.now self.old.left) (words_of_command command.now) [] (H.state host.now) variables.old (suc self.old.fuel)) end (H.state host.now) variables.new self.old.fuel) }
-        ensures none { IfNone result (variables.new ≡ variables.old) }
-        ensures kept { self.new ≡ self.old }
-    {
-        match command {
-            Command::Ready(words) => {
-                let words = words.as_ref().as_slice();
-                if !all_fit(words, limits) {
-                    return None;
-                }
-                self.command_at_once(alloc, host, variables, words, asked, limits)
-            }
-            Command::Made(words) => {
-                let given = words.as_ref().as_slice();
-                if let Some(end) = answer_at_once(alloc, given, variables, limits) {
-                    return Some(end);
-                }
-                let words = words_at_once(alloc, given, variables, limits)?;
-                self.command_at_once(alloc, host, variables, words.as_slice(), asked, limits)
-            }
-        }
-    }
-
-    /// Runs a script at once, where it has one command, which runs no script. None where that can't be, or where something
-    /// refuses: nothing is changed then, and the script is to be opened. Where the text of an end by code 0 isn't asked for,
-    /// it may be another than the script's.
-    pub fn run_at_once<H: Host>(
-        &mut self,
-        alloc: Global,
-        host: &H,
-        variables: &mut Vars,
-        script: &Script,
-        asked: bool,
-        limits: &Limits,
-    ) -> Option<Ending>
-        ensures some { IfSome result (λ end. EndsAs asked (evaluate H.meaning limits.now self.old.left script.now (H.state host.now) variables.old self.old.fuel) end (H.state host.now) variables.new self.new.fuel) }
-        ensures none { IfNone result ((variables.new ≡ variables.old) × (self.new.fuel ≡ self.old.fuel)) }
-        ensures spends { self.new.fuel ≤ self.old.fuel }
-        ensures kept { self.new ≡ record self.old { fuel = self.new.fuel } }
-    {
-        if self.left == 0 {
-            return None;
-        }
-        match script.contents() {
-            ([], None) => Some(Ending::silent(alloc)),
-            ([command], None) => {
-                self.run_only_command(alloc, host, variables, command, asked, limits)
-            }
-            _ => None,
-        }
-    }
-
-    // Runs a script's only command at once, with its step.
-    fn run_only_command<H: Host>(
-        &mut self,
-        alloc: Global,
-        host: &H,
-        variables: &mut Vars,
-        command: &Command,
-        asked: bool,
-        limits: &Limits,
-    ) -> Option<Ending>
-        requires { 0 < self.now.left }
-        ensures some { IfSome result (λ end. EndsAs asked (words_do H.meaning limits.now (evaluate H.meaning limits.now (self.old.left - 1)) (words_of_command command.now) [] (H.state host.now) variables.old self.old.fuel) end (H.state host.now) variables.new self.new.fuel) }
-        ensures none { IfNone result ((variables.new ≡ variables.old) × (self.new.fuel ≡ self.old.fuel)) }
-        ensures spends { self.new.fuel ≤ self.old.fuel }
-        ensures kept { self.new ≡ record self.old { fuel = self.new.fuel } }
-    {
-        if self.fuel == 0 {
-            return None;
-        }
-        self.left -= 1;
-        self.fuel -= 1;
-        let end = self.only_command_at_once(alloc, host, variables, command, asked, limits);
-        self.left += 1;
-        if end.is_none() {
-            self.fuel += 1;
-        }
-        end
     }
 }

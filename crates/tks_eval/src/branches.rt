@@ -1,25 +1,21 @@
 //! `if`: its tests, and which of its bodies runs.
-ghost use Rattle.std.specs.Prelude.{◌≡◌, ◌≤◌, ◌<◌, ◌+◌, ◌||◌, ◌∷◌, List, [], length, Some, IfOk, IfSome, MatchOption, option_copied};
-ghost use Rattle.tks_parse.specs.Reading.{script_of};
-ghost use Rattle.tks_eval.specs.Outcome.{End};
+ghost use Rattle.std.specs.Prelude.{true, ◌≡◌, ◌≤◌, ◌<◌, ◌+◌, ◌||◌, ◌∷◌, List, [], length, Some, IfOk, IfSome, MatchOption, option_copied};
 ghost use Rattle.tks_eval.specs.Branches.{Test, Condition, BehindBody, is_keyword, with_last, with_test, branches, no_branches};
-ghost use Rattle.tks_eval.specs.Evaluation.{evaluate, script_does, if_holds, tested, branches_do, if_does};
-ghost use Rattle.tks_eval.specs.Machine.{resume, frame_weight, optional_weight, GoesSo, Falls};
+ghost use Rattle.tks_eval.specs.Evaluation.{script_does, branches_do, if_does};
+ghost use Rattle.tks_eval.specs.Machine.{after_frame, ended, level_of, done_by, frame_weight, optional_weight, ComesSo, DoesSo, FallsTo, FallsBelow};
 ghost use Rattle.tks_eval.specs.declared.frame.Frame.TheVariants as frame;
 
-use crate::boxed::boxed;
-use crate::expressions::Counted;
-use crate::frame::{Ending, Frame, Now};
+use crate::expressions::Valued;
+use crate::frame::{Came, Ending, Frame};
 use crate::halt::{Halt, error_about};
 use crate::host::Host;
-use crate::machine::Machine;
+use crate::machine::{Machine, NEAR, before};
 use crate::rest::Rest;
 use std::alloc::{AllocError, Global};
 use std::marker::Model;
-use tks_expr::{Value, truth_of};
+use tks_expr::truth_of;
 use tks_tcl::is_word;
-use tks_text::{ErrorNumber, Limits, Txt};
-use tks_vars::Vars;
+use tks_text::{ErrorNumber, Txt};
 
 /// A condition of an `if`, and the body that runs where it is the first that holds.
 #[derive(Drop)]
@@ -159,179 +155,152 @@ fn body_again(body: Option<&Txt>) -> Result<Option<Txt>, AllocError>
 
 impl Machine {
     // if c ?then? b ?elseif c ?then? b ..? ?else? ?b?
-    #[tactic(auto, using(crate::proofs::Halts::error_halts))]
+    #[cycle(run)]
     pub fn run_if<H: Host>(
         &mut self,
         alloc: Global,
-        host: &H,
-        variables: &Vars,
+        host: &mut H,
         command: &Txt,
         words: &[Txt],
-        limits: &Limits,
-    ) -> Result<Now, Halt>
+        asked: bool,
+        near: u32,
+    ) -> Result<Came, Halt>
+        ensures same_place { H.place host.new ≡ H.place host.old }
+        ensures same_limits { self.new.limits ≡ self.old.limits }
         ensures spends { self.new.fuel ≤ self.old.fuel }
-        ensures goes { GoesSo H.meaning limits.now (resume H.meaning limits.now self.old.left self.old.stack (if_does limits.now (evaluate H.meaning limits.now self.old.left) command.now words.now (H.state host.now) variables.now self.old.fuel)) result self.new (H.state host.now) variables.now }
+        ensures comes { DoesSo H.meaning asked (if_does self.old.limits (level_of H.meaning self.old) command.now words.now) (H.state host.old) self.old result (H.state host.new) self.new }
     {
         if let Some((condition, body, otherwise)) = one_test(words) {
-            return self.run_test(alloc, host, variables, condition, body, otherwise, limits);
+            return self.run_test(alloc, host, condition, body, otherwise, asked, near);
         }
         let Some(branches) = read_branches(alloc, words)? else {
             return Err(error_about(ErrorNumber::WrongWords, command));
         };
-        self.next_branch(alloc, host, variables, branches, limits)
+        self.next_branches(alloc, host, branches, asked, near)
     }
 
-    // Opens the body that is chosen by a condition, which holds or not.
-    fn open_chosen<H: Host>(
-        &mut self,
-        alloc: Global,
-        host: &H,
-        variables: &Vars,
-        body: &Txt,
-        otherwise: Option<&Txt>,
-        holds: bool,
-        limits: &Limits,
-    ) -> Result<Now, Halt>
-        ensures spends { self.new.fuel ≤ self.old.fuel }
-        ensures goes { GoesSo H.meaning limits.now (resume H.meaning limits.now self.old.left self.old.stack (if_holds holds (evaluate H.meaning limits.now self.old.left (script_of body.now)) (script_does (evaluate H.meaning limits.now self.old.left) (option_copied otherwise.entry)) (H.state host.now) variables.now self.old.fuel)) result self.new (H.state host.now) variables.now }
-    {
-        if holds {
-            return Ok(Now::Open(self.table.parsed().script(alloc, body)?));
-        }
-        self.open_otherwise(alloc, host, variables, otherwise, limits)
-    }
-
-    // An `if` with one condition. Where that is decided at once, nothing is copied.
-    #[tactic(auto, using(crate::proofs::Halts::test_halts))]
+    // An `if` with one condition. Nothing is copied where that is decided where it stands.
+    #[cycle(run)]
     fn run_test<H: Host>(
         &mut self,
         alloc: Global,
-        host: &H,
-        variables: &Vars,
+        host: &mut H,
         condition: &Txt,
         body: &Txt,
         otherwise: Option<&Txt>,
-        limits: &Limits,
-    ) -> Result<Now, Halt>
+        asked: bool,
+        near: u32,
+    ) -> Result<Came, Halt>
+        ensures same_place { H.place host.new ≡ H.place host.old }
+        ensures same_limits { self.new.limits ≡ self.old.limits }
         ensures spends { self.new.fuel ≤ self.old.fuel }
-        ensures goes { GoesSo H.meaning limits.now (resume H.meaning limits.now self.old.left self.old.stack (tested limits.now (evaluate H.meaning limits.now self.old.left) condition.now (evaluate H.meaning limits.now self.old.left (script_of body.now)) (script_does (evaluate H.meaning limits.now self.old.left) (option_copied otherwise.entry)) (H.state host.now) variables.now self.old.fuel)) result self.new (H.state host.now) variables.now }
+        ensures comes { DoesSo H.meaning asked (branches_do self.old.limits (level_of H.meaning self.old) (option_copied otherwise.entry) (record { condition = condition.now; body = body.now } ∷ [])) (H.state host.old) self.old result (H.state host.new) self.new }
     {
-        let items = self.read_condition(alloc, condition)?;
-        let waits = match self.value(alloc, host, &items, variables, limits)? {
-            Counted::Value(value) => {
-                let holds = value.holds()?;
-                return self.open_chosen(alloc, host, variables, body, otherwise, holds, limits);
+        self.take_step()?;
+        let items = self.table.parsed().expr(alloc, condition)?;
+        match self.value(alloc, host, &items, near)? {
+            Valued::Value(value) => {
+                let chosen = if value.holds()? {
+                    Some(body)
+                } else {
+                    otherwise
+                };
+                self.run_body(alloc, host, chosen, asked, near)
             }
-            Counted::Waits(waits) => waits,
+            Valued::Ended(end) => Ok(Came::Ended(end)),
+            Valued::Waits(waiting) => {
+                let body = body.try_clone()?;
+                let rest = Branches {
+                    tests: Rest::new(alloc),
+                    otherwise: body_again(otherwise)?,
+                };
+                Ok(Came::Waits(before(waiting, Frame::Branch { body, rest })?))
+            }
+        }
+    }
+
+    // Runs a body that may be left out.
+    #[cycle(run)]
+    fn run_body<H: Host>(
+        &mut self,
+        alloc: Global,
+        host: &mut H,
+        body: Option<&Txt>,
+        asked: bool,
+        near: u32,
+    ) -> Result<Came, Halt>
+        ensures same_place { H.place host.new ≡ H.place host.old }
+        ensures same_limits { self.new.limits ≡ self.old.limits }
+        ensures falls { FallsTo result (optional_weight (option_copied body.entry)) self.old.fuel self.new.fuel }
+        ensures opened { 0 < near → FallsBelow result (optional_weight (option_copied body.entry)) self.old.fuel self.new.fuel }
+        ensures comes { DoesSo H.meaning asked (script_does (level_of H.meaning self.old) (option_copied body.entry)) (H.state host.old) self.old result (H.state host.new) self.new }
+    {
+        let Some(body) = body else {
+            return Ok(Came::Ended(Ending::silent(alloc)));
         };
-        let body = body.try_clone()?;
-        let rest = Branches {
-            tests: Rest::new(alloc),
-            otherwise: body_again(otherwise)?,
-        };
-        self.stack.push(Frame::Branch { body, rest })?;
-        Ok(Now::Counts(boxed(alloc, waits)?))
+        let script = self.table.parsed().script(alloc, body)?;
+        let came = self.run_script(alloc, host, &script, asked, near)?;
+        Ok(came)
     }
 
     // Goes on with the branches that are left of an `if`.
-    #[tactic(auto, using(crate::proofs::Halts::test_halts))]
-    fn next_branch<H: Host>(
+    #[cycle(run)]
+    fn next_branches<H: Host>(
         &mut self,
         alloc: Global,
-        host: &H,
-        variables: &Vars,
+        host: &mut H,
         branches: Branches,
-        limits: &Limits,
-    ) -> Result<Now, Halt>
-        ensures falls { Falls result (optional_weight branches.otherwise + 1) self.old self.new }
-        ensures goes { GoesSo H.meaning limits.now (resume H.meaning limits.now self.old.left self.old.stack (branches_do limits.now (evaluate H.meaning limits.now self.old.left) branches.otherwise branches.tests (H.state host.now) variables.now self.old.fuel)) result self.new (H.state host.now) variables.now }
+        asked: bool,
+        near: u32,
+    ) -> Result<Came, Halt>
+        ensures same_place { H.place host.new ≡ H.place host.old }
+        ensures same_limits { self.new.limits ≡ self.old.limits }
+        ensures falls { FallsTo result (optional_weight branches.otherwise) self.old.fuel self.new.fuel }
+        ensures opened { 0 < near → FallsBelow result (optional_weight branches.otherwise + 1) self.old.fuel self.new.fuel }
+        ensures comes { DoesSo H.meaning asked (branches_do self.old.limits (level_of H.meaning self.old) branches.otherwise branches.tests) (H.state host.old) self.old result (H.state host.new) self.new }
     {
         let Branches { tests, otherwise } = branches;
         let mut tests = tests;
-        match tests.next() {
-            None => self.open_otherwise(alloc, host, variables, otherwise.as_ref(), limits),
-            Some(test) => {
-                let Test { condition, body } = test;
-                let items = self.read_condition(alloc, &condition)?;
-                let rest = Branches { tests, otherwise };
-                match self.value(alloc, host, &items, variables, limits)? {
-                    Counted::Value(value) => {
-                        self.after_test(alloc, host, variables, body, rest, value, limits)
+        'test: while let Some(test) = tests.next() {
+            let Test { condition, body } = test;
+            self.take_step()?;
+            let items = self.table.parsed().expr(alloc, &condition)?;
+            match self.value(alloc, host, &items, near)? {
+                Valued::Value(value) => {
+                    if value.holds()? {
+                        return self.run_body(alloc, host, Some(&body), asked, near);
                     }
-                    Counted::Waits(waits) => {
-                        self.stack.push(Frame::Branch { body, rest })?;
-                        Ok(Now::Counts(boxed(alloc, waits)?))
-                    }
+                }
+                Valued::Ended(end) => return Ok(Came::Ended(end)),
+                Valued::Waits(waiting) => {
+                    let rest = Branches { tests, otherwise };
+                    return Ok(Came::Waits(before(waiting, Frame::Branch { body, rest })?));
                 }
             }
         }
-    }
-
-    // Goes on with an `if`, no condition of which held.
-    fn open_otherwise<H: Host>(
-        &mut self,
-        alloc: Global,
-        host: &H,
-        variables: &Vars,
-        otherwise: Option<&Txt>,
-        limits: &Limits,
-    ) -> Result<Now, Halt>
-        ensures falls { Falls result (optional_weight (option_copied otherwise.entry) + 1) self.old self.new }
-        ensures goes { GoesSo H.meaning limits.now (resume H.meaning limits.now self.old.left self.old.stack (script_does (evaluate H.meaning limits.now self.old.left) (option_copied otherwise.entry) (H.state host.now) variables.now self.old.fuel)) result self.new (H.state host.now) variables.now }
-    {
-        match otherwise {
-            None => Ok(Now::At(Ending::silent(alloc))),
-            Some(body) => Ok(Now::Open(self.table.parsed().script(alloc, body)?)),
-        }
-    }
-
-    // Goes on with an `if`, a condition of which came to this value at once.
-    #[tactic(auto, using(crate::proofs::Halts::fault_halts))]
-    fn after_test<H: Host>(
-        &mut self,
-        alloc: Global,
-        host: &H,
-        variables: &Vars,
-        body: Txt,
-        rest: Branches,
-        value: Value,
-        limits: &Limits,
-    ) -> Result<Now, Halt>
-        ensures spends { self.new.fuel ≤ self.old.fuel }
-        ensures goes { GoesSo H.meaning limits.now (resume H.meaning limits.now self.old.left (frame.Branch body rest ∷ self.old.stack) (End 0 value (H.state host.now) variables.now self.old.fuel)) result self.new (H.state host.now) variables.now }
-    {
-        if value.holds()? {
-            return Ok(Now::Open(self.table.parsed().script(alloc, &body)?));
-        }
-        if rest.tests.is_empty() {
-            return self.open_otherwise(alloc, host, variables, rest.otherwise.as_ref(), limits);
-        }
-        let text = value.into_text(alloc)?;
-        self.stack.push(Frame::Branch { body, rest })?;
-        Ok(Now::At(Ending { code: 0, text }))
+        self.run_body(alloc, host, otherwise.as_ref(), asked, near)
     }
 
     /// Goes on with an `if` behind a condition.
-    #[tactic(auto, using(crate::proofs::Halts::fault_halts))]
     pub fn after_branch<H: Host>(
         &mut self,
         alloc: Global,
-        host: &H,
-        variables: &Vars,
+        host: &mut H,
         body: Txt,
         rest: Branches,
         end: Ending,
-        limits: &Limits,
-    ) -> Result<Now, Halt>
-        ensures falls { Falls result (frame_weight (frame.Branch body rest)) self.old self.new }
-        ensures goes { GoesSo H.meaning limits.now (resume H.meaning limits.now self.old.left (frame.Branch body rest ∷ self.old.stack) (End end.code end.text (H.state host.now) variables.now self.old.fuel)) result self.new (H.state host.now) variables.now }
+    ) -> Result<Came, Halt>
+        ensures same_place { H.place host.new ≡ H.place host.old }
+        ensures same_limits { self.new.limits ≡ self.old.limits }
+        ensures falls { FallsBelow result (frame_weight (frame.Branch body rest)) self.old.fuel self.new.fuel }
+        ensures comes { ComesSo H.meaning true self.old.left (after_frame H.meaning self.old.limits self.old.left (frame.Branch body rest) (done_by (ended end) (H.state host.old) self.old)) result self.new (H.state host.new) }
     {
         if end.code != 0 {
-            return Ok(Now::At(end));
+            return Ok(Came::Ended(end));
         }
         if truth_of(&end.text)? {
-            return Ok(Now::Open(self.table.parsed().script(alloc, &body)?));
+            return self.run_body(alloc, host, Some(&body), true, NEAR);
         }
-        self.next_branch(alloc, host, variables, rest, limits)
+        self.next_branches(alloc, host, rest, true, NEAR)
     }
 }

@@ -1,50 +1,25 @@
-//! The commands that run scripts, each up to the first script that it opens.
-ghost use Rattle.std.specs.Prelude.{◌≡◌, ◌≤◌, ◌<◌, ℕ, List, [], ◌∷◌, IfOk, OnOk, OnErr};
+//! Scripts and their commands, and the commands that run scripts.
+ghost use Rattle.std.specs.Prelude.{true, ◌≡◌, ◌≤◌, ◌<◌, ◌*◌, ◌+◌, [], ◌∷◌};
 ghost use Rattle.std.specs.FinMap as map;
 ghost use Rattle.std.specs.List.{list_all};
-ghost use Rattle.tks_parse.specs.Tree.{script_size};
-ghost use Rattle.tks_parse.specs.Reading.{script_of};
+ghost use Rattle.tks_parse.specs.Tree.{script_size, words_size};
+ghost use Rattle.tks_parse.specs.View.{words_of, words_of_command};
 ghost use Rattle.tks_text.specs.Limits.{fits};
-ghost use Rattle.tks_tcl.specs.Meets.{GivesSo};
-ghost use Rattle.tks_eval.specs.Outcome.{End, after};
-ghost use Rattle.tks_eval.specs.Evaluation.{evaluate, commands_do, catch_does, eval_does, proc_does, each, foreach_form, foreach_does, procedure_does};
-ghost use Rattle.tks_eval.specs.Machine.{control_of, given_words, resume, frame_weight, waits_behind, control_called, called, reached_does, GoesSo, GoesBefore, Falls, IsBegun, RunsSo, RunFalls, IsDone, TakesElement};
+ghost use Rattle.tks_eval.specs.Evaluation.{words_do, call, control_does, catch_does, eval_does, procedure_does};
+ghost use Rattle.tks_eval.specs.Machine.{control_of, after_frame, ended, level_of, done_by, frame_weight, RunsSo, ComesSo, DoesSo, FallsTo, FallsBelow};
 ghost use Rattle.tks_eval.specs.declared.frame.Frame.TheVariants as frame;
 
+use crate::at_once::{answer_at_once, plain_end};
 use crate::control::Control;
-use crate::frame::{Ending, Frame, Now};
+use crate::frame::{Came, Ending, Frame, Opens};
 use crate::halt::{Halt, error_about};
 use crate::host::Host;
-use crate::machine::Machine;
+use crate::machine::{Machine, before, failed, waiting};
 use crate::procedures::{enter, run_proc};
-use crate::reach::{Given, Reached};
-use crate::rest::Rest;
-use std::alloc::{AllocError, Global};
-use tks_parse::{RemainingScript, Script};
-use tks_tcl::{Interrupt, ListTable, concatenated_within, store, wrong_words};
+use std::alloc::Global;
+use tks_parse::{Command, Remaining, RemainingScript, Script};
+use tks_tcl::{Stop, concatenated_within, store};
 use tks_text::{ErrorNumber, Limits, ScriptFault, Seq, Txt, decimal_of, fits};
-use tks_vars::Vars;
-
-// The variable's name, the body and the elements of a `foreach`.
-#[tactic(auto, using(tks_tcl::proofs::Causes::tells))]
-fn foreach_form(
-    alloc: Global,
-    lists: &ListTable,
-    command: &Txt,
-    words: &[Txt],
-) -> Result<(Txt, Txt, Rest<Txt>), Interrupt>
-    ensures { GivesSo (λ x. x) result (foreach_form command.now words.now) }
-{
-    let [name, list, body] = words else {
-        return Err(wrong_words(command));
-    };
-    let elements = lists.own_list(alloc, list)?;
-    Ok((
-        name.try_clone()?,
-        body.try_clone()?,
-        Rest::of(elements.into_items()),
-    ))
-}
 
 /// Whether no text passes the limit.
 pub fn all_fit(texts: &[Txt], limits: &Limits) -> bool
@@ -54,205 +29,216 @@ pub fn all_fit(texts: &[Txt], limits: &Limits) -> bool
 }
 
 impl Machine {
-    // Runs the commands that come first behind such an end, as far as that goes at once, and takes what is behind them.
-    fn run_commands<H: Host>(
-        &mut self,
-        alloc: Global,
-        host: &H,
-        variables: &mut Vars,
-        rest: &mut RemainingScript,
-        end: Ending,
-        limits: &Limits,
-    ) -> Result<Reached, Halt>
-        ensures kept { self.new ≡ record self.old { fuel = self.new.fuel } }
-        ensures falls { RunFalls result (script_size rest.old) (script_size rest.new) self.old.fuel self.new.fuel }
-        ensures done { IsDone result rest.new }
-        ensures goes { RunsSo H.meaning limits.now self.old.left (after (End end.code end.text (H.state host.now) variables.old self.old.fuel) (commands_do H.meaning limits.now (evaluate H.meaning limits.now self.old.left) rest.old)) result rest.new (H.state host.now) variables.new self.new.fuel }
-    {
-        let mut end = end;
-        'command: loop {
-            if end.code != 0 {
-                return Ok(Reached::Ended(end));
-            }
-            let Some(command) = rest.first() else {
-                return Ok(Reached::Ended(end));
-            };
-            let asked = rest.is_last();
-            let reached = self.reach_command(alloc, host, variables, command, asked, limits)?;
-            rest.skip();
-            match reached {
-                Reached::Ended(ended) => end = ended,
-                reached => return Ok(reached),
-            }
-        }
-    }
-
-    /// Goes on behind a command of a script.
-    pub fn after_command<H: Host>(
+    /// Runs a script. Where no more may be run where they stand, it waits to be opened.
+    #[cycle(run)]
+    pub fn run_script<H: Host>(
         &mut self,
         alloc: Global,
         host: &mut H,
-        variables: &mut Vars,
+        script: &Script,
+        asked: bool,
+        near: u32,
+    ) -> Result<Came, Stop>
+        ensures same_place { H.place host.new ≡ H.place host.old }
+        ensures same_limits { self.new.limits ≡ self.old.limits }
+        ensures falls { FallsTo result (4 * script_size script.now + 2) self.old.fuel self.new.fuel }
+        ensures opened { 0 < near → FallsTo result (4 * script_size script.now) self.old.fuel self.new.fuel }
+        ensures comes { RunsSo H.meaning asked self.old.left (done_by (level_of H.meaning self.old script.now) (H.state host.old) self.old) result self.new (H.state host.new) }
+    {
+        let script = script.share()?;
+        if near == 0 {
+            return Ok(Came::Waits(waiting(alloc, Opens::Script(script))?));
+        }
+        let levels = self.left;
+        if levels == 0 {
+            return Err(Stop::Depth);
+        }
+        self.left = levels - 1;
+        let begun = Ending::silent(alloc);
+        self.run_commands(
+            alloc,
+            host,
+            script.into_remaining(),
+            levels,
+            begun,
+            asked,
+            near - 1,
+        )
+    }
+
+    /// Runs the commands that are left of a script behind such an end.
+    #[cycle(run)]
+    pub fn run_commands<H: Host>(
+        &mut self,
+        alloc: Global,
+        host: &mut H,
         rest: RemainingScript,
         levels: u32,
         end: Ending,
-        limits: &Limits,
-    ) -> Result<Now, Halt>
+        asked: bool,
+        near: u32,
+    ) -> Result<Came, Stop>
         ensures same_place { H.place host.new ≡ H.place host.old }
-        ensures falls { Falls result (frame_weight (frame.Commands rest levels)) self.old self.new }
-        ensures goes { GoesSo H.meaning limits.now (resume H.meaning limits.now self.old.left (frame.Commands rest levels ∷ self.old.stack) (End end.code end.text (H.state host.old) variables.old self.old.fuel)) result self.new (H.state host.new) variables.new }
+        ensures same_limits { self.new.limits ≡ self.old.limits }
+        ensures falls { FallsTo result (4 * script_size rest) self.old.fuel self.new.fuel }
+        ensures comes { RunsSo H.meaning asked levels (after_frame H.meaning self.old.limits self.old.left (frame.Commands rest levels) (done_by (ended end) (H.state host.old) self.old)) result self.new (H.state host.new) }
     {
         let mut rest = rest;
-        let reached = match self.run_commands(alloc, host, variables, &mut rest, end, limits) {
-            Ok(reached) => reached,
-            Err(why) => {
-                self.left = levels;
-                return Err(why);
+        let mut end = end;
+        'command: while end.code == 0 {
+            let Some(command) = rest.first() else {
+                if let Some(fault) = rest.fault()? {
+                    end = failed(alloc, &fault, &self.limits)?;
+                }
+                break 'command;
+            };
+            let asked = asked && rest.is_last();
+            let came = self.run_command(alloc, host, command, asked, near);
+            rest.skip();
+            match came {
+                Ok(Came::Ended(next)) => end = next,
+                Ok(Came::Waits(waiting)) => {
+                    return Ok(Came::Waits(before(waiting, Frame::Commands { rest, levels })?));
+                }
+                Err(Halt::Fault(fault)) => end = failed(alloc, &fault, &self.limits)?,
+                Err(Halt::Stop(why)) => return Err(why),
             }
-        };
-        match reached {
-            Reached::Ended(end) => {
-                self.left = levels;
-                if end.code == 0 {
-                    if let Some(fault) = rest.fault()? {
-                        return Err(Halt::Fault(fault));
+        }
+        self.left = levels;
+        Ok(Came::Ended(end))
+    }
+
+    // Makes the words of a command, and runs it.
+    #[cycle(run)]
+    fn run_command<H: Host>(
+        &mut self,
+        alloc: Global,
+        host: &mut H,
+        command: &Command,
+        asked: bool,
+        near: u32,
+    ) -> Result<Came, Halt>
+        ensures same_place { H.place host.new ≡ H.place host.old }
+        ensures same_limits { self.new.limits ≡ self.old.limits }
+        ensures falls { FallsTo result (4 * words_size (words_of_command command.now)) self.old.fuel self.new.fuel }
+        ensures comes { DoesSo H.meaning asked (words_do H.meaning self.old.limits (level_of H.meaning self.old) (words_of_command command.now) []) (H.state host.old) self.old result (H.state host.new) self.new }
+    {
+        match command {
+            Command::Ready(words) => {
+                let words = words.as_ref().as_slice();
+                if !all_fit(words, &self.limits) {
+                    return Err(Halt::Stop(Stop::TooLarge));
+                }
+                self.do_command(alloc, host, words, asked, near)
+            }
+            Command::Made(words) => {
+                if self.fuel != 0 {
+                    let lent = words.as_ref().as_slice();
+                    let end = answer_at_once(alloc, lent, &mut self.variables, &self.limits);
+                    if let Some(end) = end {
+                        self.fuel -= 1;
+                        return Ok(Came::Ended(end));
                     }
                 }
-                Ok(Now::At(end))
+                let words = Remaining::all(words.clone()?);
+                self.make_words(alloc, host, Seq::new(alloc), words, asked, near)
             }
-            reached => self.go_before(alloc, host, variables, rest, levels, reached, limits),
         }
     }
 
-    // Goes on with a command that didn't end, before what is left of its script.
-    fn go_before<H: Host>(
+    /// Runs a command of these words. Without words it does nothing.
+    #[cycle(run)]
+    pub fn do_command<H: Host>(
         &mut self,
         alloc: Global,
         host: &mut H,
-        variables: &mut Vars,
-        rest: RemainingScript,
-        levels: u32,
-        reached: Reached,
-        limits: &Limits,
-    ) -> Result<Now, Halt>
-        requires { IsBegun reached }
+        words: &[Txt],
+        asked: bool,
+        near: u32,
+    ) -> Result<Came, Halt>
         ensures same_place { H.place host.new ≡ H.place host.old }
-        ensures falls { GoesBefore reached (frame_weight (frame.Commands rest levels)) result self.old self.new }
-        ensures goes { GoesSo H.meaning limits.now (resume H.meaning limits.now self.old.left (frame.Commands rest levels ∷ self.old.stack) (reached_does H.meaning limits.now self.old.left reached (H.state host.old) variables.old self.old.fuel)) result self.new (H.state host.new) variables.new }
+        ensures same_limits { self.new.limits ≡ self.old.limits }
+        ensures falls { FallsTo result 0 self.old.fuel self.new.fuel }
+        ensures comes { DoesSo H.meaning asked (call H.meaning self.old.limits (level_of H.meaning self.old) words.now) (H.state host.old) self.old result (H.state host.new) self.new }
     {
-        match reached {
-            Reached::Calls(words) => {
-                self.call_before(alloc, host, variables, rest, levels, words, limits)
-            }
-            reached => {
-                self.wait_behind(rest, levels)?;
-                self.go_on(alloc, host, variables, reached, limits)
-            }
-        }
-    }
-
-    // Calls a command of the host, or a procedure, before what is left of its script. Where nothing is left, nothing waits.
-    fn call_before<H: Host>(
-        &mut self,
-        alloc: Global,
-        host: &mut H,
-        variables: &mut Vars,
-        rest: RemainingScript,
-        levels: u32,
-        words: Given,
-        limits: &Limits,
-    ) -> Result<Now, Halt>
-        ensures same_place { H.place host.new ≡ H.place host.old }
-        ensures spends { self.new.fuel ≤ self.old.fuel }
-        ensures goes { GoesSo H.meaning limits.now (resume H.meaning limits.now self.old.left (frame.Commands rest levels ∷ self.old.stack) (called H.meaning limits.now (evaluate H.meaning limits.now self.old.left) (given_words words) (H.state host.old) variables.old self.old.fuel)) result self.new (H.state host.new) variables.new }
-    {
-        if rest.is_empty() {
-            return self.call(alloc, host, variables, words, levels, limits);
-        }
-        self.wait_behind(rest, levels)?;
-        let left = self.left;
-        self.call(alloc, host, variables, words, left, limits)
-    }
-
-    // Has what is left of a script wait. Where nothing is left of it on top of a procedure or a script at global level, that
-    // frame gives the levels back by itself.
-    fn wait_behind(&mut self, rest: RemainingScript, levels: u32) -> Result<(), AllocError>
-        ensures ok { OnOk result (self.new ≡ record self.old { stack = waits_behind rest levels self.old.stack }) }
-        ensures err { OnErr result (self.new ≡ self.old) }
-    {
-        if rest.is_empty() {
-            if let Some(Frame::Procedure { .. } | Frame::Global { .. }) = self.stack.first() {
-                return Ok(());
-            }
-        }
-        self.stack.push(Frame::Commands { rest, levels })?;
-        Ok(())
-    }
-
-    /// Calls a command of the host, or a procedure, behind its step. Behind its end, so many scripts may be open.
-    pub fn call<H: Host>(
-        &mut self,
-        alloc: Global,
-        host: &mut H,
-        variables: &mut Vars,
-        words: Given,
-        levels: u32,
-        limits: &Limits,
-    ) -> Result<Now, Halt>
-        ensures same_place { H.place host.new ≡ H.place host.old }
-        ensures spends { self.new.fuel ≤ self.old.fuel }
-        ensures goes { GoesSo H.meaning limits.now (resume H.meaning limits.now levels self.old.stack (called H.meaning limits.now (evaluate H.meaning limits.now self.old.left) (given_words words) (H.state host.old) variables.old self.old.fuel)) result self.new (H.state host.new) variables.new }
-    {
-        let Some((command, rest)) = words.as_slice().split_first() else {
-            self.left = levels;
-            return Ok(Now::At(Ending::silent(alloc)));
+        let Some((command, rest)) = words.split_first() else {
+            return Ok(Came::Ended(Ending::silent(alloc)));
         };
-        match host.call(variables, words.as_slice())? {
-            Some(plan) => self.run_plan(alloc, host, variables, plan, levels, limits),
-            None => self.run_procedure(alloc, host, variables, command, rest, levels, limits),
+        self.take_step()?;
+        if let Some(control) = Control::named(command) {
+            return self.run_control(alloc, host, control, command, rest, asked, near);
+        }
+        let lists = self.table.lists();
+        let end = plain_end(
+            alloc,
+            lists,
+            &mut self.variables,
+            words,
+            asked,
+            &self.limits,
+        )?;
+        if let Some(end) = end {
+            return Ok(Came::Ended(end));
+        }
+        match host.call(&mut self.variables, words)? {
+            Some(plan) => Ok(self.run_plan(alloc, host, plan, near)?),
+            None => self.run_procedure(alloc, host, command, rest, near),
         }
     }
 
-    /// Runs a command that runs scripts, behind its step.
-    pub fn run_control<H: Host>(
+    // Runs a command that runs scripts, behind its step.
+    #[cycle(run)]
+    fn run_control<H: Host>(
         &mut self,
         alloc: Global,
-        host: &H,
-        variables: &mut Vars,
+        host: &mut H,
         control: Control,
-        words: Given,
-        limits: &Limits,
-    ) -> Result<Now, Halt>
+        command: &Txt,
+        words: &[Txt],
+        asked: bool,
+        near: u32,
+    ) -> Result<Came, Halt>
+        ensures same_place { H.place host.new ≡ H.place host.old }
+        ensures same_limits { self.new.limits ≡ self.old.limits }
         ensures spends { self.new.fuel ≤ self.old.fuel }
-        ensures goes { GoesSo H.meaning limits.now (resume H.meaning limits.now self.old.left self.old.stack (control_called H.meaning limits.now (evaluate H.meaning limits.now self.old.left) (control_of control) (given_words words) (H.state host.now) variables.old self.old.fuel)) result self.new (H.state host.now) variables.new }
+        ensures comes { DoesSo H.meaning asked (control_does H.meaning self.old.limits (level_of H.meaning self.old) (control_of control) command.now words.now) (H.state host.old) self.old result (H.state host.new) self.new }
     {
-        let Some((command, rest)) = words.as_slice().split_first() else {
-            return Ok(Now::At(Ending::silent(alloc)));
-        };
         match control {
-            Control::Catch => self.run_catch(alloc, host, variables, command, rest, limits),
-            Control::Eval => self.run_eval(alloc, host, variables, rest, limits),
-            Control::Expr => self.run_expr(alloc, host, variables, command, rest, limits),
-            Control::For => self.run_for(alloc, host, variables, command, rest, limits),
-            Control::Foreach => self.run_foreach(alloc, host, variables, command, rest, limits),
-            Control::If => self.run_if(alloc, host, variables, command, rest, limits),
-            Control::Proc => self.define(alloc, host, variables, command, rest, limits),
-            Control::While => self.run_while(alloc, host, variables, command, rest, limits),
+            Control::Catch => self.run_catch(alloc, host, command, words, near),
+            Control::Eval => self.run_eval(alloc, host, words, asked, near),
+            Control::Expr => self.run_expr(alloc, host, command, words, near),
+            Control::For => self.run_for(alloc, host, command, words, near),
+            Control::Foreach => self.run_foreach(alloc, host, command, words, near),
+            Control::If => self.run_if(alloc, host, command, words, asked, near),
+            Control::Proc => {
+                run_proc(
+                    alloc,
+                    host,
+                    &mut self.variables,
+                    command,
+                    words,
+                    &self.limits,
+                )?;
+                Ok(Came::Ended(Ending::silent(alloc)))
+            }
+            Control::While => self.run_while(alloc, host, command, words, near),
         }
     }
 
     // catch s ?name?
+    #[cycle(run)]
     fn run_catch<H: Host>(
         &mut self,
         alloc: Global,
-        host: &H,
-        variables: &Vars,
+        host: &mut H,
         command: &Txt,
         words: &[Txt],
-        limits: &Limits,
-    ) -> Result<Now, Halt>
+        near: u32,
+    ) -> Result<Came, Halt>
+        ensures same_place { H.place host.new ≡ H.place host.old }
+        ensures same_limits { self.new.limits ≡ self.old.limits }
         ensures spends { self.new.fuel ≤ self.old.fuel }
-        ensures goes { GoesSo H.meaning limits.now (resume H.meaning limits.now self.old.left self.old.stack (catch_does limits.now (evaluate H.meaning limits.now self.old.left) command.now words.now (H.state host.now) variables.now self.old.fuel)) result self.new (H.state host.now) variables.now }
+        ensures comes { DoesSo H.meaning true (catch_does self.old.limits (level_of H.meaning self.old) command.now words.now) (H.state host.old) self.old result (H.state host.new) self.new }
     {
         let (script, name) = match words {
             [script] => (script, None),
@@ -260,223 +246,96 @@ impl Machine {
             _ => return Err(error_about(ErrorNumber::WrongWords, command)),
         };
         let script = self.table.parsed().script(alloc, script)?;
-        self.stack.push(Frame::Catch { name })?;
-        Ok(Now::Open(script))
+        match self.run_script(alloc, host, &script, true, near)? {
+            Came::Ended(end) => self.after_caught(alloc, host, name, end),
+            Came::Waits(waiting) => Ok(Came::Waits(before(waiting, Frame::Catch { name })?)),
+        }
     }
 
     /// Goes on with a `catch` behind its script.
-    #[tactic(auto, using(crate::proofs::Halts::given_halts))]
     pub fn after_caught<H: Host>(
         &mut self,
         alloc: Global,
         host: &H,
-        variables: &mut Vars,
         name: Option<Txt>,
         end: Ending,
-        limits: &Limits,
-    ) -> Result<Now, Halt>
-        ensures falls { Falls result 1 self.old self.new }
-        ensures goes { GoesSo H.meaning limits.now (resume H.meaning limits.now self.old.left (frame.Catch name ∷ self.old.stack) (End end.code end.text (H.state host.now) variables.old self.old.fuel)) result self.new (H.state host.now) variables.new }
+    ) -> Result<Came, Halt>
+        ensures same_limits { self.new.limits ≡ self.old.limits }
+        ensures falls { FallsBelow result 1 self.old.fuel self.new.fuel }
+        ensures comes { ComesSo H.meaning true self.old.left (after_frame H.meaning self.old.limits self.old.left (frame.Catch name) (done_by (ended end) (H.state host.now) self.old)) result self.new (H.state host.now) }
     {
         let Ending { code, text } = end;
         if let Some(name) = name {
-            store(variables, &name, text, limits)?;
+            store(&mut self.variables, &name, text, &self.limits)?;
         }
-        Ok(Now::At(Ending {
-            code: 0,
-            text: decimal_of(alloc, code as i64)?,
-        }))
+        Ok(Came::Ended(Ending::with(decimal_of(alloc, code as i64)?)))
     }
 
     // eval ..
-    #[tactic(auto, using(crate::proofs::Halts::given_halts))]
+    #[cycle(run)]
     fn run_eval<H: Host>(
         &mut self,
         alloc: Global,
-        host: &H,
-        variables: &Vars,
+        host: &mut H,
         words: &[Txt],
-        limits: &Limits,
-    ) -> Result<Now, Halt>
+        asked: bool,
+        near: u32,
+    ) -> Result<Came, Halt>
+        ensures same_place { H.place host.new ≡ H.place host.old }
+        ensures same_limits { self.new.limits ≡ self.old.limits }
         ensures spends { self.new.fuel ≤ self.old.fuel }
-        ensures goes { GoesSo H.meaning limits.now (resume H.meaning limits.now self.old.left self.old.stack (eval_does limits.now (evaluate H.meaning limits.now self.old.left) words.now (H.state host.now) variables.now self.old.fuel)) result self.new (H.state host.now) variables.now }
+        ensures comes { DoesSo H.meaning asked (eval_does self.old.limits (level_of H.meaning self.old) words.now) (H.state host.old) self.old result (H.state host.new) self.new }
     {
-        let text = concatenated_within(alloc, words, limits)?;
-        Ok(Now::Open(self.table.parsed().script(alloc, &text)?))
+        let text = concatenated_within(alloc, words, &self.limits)?;
+        let script = self.table.parsed().script(alloc, &text)?;
+        let came = self.run_script(alloc, host, &script, asked, near)?;
+        Ok(came)
     }
 
-    // foreach name l b
-    #[tactic(auto, using(crate::proofs::Halts::given_halts))]
-    fn run_foreach<H: Host>(
-        &mut self,
-        alloc: Global,
-        host: &H,
-        variables: &mut Vars,
-        command: &Txt,
-        words: &[Txt],
-        limits: &Limits,
-    ) -> Result<Now, Halt>
-        ensures spends { self.new.fuel ≤ self.old.fuel }
-        ensures goes { GoesSo H.meaning limits.now (resume H.meaning limits.now self.old.left self.old.stack (foreach_does limits.now (evaluate H.meaning limits.now self.old.left) command.now words.now (H.state host.now) variables.old self.old.fuel)) result self.new (H.state host.now) variables.new }
-    {
-        let (name, body, elements) = foreach_form(alloc, self.table.lists(), command, words)?;
-        self.next_element(alloc, host, variables, name, body, elements, limits)
-    }
-
-    // Makes a turn of a `foreach`: takes a step, stores the element, and runs the body where that goes at once.
-    #[tactic(auto, using(crate::proofs::Halts::given_halts, crate::proofs::Halts::step_halts))]
-    fn element_turn<H: Host>(
-        &mut self,
-        alloc: Global,
-        host: &H,
-        variables: &mut Vars,
-        name: &Txt,
-        body: &Script,
-        element: Txt,
-        limits: &Limits,
-    ) -> Result<Option<Ending>, Halt>
-        ensures spends { self.new.fuel ≤ self.old.fuel }
-        ensures step { IfOk result (λ _. self.new.fuel < self.old.fuel) }
-        ensures kept { self.new ≡ record self.old { fuel = self.new.fuel } }
-        ensures goes { (text : List ℕ) → (items : List (List ℕ)) → script_of text ≡ body.now → TakesElement (evaluate H.meaning limits.now self.old.left) name.now text items limits.now (each limits.now (evaluate H.meaning limits.now self.old.left) name.now text (element ∷ items) (H.state host.now) variables.old self.old.fuel) result (H.state host.now) variables.new self.new.fuel }
-    {
-        self.take_step()?;
-        store(variables, name, element, limits)?;
-        Ok(self.run_at_once(alloc, host, variables, body, false, limits))
-    }
-
-    // Goes on with the elements of a `foreach`, and with those behind them whose body is run at once.
-    fn next_element<H: Host>(
-        &mut self,
-        alloc: Global,
-        host: &H,
-        variables: &mut Vars,
-        name: Txt,
-        body: Txt,
-        elements: Rest<Txt>,
-        limits: &Limits,
-    ) -> Result<Now, Halt>
-        ensures falls { Falls result 1 self.old self.new }
-        ensures goes { GoesSo H.meaning limits.now (resume H.meaning limits.now self.old.left self.old.stack (each limits.now (evaluate H.meaning limits.now self.old.left) name body elements (H.state host.now) variables.old self.old.fuel)) result self.new (H.state host.now) variables.new }
-    {
-        if elements.is_empty() {
-            return Ok(Now::At(Ending::silent(alloc)));
-        }
-        let script = self.table.parsed().script(alloc, &body)?;
-        let mut elements = elements;
-        'element: loop {
-            let Some(element) = elements.next() else {
-                return Ok(Now::At(Ending::silent(alloc)));
-            };
-            let ended = self.element_turn(alloc, host, variables, &name, &script, element, limits)?;
-            let Some(end) = ended else {
-                self.stack.push(Frame::Each {
-                    name,
-                    body,
-                    elements,
-                })?;
-                return Ok(Now::Open(script));
-            };
-            match end.code {
-                0 | 4 => continue 'element,
-                3 => return Ok(Now::At(Ending::silent(alloc))),
-                _ => return Ok(Now::At(end)),
-            }
-        }
-    }
-
-    /// Goes on with a `foreach` behind its body.
-    pub fn after_element<H: Host>(
-        &mut self,
-        alloc: Global,
-        host: &H,
-        variables: &mut Vars,
-        name: Txt,
-        body: Txt,
-        elements: Rest<Txt>,
-        end: Ending,
-        limits: &Limits,
-    ) -> Result<Now, Halt>
-        ensures falls { Falls result 1 self.old self.new }
-        ensures goes { GoesSo H.meaning limits.now (resume H.meaning limits.now self.old.left (frame.Each name body elements ∷ self.old.stack) (End end.code end.text (H.state host.now) variables.old self.old.fuel)) result self.new (H.state host.now) variables.new }
-    {
-        match end.code {
-            0 | 4 => self.next_element(alloc, host, variables, name, body, elements, limits),
-            3 => Ok(Now::At(Ending::silent(alloc))),
-            _ => Ok(Now::At(end)),
-        }
-    }
-
-    // proc name params body
-    #[tactic(auto, using(crate::proofs::Halts::given_halts))]
-    fn define<H: Host>(
-        &mut self,
-        alloc: Global,
-        host: &H,
-        variables: &mut Vars,
-        command: &Txt,
-        words: &[Txt],
-        limits: &Limits,
-    ) -> Result<Now, Halt>
-        ensures spends { self.new.fuel ≤ self.old.fuel }
-        ensures goes { GoesSo H.meaning limits.now (resume H.meaning limits.now self.old.left self.old.stack (proc_does H.meaning limits.now command.now words.now (H.state host.now) variables.old self.old.fuel)) result self.new (H.state host.now) variables.new }
-    {
-        run_proc(alloc, host, variables, command, words, limits)?;
-        Ok(Now::At(Ending::silent(alloc)))
-    }
-
-    // Calls a procedure. Behind its end, so many scripts may be open.
-    #[tactic(auto, using(crate::proofs::Halts::given_halts))]
+    // Calls a procedure.
+    #[cycle(run)]
     fn run_procedure<H: Host>(
         &mut self,
         alloc: Global,
-        host: &H,
-        variables: &mut Vars,
+        host: &mut H,
         command: &Txt,
         words: &[Txt],
-        levels: u32,
-        limits: &Limits,
-    ) -> Result<Now, Halt>
+        near: u32,
+    ) -> Result<Came, Halt>
+        ensures same_place { H.place host.new ≡ H.place host.old }
+        ensures same_limits { self.new.limits ≡ self.old.limits }
         ensures spends { self.new.fuel ≤ self.old.fuel }
-        ensures goes { GoesSo H.meaning limits.now (resume H.meaning limits.now levels self.old.stack (procedure_does limits.now (evaluate H.meaning limits.now self.old.left) command.now words.now (map.get variables.old.procedures command.now) (H.state host.now) variables.old self.old.fuel)) result self.new (H.state host.now) variables.new }
+        ensures comes { DoesSo H.meaning true (procedure_does self.old.limits (level_of H.meaning self.old) command.now words.now (map.get self.old.variables.procedures command.now)) (H.state host.old) self.old result (H.state host.new) self.new }
     {
-        let table = self.table.parsed();
-        match enter(alloc, table, variables, command, words, limits) {
-            Ok(script) => {
-                self.stack.push(Frame::Procedure { levels })?;
-                Ok(Now::Open(script))
-            }
-            Err(why) => {
-                self.left = levels;
-                Err(Halt::from(why))
-            }
+        let parsed = self.table.parsed();
+        let script = enter(
+            alloc,
+            parsed,
+            &mut self.variables,
+            command,
+            words,
+            &self.limits,
+        )?;
+        match self.run_script(alloc, host, &script, true, near)? {
+            Came::Ended(end) => self.after_procedure(host, end),
+            Came::Waits(waiting) => Ok(Came::Waits(before(waiting, Frame::Procedure)?)),
         }
     }
 
     /// Ends a procedure, and its frame with it.
-    pub fn after_procedure<H: Host>(
-        &mut self,
-        host: &H,
-        variables: &mut Vars,
-        levels: u32,
-        end: Ending,
-        limits: &Limits,
-    ) -> Result<Now, Halt>
-        ensures falls { Falls result 1 self.old self.new }
-        ensures goes { GoesSo H.meaning limits.now (resume H.meaning limits.now self.old.left (frame.Procedure levels ∷ self.old.stack) (End end.code end.text (H.state host.now) variables.old self.old.fuel)) result self.new (H.state host.now) variables.new }
+    pub fn after_procedure<H: Host>(&mut self, host: &H, end: Ending) -> Result<Came, Halt>
+        ensures same_limits { self.new.limits ≡ self.old.limits }
+        ensures falls { FallsBelow result 1 self.old.fuel self.new.fuel }
+        ensures comes { ComesSo H.meaning true self.old.left (after_frame H.meaning self.old.limits self.old.left frame.Procedure (done_by (ended end) (H.state host.now) self.old)) result self.new (H.state host.now) }
     {
-        variables.pop_frame();
-        self.left = levels;
+        self.variables.pop_frame();
         match end.code {
-            2 => Ok(Now::At(Ending {
-                code: 0,
-                text: end.text,
-            })),
+            2 => Ok(Came::Ended(Ending::with(end.text))),
             3 | 4 => Err(Halt::Fault(ScriptFault {
                 number: ErrorNumber::OutsideLoop,
                 subject: None,
             })),
-            _ => Ok(Now::At(end)),
+            _ => Ok(Came::Ended(end)),
         }
     }
 }

@@ -1,25 +1,21 @@
-//! Expressions: their items are done with a stack of values, up to a text that waits for a script or an index.
-ghost use Rattle.std.specs.Prelude.{◌≡◌, ◌≤◌, ◌-◌, [], ◌∷◌, length, drop, reverse, if◌then◌else◌, codes, IfOk, IfSome, OnOk, MatchOption};
-ghost use Rattle.tks_expr.specs.Compiled.{items_in};
+//! Expressions: their items are done one after the other with a stack of values.
+ghost use Rattle.std.specs.Prelude.{true, ◌≡◌, ◌≤◌, ◌-◌, ◌*◌, ◌+◌, [], ◌∷◌, length, drop, reverse, if◌then◌else◌, codes, IfOk, OnOk, MatchOption};
+ghost use Rattle.tks_parse.specs.Tree.{parts_size};
 ghost use Rattle.tks_expr.specs.View.{operand_text};
-ghost use Rattle.tks_eval.specs.Outcome.{End};
-ghost use Rattle.tks_eval.specs.Meets.{ReadsSo};
-ghost use Rattle.tks_eval.specs.Evaluation.{evaluate, expr_does, expression_does, result_told, with_value};
-ghost use Rattle.tks_eval.specs.Counting.{on_top, leaf_value, put_two, item_done, done_on_top, counted_from, items_go, counts_on, StopsAt, ComesSo};
+ghost use Rattle.tks_eval.specs.Evaluation.{expr_does, expression_does, made_text, result_told, with_value};
+ghost use Rattle.tks_eval.specs.Counting.{on_top, leaf_value, put_two, item_done, done_on_top, items_go};
 ghost use Rattle.tks_tcl.specs.Meets.{GivesSo};
-ghost use Rattle.tks_eval.specs.Machine.{resume, waits_do, waits_weight, frame_weight, CountsSo, CountFalls, GoesSo, Falls};
-ghost use Rattle.tks_eval.specs.declared.frame.Frame.TheVariants as frames;
+ghost use Rattle.tks_eval.specs.Machine.{after_frame, ended, level_of, done_by, items_weight, frame_weight, told_by, ComesSo, DoesSo, ValuedSo, FallsTo, ValueFallsTo, FallsBelow};
+ghost use Rattle.tks_eval.specs.declared.frame.Frame.TheVariants as frame;
 
-use crate::boxed::boxed;
-use crate::frame::{Ending, Frame, Now};
+use crate::frame::{Came, Ending, Frame, Waiting};
 use crate::halt::{Halt, error_about};
 use crate::host::Host;
-use crate::machine::Machine;
-use crate::words::{Inner, alone, fill_up, only_script};
+use crate::machine::{Machine, NEAR, before};
 use std::alloc::{AllocError, Global};
 use std::marker::Model;
 use tks_expr::{Binary, Item, Items, Leaf, Operand, Value, apply, apply_unary};
-use tks_parse::{Part, Remaining, Script};
+use tks_parse::Parts;
 use tks_tcl::{Interrupt, joined_within};
 use tks_text::{ErrorNumber, Limits, Txt, fits};
 use tks_vars::Vars;
@@ -262,35 +258,15 @@ impl Model for Counting {
     ghost view = { λ c. (drop (length c.items - c.left) c.items, reverse c.values.items) };
 }
 
-/// A text that was begun: what has to be run, behind the text so far and before these parts.
-#[derive(Drop)]
-pub struct Unfinished {
-    pub made: Txt,
-    pub inner: Inner,
-    pub parts: Remaining<Part>,
-}
-
-/// What an expression waits for.
-#[derive(Drop)]
-pub enum Awaited {
-    /// The result of a script, which is the text.
-    Script(Script),
-    /// A text that was begun.
-    Text(Box<Unfinished>),
-}
-
-/// An expression that waits.
-#[derive(Drop)]
-pub struct Waits {
-    pub counting: Counting,
-    pub awaited: Awaited,
-}
-
 /// How far an expression came.
 #[derive(Drop)]
-pub enum Counted {
+pub enum Valued {
+    /// To its value.
     Value(Value),
-    Waits(Waits),
+    /// To the end of a script in it, by another code than 0.
+    Ended(Ending),
+    /// To what has to be opened.
+    Waits(Box<Waiting>),
 }
 
 // What is left behind so many items.
@@ -301,272 +277,181 @@ fn behind(items: &[Item], count: usize) -> &[Item]
     items.split_at(count.min(items.len())).1
 }
 
-// Where items stop: at a text, for which this is awaited; and the items behind it.
-#[derive(Drop)]
-struct Stop<'a> {
-    awaited: Awaited,
-    rest: &'a [Item],
-}
-
-// Does items one after the other, up to a text that waits.
-fn count<'a>(
-    alloc: Global,
-    items: &'a [Item],
-    values: &mut Values,
-    variables: &Vars,
-    limits: &Limits,
-) -> Result<Option<Stop<'a>>, Interrupt>
-    ensures comes { StopsAt result values.new (counted_from limits.now variables.now 0 items.now values.old) }
-    ensures rest { IfOk result (λ o. IfSome o (λ stop. stop.rest.now ≡ drop (length items.now - length stop.rest.now) items.now)) }
-{
-    let mut rest = items;
-    'item: while let Some((item, more)) = rest.split_first() {
-        let Item::Make(parts) = item else {
-            let count = values.do_item(alloc, item, variables, limits)?;
-            rest = behind(more, count);
-            continue 'item;
-        };
-        if let Some(script) = only_script(parts) {
-            return Ok(Some(Stop {
-                awaited: Awaited::Script(script.share()?),
-                rest: more,
-            }));
-        }
-        let mut parts = parts.remaining()?;
-        let mut made = Txt::new(alloc);
-        if let Some(inner) = fill_up(&mut made, &mut parts, variables, limits)? {
-            let text = Unfinished { made, inner, parts };
-            return Ok(Some(Stop {
-                awaited: Awaited::Text(boxed(alloc, text)?),
-                rest: more,
-            }));
-        }
-        values.push(Value::of(made))?;
-        rest = more;
-    }
-    Ok(None)
-}
-
-// How far the items come that are left, with these values.
-fn come(
-    alloc: Global,
-    items: &Items,
-    left: usize,
-    values: Values,
-    variables: &Vars,
-    limits: &Limits,
-) -> Result<Counted, Interrupt>
-    ensures { ComesSo result (counted_from limits.now variables.now 0 (drop (length items.now - left) items.now) values) }
-{
-    let all = items.as_slice();
-    let here = behind(all, all.len().saturating_sub(left));
-    let mut values = values;
-    let Some(stop) = count(alloc, here, &mut values, variables, limits)? else {
-        return Ok(Counted::Value(values.into_top(alloc)));
-    };
-    let Stop { awaited, rest } = stop;
-    let counting = Counting {
-        items: items.share()?,
-        left: rest.len(),
-        values: values.into_below()?,
-    };
-    Ok(Counted::Waits(Waits { counting, awaited }))
-}
-
 impl Machine {
+    /// Evaluates an expression.
+    #[cycle(run)]
+    pub fn value<H: Host>(
+        &mut self,
+        alloc: Global,
+        host: &mut H,
+        items: &Items,
+        near: u32,
+    ) -> Result<Valued, Halt>
+        ensures same_place { H.place host.new ≡ H.place host.old }
+        ensures same_limits { self.new.limits ≡ self.old.limits }
+        ensures spends { self.new.fuel ≤ self.old.fuel }
+        ensures comes { ValuedSo H.meaning self.old.left (done_by (items_go self.old.limits (level_of H.meaning self.old) items.now []) (H.state host.old) self.old) result self.new (H.state host.new) }
+    {
+        let all = items.as_slice().len();
+        self.count(alloc, host, items, all, Values::new(alloc), near)
+    }
+
+    // Does the items that are left of an expression, with these values.
+    #[cycle(run)]
+    fn count<H: Host>(
+        &mut self,
+        alloc: Global,
+        host: &mut H,
+        items: &Items,
+        left: usize,
+        values: Values,
+        near: u32,
+    ) -> Result<Valued, Halt>
+        ensures same_place { H.place host.new ≡ H.place host.old }
+        ensures same_limits { self.new.limits ≡ self.old.limits }
+        ensures falls { ValueFallsTo result (items_weight (drop (length items.now - left) items.now)) self.old.fuel self.new.fuel }
+        ensures comes { ValuedSo H.meaning self.old.left (done_by (items_go self.old.limits (level_of H.meaning self.old) (drop (length items.now - left) items.now) values) (H.state host.old) self.old) result self.new (H.state host.new) }
+    {
+        let all = items.as_slice();
+        let mut rest = behind(all, all.len().saturating_sub(left));
+        let mut values = values;
+        'item: while let Some((item, more)) = rest.split_first() {
+            let Item::Make(parts) = item else {
+                let count = values.do_item(alloc, item, &self.variables, &self.limits)?;
+                rest = behind(more, count);
+                continue 'item;
+            };
+            rest = more;
+            match self.make_operand(alloc, host, parts, near)? {
+                Came::Ended(end) => {
+                    if end.code != 0 {
+                        return Ok(Valued::Ended(end));
+                    }
+                    values.push(Value::of(end.text))?;
+                }
+                Came::Waits(waiting) => {
+                    let counting = Counting {
+                        items: items.share()?,
+                        left: rest.len(),
+                        values: values.into_below()?,
+                    };
+                    return Ok(Valued::Waits(before(waiting, Frame::Value(counting))?));
+                }
+            }
+        }
+        Ok(Valued::Value(values.into_top(alloc)))
+    }
+
+    // Makes the text of an operand.
+    #[cycle(run)]
+    fn make_operand<H: Host>(
+        &mut self,
+        alloc: Global,
+        host: &mut H,
+        parts: &Parts,
+        near: u32,
+    ) -> Result<Came, Halt>
+        ensures same_place { H.place host.new ≡ H.place host.old }
+        ensures same_limits { self.new.limits ≡ self.old.limits }
+        ensures falls { FallsTo result (4 * parts_size parts.now) self.old.fuel self.new.fuel }
+        ensures comes { DoesSo H.meaning true (made_text self.old.limits (level_of H.meaning self.old) parts.now) (H.state host.old) self.old result (H.state host.new) self.new }
+    {
+        let parts = parts.remaining()?;
+        self.make_text(alloc, host, Txt::new(alloc), parts, near)
+    }
+
     // expr word ..
-    #[tactic(auto, using(crate::proofs::Halts::given_halts, crate::proofs::Halts::fault_halts, crate::proofs::Halts::error_halts))]
+    #[cycle(run)]
     pub fn run_expr<H: Host>(
         &mut self,
         alloc: Global,
-        host: &H,
-        variables: &Vars,
+        host: &mut H,
         command: &Txt,
         words: &[Txt],
-        limits: &Limits,
-    ) -> Result<Now, Halt>
+        near: u32,
+    ) -> Result<Came, Halt>
+        ensures same_place { H.place host.new ≡ H.place host.old }
+        ensures same_limits { self.new.limits ≡ self.old.limits }
         ensures spends { self.new.fuel ≤ self.old.fuel }
-        ensures goes { GoesSo H.meaning limits.now (resume H.meaning limits.now self.old.left self.old.stack (expr_does limits.now (evaluate H.meaning limits.now self.old.left) command.now words.now (H.state host.now) variables.now self.old.fuel)) result self.new (H.state host.now) variables.now }
+        ensures comes { DoesSo H.meaning true (expr_does self.old.limits (level_of H.meaning self.old) command.now words.now) (H.state host.old) self.old result (H.state host.new) self.new }
     {
         match words {
             [] => Err(error_about(ErrorNumber::WrongWords, command)),
-            [word] if fits(word, limits) => {
-                self.run_expression(alloc, host, variables, word, limits)
-            }
+            [word] if fits(word, &self.limits) => self.run_expression(alloc, host, word, near),
             _ => {
                 let space = Txt::from_text(alloc, b" ")?;
-                let text = joined_within(alloc, words, &space, limits)?;
-                self.run_expression(alloc, host, variables, &text, limits)
+                let text = joined_within(alloc, words, &space, &self.limits)?;
+                self.run_expression(alloc, host, &text, near)
             }
         }
     }
 
     // Evaluates the expression that a text spells, and tells its result.
-    #[tactic(auto, using(crate::proofs::Halts::fault_halts))]
+    #[cycle(run)]
     fn run_expression<H: Host>(
         &mut self,
         alloc: Global,
-        host: &H,
-        variables: &Vars,
+        host: &mut H,
         text: &Txt,
-        limits: &Limits,
-    ) -> Result<Now, Halt>
+        near: u32,
+    ) -> Result<Came, Halt>
+        ensures same_place { H.place host.new ≡ H.place host.old }
+        ensures same_limits { self.new.limits ≡ self.old.limits }
         ensures spends { self.new.fuel ≤ self.old.fuel }
-        ensures goes { GoesSo H.meaning limits.now (resume H.meaning limits.now self.old.left self.old.stack (result_told limits.now (expression_does limits.now (evaluate H.meaning limits.now self.old.left) text.now (H.state host.now) variables.now self.old.fuel))) result self.new (H.state host.now) variables.now }
+        ensures comes { DoesSo H.meaning true (told_by self.old.limits (expression_does self.old.limits (level_of H.meaning self.old) text.now)) (H.state host.old) self.old result (H.state host.new) self.new }
     {
         let items = self.table.parsed().expr(alloc, text)?;
-        match self.value(alloc, host, &items, variables, limits)? {
-            Counted::Value(value) => Ok(Now::At(Ending {
-                code: 0,
-                text: value.into_result(alloc)?,
-            })),
-            Counted::Waits(waits) => {
-                self.stack.push(Frame::Whole)?;
-                Ok(Now::Counts(boxed(alloc, waits)?))
-            }
+        match self.value(alloc, host, &items, near)? {
+            Valued::Value(value) => Ok(Came::Ended(Ending::with(value.into_result(alloc)?))),
+            Valued::Ended(end) => Ok(Came::Ended(end)),
+            Valued::Waits(waiting) => Ok(Came::Waits(before(waiting, Frame::Whole)?)),
         }
-    }
-
-    /// Takes a step, and reads a condition.
-    pub fn read_condition(&mut self, alloc: Global, condition: &Txt) -> Result<Items, Halt>
-        ensures reads { ReadsSo (items_in condition.now) result self.old.fuel self.new.fuel }
-        ensures kept { self.new ≡ record self.old { fuel = self.new.fuel } }
-    {
-        self.take_step()?;
-        let items = self.table.parsed().expr(alloc, condition)?;
-        Ok(items)
-    }
-
-    /// How far an expression comes at once.
-    pub fn value<H: Host>(
-        &self,
-        alloc: Global,
-        host: &H,
-        items: &Items,
-        variables: &Vars,
-        limits: &Limits,
-    ) -> Result<Counted, Halt>
-        ensures { CountsSo H.meaning limits.now self.now.left (items_go limits.now (evaluate H.meaning limits.now self.now.left) items.now [] (H.state host.now) variables.now self.now.fuel) result (H.state host.now) variables.now self.now.fuel }
-    {
-        let all = items.as_slice().len();
-        let counted = come(alloc, items, all, Values::new(alloc), variables, limits)?;
-        Ok(counted)
-    }
-
-    // The same behind a text that it waited for.
-    fn value_behind<H: Host>(
-        &self,
-        alloc: Global,
-        host: &H,
-        counting: Counting,
-        text: Txt,
-        variables: &Vars,
-        limits: &Limits,
-    ) -> Result<Counted, Halt>
-        ensures falls { CountFalls result counting }
-        ensures goes { CountsSo H.meaning limits.now self.now.left (counts_on limits.now (evaluate H.meaning limits.now self.now.left) counting (End 0 text (H.state host.now) variables.now self.now.fuel)) result (H.state host.now) variables.now self.now.fuel }
-    {
-        let Counting {
-            items,
-            left,
-            values,
-        } = counting;
-        let values = Values::above(Value::of(text), values);
-        let counted = come(alloc, &items, left, values, variables, limits)?;
-        Ok(counted)
-    }
-
-    /// Goes on with what an expression waits for.
-    pub fn open_waits<H: Host>(
-        &mut self,
-        host: &H,
-        variables: &Vars,
-        waits: Waits,
-        limits: &Limits,
-    ) -> Result<Now, Halt>
-        ensures falls { Falls result (waits_weight waits) self.old self.new }
-        ensures goes { GoesSo H.meaning limits.now (resume H.meaning limits.now self.old.left self.old.stack (waits_do H.meaning limits.now self.old.left waits (H.state host.now) variables.now self.old.fuel)) result self.new (H.state host.now) variables.now }
-    {
-        let Waits { counting, awaited } = waits;
-        match awaited {
-            Awaited::Script(script) => {
-                self.stack.push(Frame::Operand(counting))?;
-                Ok(Now::Open(script))
-            }
-            Awaited::Text(text) => {
-                let Unfinished { made, inner, parts } = Box::into_inner(text);
-                self.stack.push(Frame::Value(counting))?;
-                let now = self.open_inner(inner, made, parts)?;
-                Ok(now)
-            }
-        }
-    }
-
-    /// Goes on with an expression behind a script, whose result is the text that it waited for.
-    pub fn after_operand<H: Host>(
-        &mut self,
-        alloc: Global,
-        host: &H,
-        variables: &Vars,
-        counting: Counting,
-        end: Ending,
-        limits: &Limits,
-    ) -> Result<Now, Halt>
-        ensures falls { Falls result (frame_weight (frames.Operand counting)) self.old self.new }
-        ensures goes { GoesSo H.meaning limits.now (resume H.meaning limits.now self.old.left (frames.Operand counting ∷ self.old.stack) (End end.code end.text (H.state host.now) variables.now self.old.fuel)) result self.new (H.state host.now) variables.now }
-    {
-        if end.code != 0 {
-            return Ok(Now::At(end));
-        }
-        let text = alone(end.text, limits)?;
-        let end = Ending { code: 0, text };
-        self.after_value(alloc, host, variables, counting, end, limits)
     }
 
     /// Goes on with an expression behind a text that it waited for.
     pub fn after_value<H: Host>(
         &mut self,
         alloc: Global,
-        host: &H,
-        variables: &Vars,
+        host: &mut H,
         counting: Counting,
         end: Ending,
-        limits: &Limits,
-    ) -> Result<Now, Halt>
-        ensures falls { Falls result (frame_weight (frames.Value counting)) self.old self.new }
-        ensures goes { GoesSo H.meaning limits.now (resume H.meaning limits.now self.old.left (frames.Value counting ∷ self.old.stack) (End end.code end.text (H.state host.now) variables.now self.old.fuel)) result self.new (H.state host.now) variables.now }
+    ) -> Result<Came, Halt>
+        ensures same_place { H.place host.new ≡ H.place host.old }
+        ensures same_limits { self.new.limits ≡ self.old.limits }
+        ensures falls { FallsBelow result (frame_weight (frame.Value counting)) self.old.fuel self.new.fuel }
+        ensures comes { ComesSo H.meaning true self.old.left (after_frame H.meaning self.old.limits self.old.left (frame.Value counting) (done_by (ended end) (H.state host.old) self.old)) result self.new (H.state host.new) }
     {
         if end.code != 0 {
-            return Ok(Now::At(end));
+            return Ok(Came::Ended(end));
         }
-        match self.value_behind(alloc, host, counting, end.text, variables, limits)? {
-            Counted::Value(value) => Ok(Now::At(Ending {
-                code: 0,
-                text: value.into_text(alloc)?,
-            })),
-            Counted::Waits(waits) => self.open_waits(host, variables, waits, limits),
+        let Counting {
+            items,
+            left,
+            values,
+        } = counting;
+        let values = Values::above(Value::of(end.text), values);
+        match self.count(alloc, host, &items, left, values, NEAR)? {
+            Valued::Value(value) => Ok(Came::Ended(Ending::with(value.into_text(alloc)?))),
+            Valued::Ended(end) => Ok(Came::Ended(end)),
+            Valued::Waits(waiting) => Ok(Came::Waits(waiting)),
         }
     }
 
     /// Goes on with an `expr` behind its value.
-    #[tactic(auto, using(crate::proofs::Halts::fault_halts))]
     pub fn after_whole<H: Host>(
         &mut self,
         alloc: Global,
         host: &H,
-        variables: &Vars,
         end: Ending,
-        limits: &Limits,
-    ) -> Result<Now, Halt>
-        ensures falls { Falls result 1 self.old self.new }
-        ensures goes { GoesSo H.meaning limits.now (resume H.meaning limits.now self.old.left (frames.Whole ∷ self.old.stack) (End end.code end.text (H.state host.now) variables.now self.old.fuel)) result self.new (H.state host.now) variables.now }
+    ) -> Result<Came, Halt>
+        ensures same_limits { self.new.limits ≡ self.old.limits }
+        ensures falls { FallsBelow result 1 self.old.fuel self.new.fuel }
+        ensures comes { ComesSo H.meaning true self.old.left (after_frame H.meaning self.old.limits self.old.left frame.Whole (done_by (ended end) (H.state host.now) self.old)) result self.new (H.state host.now) }
     {
         if end.code != 0 {
-            return Ok(Now::At(end));
+            return Ok(Came::Ended(end));
         }
-        Ok(Now::At(Ending {
-            code: 0,
-            text: Value::text(end.text).into_result(alloc)?,
-        }))
+        let text = Value::text(end.text).into_result(alloc)?;
+        Ok(Came::Ended(Ending::with(text)))
     }
 }

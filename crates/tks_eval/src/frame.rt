@@ -1,9 +1,9 @@
-//! The frames of the machine: what is left to do behind the end of a script, a command or a word.
+//! Frames: what is left to do behind the end of a script, a command or a word.
 ghost use Rattle.std.specs.Prelude.{◌≡◌, []};
 
 use crate::branches::Branches;
-use crate::expressions::{Counting, Waits};
-use crate::host::{Due, Plan};
+use crate::expressions::Counting;
+use crate::host::Due;
 use crate::loops::{Loop, Stage};
 use crate::rest::Rest;
 use std::alloc::Global;
@@ -26,6 +26,13 @@ impl Ending {
             code: 0,
             text: Txt::new(alloc),
         }
+    }
+
+    /// The end by code 0 with this text.
+    pub fn with(text: Txt) -> Ending
+        ensures { result ≡ record { code = 0; text = text } }
+    {
+        Ending { code: 0, text }
     }
 }
 
@@ -66,8 +73,6 @@ pub enum Frame {
     },
     /// An expression, at a text.
     Value(Counting),
-    /// An expression, at a script whose result is the text.
-    Operand(Counting),
     /// `expr`, at its expression.
     Whole,
     /// `if`, at a condition, with its body and the branches behind it.
@@ -77,40 +82,45 @@ pub enum Frame {
     },
     /// `while` or `for`.
     Turns(Stage, Loop),
-    /// A procedure, which was called where so many scripts might be open.
-    Procedure {
-        levels: u32,
-    },
-    /// A script at global level, the same.
-    Global {
-        levels: u32,
-    },
-    /// One of the scripts of an event in a window, with those behind it, the same.
+    /// A procedure.
+    Procedure,
+    /// A script at global level.
+    Global,
+    /// One of the scripts of an event in a window, with those behind it.
     Scripts {
         window: u64,
         scripts: Rest<Txt>,
-        levels: u32,
     },
     /// A thing that waited, of which no script sees how it ends.
     Thing,
-    /// `update`, at one of the things that waited, behind which the host is asked for the next one, the same.
+    /// `update`, at one of the things that waited, behind which the host is asked for the next one.
     Update {
         due: Due,
-        levels: u32,
     },
 }
 
-/// What the machine is at. It is handed on at each turn, so it is small.
+/// What is to be opened.
 #[derive(Drop)]
-pub enum Now {
-    /// A script to open.
-    Open(Script),
-    /// An index to make.
+pub enum Opens {
+    Script(Script),
+    /// The index of an element.
     Index(Remaining<Part>),
-    /// An expression that waits.
-    Counts(Box<Waits>),
-    /// What the host wants done.
-    Planned(Plan),
-    /// An end, for the frame on top.
-    At(Ending),
+    /// The things that wait in the host, for `update`.
+    Things(Due),
+}
+
+/// What waits: what is to be opened, and what is left to do behind that, the innermost first.
+#[derive(Drop)]
+pub struct Waiting {
+    pub opens: Opens,
+    pub frames: Vec<Frame>,
+}
+
+/// How far a thing came.
+#[derive(Drop)]
+pub enum Came {
+    /// It ended.
+    Ended(Ending),
+    /// It waits for what has to be opened.
+    Waits(Box<Waiting>),
 }

@@ -9,7 +9,6 @@ mod control;
 mod ended;
 mod expressions;
 mod frame;
-mod globals;
 mod halt;
 mod host;
 mod laws;
@@ -17,10 +16,8 @@ mod loops;
 mod machine;
 mod plans;
 mod procedures;
-mod reach;
 mod rest;
 mod table;
-mod things;
 mod words;
 
 pub use ended::Ended;

@@ -1,26 +1,25 @@
-//! `while`, `for` and `foreach`, a turn at a time.
-ghost use Rattle.std.specs.Prelude.{◌≡◌, ◌≤◌, ◌<◌, ◌+◌, ◌∷◌, IfOk, option_copied};
-ghost use Rattle.tks_expr.specs.Compiled.{items_in};
-ghost use Rattle.tks_eval.specs.Outcome.{End};
-ghost use Rattle.tks_eval.specs.Meets.{ReadsSo};
-ghost use Rattle.tks_eval.specs.Evaluation.{evaluate, if_holds, turn_does, behind_body, loop_does, done, while_does, for_does};
-ghost use Rattle.tks_eval.specs.Machine.{resume, loop_weight, optional_weight, GoesSo, Falls, TurnsSo};
+//! `while`, `for` and `foreach`.
+ghost use Rattle.std.specs.Prelude.{true, ◌≡◌, ◌≤◌, Some, IfOk, option_copied};
+ghost use Rattle.tks_tcl.specs.Meets.{GivesSo};
+ghost use Rattle.tks_eval.specs.Evaluation.{behind_body, turn_does, loop_does, while_does, for_does, foreach_form, foreach_does, each};
+ghost use Rattle.tks_eval.specs.Loops as loops;
+ghost use Rattle.tks_eval.specs.Machine.{after_frame, ended, level_of, done_by, frame_weight, loop_weight, ComesSo, DoesSo, FallsTo, FallsBelow};
 ghost use Rattle.tks_eval.specs.declared.frame.Frame.TheVariants as frame;
 ghost use Rattle.tks_eval.specs.declared.loops.Stage.TheVariants as stages;
 
-use crate::boxed::boxed;
-use crate::expressions::Counted;
-use crate::frame::{Ending, Frame, Now};
+use crate::expressions::Valued;
+use crate::frame::{Came, Ending, Frame};
 use crate::halt::{Halt, error_about};
 use crate::host::Host;
-use crate::machine::Machine;
+use crate::machine::{Machine, NEAR, before};
+use crate::rest::Rest;
 use std::alloc::{AllocError, Global};
 use std::marker::Model;
 use std::rc::Rc;
-use tks_expr::{Items, truth_of};
+use tks_expr::truth_of;
 use tks_parse_table::{KnownExpr, KnownScript};
-use tks_text::{ErrorNumber, Limits, Txt};
-use tks_vars::Vars;
+use tks_tcl::{Interrupt, ListTable, store, wrong_words};
+use tks_text::{ErrorNumber, Txt};
 
 /// A loop: its condition, its body, and the script that a `for` runs behind that.
 #[derive(Drop)]
@@ -98,31 +97,42 @@ pub enum Stage {
     Next,
 }
 
-/// How far a turn of a loop was made at once.
-#[derive(Drop)]
-pub enum Turn {
-    /// It was made, and the next one follows.
-    Again,
-    /// The loop ended so.
-    Ended(Ending),
-    /// The loop waits for what is to be run.
-    Waits(Stage, Now),
+// The variable's name, the body and the elements of a `foreach`.
+#[tactic(auto, using(tks_tcl::proofs::Causes::tells))]
+fn foreach_form(
+    alloc: Global,
+    lists: &ListTable,
+    command: &Txt,
+    words: &[Txt],
+) -> Result<(Txt, Txt, Rest<Txt>), Interrupt>
+    ensures { GivesSo (λ x. x) result (foreach_form command.now words.now) }
+{
+    let [name, list, body] = words else {
+        return Err(wrong_words(command));
+    };
+    let elements = lists.own_list(alloc, list)?;
+    Ok((
+        name.try_clone()?,
+        body.try_clone()?,
+        Rest::of(elements.into_items()),
+    ))
 }
 
 impl Machine {
     // while c b
-    #[tactic(auto, using(crate::proofs::Halts::error_halts))]
+    #[cycle(run)]
     pub fn run_while<H: Host>(
         &mut self,
         alloc: Global,
-        host: &H,
-        variables: &mut Vars,
+        host: &mut H,
         command: &Txt,
         words: &[Txt],
-        limits: &Limits,
-    ) -> Result<Now, Halt>
+        near: u32,
+    ) -> Result<Came, Halt>
+        ensures same_place { H.place host.new ≡ H.place host.old }
+        ensures same_limits { self.new.limits ≡ self.old.limits }
         ensures spends { self.new.fuel ≤ self.old.fuel }
-        ensures goes { GoesSo H.meaning limits.now (resume H.meaning limits.now self.old.left self.old.stack (while_does limits.now (evaluate H.meaning limits.now self.old.left) command.now words.now (H.state host.now) variables.old self.old.fuel)) result self.new (H.state host.now) variables.new }
+        ensures comes { DoesSo H.meaning true (while_does self.old.limits (level_of H.meaning self.old) command.now words.now) (H.state host.old) self.old result (H.state host.new) self.new }
     {
         let [condition, body] = words else {
             return Err(error_about(ErrorNumber::WrongWords, command));
@@ -130,22 +140,23 @@ impl Machine {
         let condition = self.table.parsed().known_expr(alloc, condition)?;
         let body = self.table.parsed().known_script(alloc, body)?;
         let turns = Loop::new(alloc, condition, body, None)?;
-        self.next_turn(alloc, host, variables, turns, limits)
+        self.make_turns(alloc, host, turns, near)
     }
 
     // for s c n b
-    #[tactic(auto, using(crate::proofs::Halts::error_halts))]
+    #[cycle(run)]
     pub fn run_for<H: Host>(
         &mut self,
         alloc: Global,
-        host: &H,
-        variables: &mut Vars,
+        host: &mut H,
         command: &Txt,
         words: &[Txt],
-        limits: &Limits,
-    ) -> Result<Now, Halt>
+        near: u32,
+    ) -> Result<Came, Halt>
+        ensures same_place { H.place host.new ≡ H.place host.old }
+        ensures same_limits { self.new.limits ≡ self.old.limits }
         ensures spends { self.new.fuel ≤ self.old.fuel }
-        ensures goes { GoesSo H.meaning limits.now (resume H.meaning limits.now self.old.left self.old.stack (for_does limits.now (evaluate H.meaning limits.now self.old.left) command.now words.now (H.state host.now) variables.old self.old.fuel)) result self.new (H.state host.now) variables.new }
+        ensures comes { DoesSo H.meaning true (for_does self.old.limits (level_of H.meaning self.old) command.now words.now) (H.state host.old) self.old result (H.state host.new) self.new }
     {
         let [start, condition, next, body] = words else {
             return Err(error_about(ErrorNumber::WrongWords, command));
@@ -155,194 +166,243 @@ impl Machine {
         let body = self.table.parsed().known_script(alloc, body)?;
         let next = self.table.parsed().known_script(alloc, next)?;
         let turns = Loop::new(alloc, condition, body, Some(next))?;
-        self.stack.push(Frame::Turns(Stage::Start, turns))?;
-        Ok(Now::Open(start))
+        match self.run_script(alloc, host, &start, false, near)? {
+            Came::Ended(end) => {
+                if end.code != 0 {
+                    return Ok(Came::Ended(end));
+                }
+                self.make_turns(alloc, host, turns, near)
+            }
+            Came::Waits(waiting) => {
+                let frame = Frame::Turns(Stage::Start, turns);
+                Ok(Came::Waits(before(waiting, frame)?))
+            }
+        }
     }
 
-    // Takes a step, and reads a condition that is known.
-    fn read_known(&mut self, alloc: Global, condition: &KnownExpr) -> Result<Items, Halt>
-        ensures reads { ReadsSo (items_in condition.now) result self.old.fuel self.new.fuel }
-        ensures kept { self.new ≡ record self.old { fuel = self.new.fuel } }
-    {
-        self.take_step()?;
-        let items = condition.items(alloc)?;
-        Ok(items)
-    }
-
-    // Goes on with the next turn of a loop, and those behind it that are made at once.
-    fn next_turn<H: Host>(
+    // Makes the turns of a loop that are left, each with a step.
+    #[cycle(run)]
+    fn make_turns<H: Host>(
         &mut self,
         alloc: Global,
-        host: &H,
-        variables: &mut Vars,
+        host: &mut H,
         turns: Loop,
-        limits: &Limits,
-    ) -> Result<Now, Halt>
-        ensures falls { Falls result 1 self.old self.new }
-        ensures goes { GoesSo H.meaning limits.now (resume H.meaning limits.now self.old.left self.old.stack (loop_does limits.now (evaluate H.meaning limits.now self.old.left) turns (H.state host.now) variables.old self.old.fuel)) result self.new (H.state host.now) variables.new }
+        near: u32,
+    ) -> Result<Came, Halt>
+        ensures same_place { H.place host.new ≡ H.place host.old }
+        ensures same_limits { self.new.limits ≡ self.old.limits }
+        ensures falls { FallsTo result 0 self.old.fuel self.new.fuel }
+        ensures comes { DoesSo H.meaning true (loop_does self.old.limits (level_of H.meaning self.old) turns) (H.state host.old) self.old result (H.state host.new) self.new }
     {
         'turn: loop {
-            match self.turn(alloc, host, variables, &turns, limits)? {
-                Turn::Again => continue 'turn,
-                Turn::Ended(end) => return Ok(Now::At(end)),
-                Turn::Waits(stage, now) => {
-                    self.stack.push(Frame::Turns(stage, turns))?;
-                    return Ok(now);
+            self.take_step()?;
+            let items = turns.condition().items(alloc)?;
+            match self.value(alloc, host, &items, near)? {
+                Valued::Value(value) => {
+                    if !value.holds()? {
+                        return Ok(Came::Ended(Ending::silent(alloc)));
+                    }
+                }
+                Valued::Ended(end) => return Ok(Came::Ended(end)),
+                Valued::Waits(waiting) => {
+                    let frame = Frame::Turns(Stage::Condition, turns);
+                    return Ok(Came::Waits(before(waiting, frame)?));
                 }
             }
-        }
-    }
-
-    // Makes a turn of a loop, as far as that goes at once.
-    #[tactic(auto, using(crate::proofs::Halts::test_halts, crate::proofs::Turns::loop_unrolls))]
-    fn turn<H: Host>(
-        &mut self,
-        alloc: Global,
-        host: &H,
-        variables: &mut Vars,
-        turns: &Loop,
-        limits: &Limits,
-    ) -> Result<Turn, Halt>
-        ensures spends { self.new.fuel ≤ self.old.fuel }
-        ensures step { IfOk result (λ _. self.new.fuel < self.old.fuel) }
-        ensures kept { self.new ≡ record self.old { fuel = self.new.fuel } }
-        ensures goes { TurnsSo H.meaning limits.now self.old.left turns.now (loop_does limits.now (evaluate H.meaning limits.now self.old.left) turns.now (H.state host.now) variables.old self.old.fuel) result (H.state host.now) variables.new self.new.fuel }
-    {
-        let items = self.read_known(alloc, turns.condition())?;
-        match self.value(alloc, host, &items, variables, limits)? {
-            Counted::Waits(waits) => {
-                let now = Now::Counts(boxed(alloc, waits)?);
-                Ok(Turn::Waits(Stage::Condition, now))
-            }
-            Counted::Value(value) => {
-                if value.holds()? {
-                    self.body_at_once(alloc, host, variables, turns, limits)
-                } else {
-                    Ok(Turn::Ended(Ending::silent(alloc)))
+            match self.run_script(alloc, host, turns.body().script(), false, near)? {
+                Came::Ended(end) => match end.code {
+                    0 | 4 => {}
+                    3 => return Ok(Came::Ended(Ending::silent(alloc))),
+                    _ => return Ok(Came::Ended(end)),
+                },
+                Came::Waits(waiting) => {
+                    let frame = Frame::Turns(Stage::Body, turns);
+                    return Ok(Came::Waits(before(waiting, frame)?));
                 }
             }
-        }
-    }
-
-    // Goes on with a turn, the condition of which holds.
-    fn body_at_once<H: Host>(
-        &mut self,
-        alloc: Global,
-        host: &H,
-        variables: &mut Vars,
-        turns: &Loop,
-        limits: &Limits,
-    ) -> Result<Turn, Halt>
-        ensures spends { self.new.fuel ≤ self.old.fuel }
-        ensures kept { self.new ≡ record self.old { fuel = self.new.fuel } }
-        ensures goes { TurnsSo H.meaning limits.now self.old.left turns.now (turn_does (evaluate H.meaning limits.now self.old.left) turns.now (loop_does limits.now (evaluate H.meaning limits.now self.old.left) turns.now) (H.state host.now) variables.old self.old.fuel) result (H.state host.now) variables.new self.new.fuel }
-    {
-        let body = turns.body().script();
-        let Some(end) = self.run_at_once(alloc, host, variables, body, false, limits) else {
-            return Ok(Turn::Waits(Stage::Body, Now::Open(body.share()?)));
-        };
-        match end.code {
-            0 | 4 => self.next_at_once(alloc, host, variables, turns, limits),
-            3 => Ok(Turn::Ended(Ending::silent(alloc))),
-            _ => Ok(Turn::Ended(end)),
-        }
-    }
-
-    // Goes on with a turn behind its body.
-    fn next_at_once<H: Host>(
-        &mut self,
-        alloc: Global,
-        host: &H,
-        variables: &mut Vars,
-        turns: &Loop,
-        limits: &Limits,
-    ) -> Result<Turn, Halt>
-        ensures spends { self.new.fuel ≤ self.old.fuel }
-        ensures kept { self.new ≡ record self.old { fuel = self.new.fuel } }
-        ensures goes { TurnsSo H.meaning limits.now self.old.left turns.now (behind_body (evaluate H.meaning limits.now self.old.left) turns.now (loop_does limits.now (evaluate H.meaning limits.now self.old.left) turns.now) (H.state host.now) variables.old self.old.fuel) result (H.state host.now) variables.new self.new.fuel }
-    {
-        let Some(next) = turns.next() else {
-            return Ok(Turn::Again);
-        };
-        let next = next.script();
-        let Some(end) = self.run_at_once(alloc, host, variables, next, false, limits) else {
-            return Ok(Turn::Waits(Stage::Next, Now::Open(next.share()?)));
-        };
-        match end.code {
-            0 => Ok(Turn::Again),
-            3 => Ok(Turn::Ended(Ending::silent(alloc))),
-            _ => Ok(Turn::Ended(end)),
+            let Some(next) = turns.next() else {
+                continue 'turn;
+            };
+            match self.run_script(alloc, host, next.script(), false, near)? {
+                Came::Ended(end) => match end.code {
+                    0 => {}
+                    3 => return Ok(Came::Ended(Ending::silent(alloc))),
+                    _ => return Ok(Came::Ended(end)),
+                },
+                Came::Waits(waiting) => {
+                    let frame = Frame::Turns(Stage::Next, turns);
+                    return Ok(Came::Waits(before(waiting, frame)?));
+                }
+            }
         }
     }
 
     /// Goes on with a loop behind what it waited for.
-    #[tactic(auto, using(crate::proofs::Halts::fault_halts))]
     pub fn after_stage<H: Host>(
         &mut self,
         alloc: Global,
-        host: &H,
-        variables: &mut Vars,
+        host: &mut H,
         stage: Stage,
         turns: Loop,
         end: Ending,
-        limits: &Limits,
-    ) -> Result<Now, Halt>
-        ensures falls { Falls result (loop_weight stage turns) self.old self.new }
-        ensures goes { GoesSo H.meaning limits.now (resume H.meaning limits.now self.old.left (frame.Turns stage turns ∷ self.old.stack) (End end.code end.text (H.state host.now) variables.old self.old.fuel)) result self.new (H.state host.now) variables.new }
+    ) -> Result<Came, Halt>
+        ensures same_place { H.place host.new ≡ H.place host.old }
+        ensures same_limits { self.new.limits ≡ self.old.limits }
+        ensures falls { FallsBelow result (loop_weight stage turns) self.old.fuel self.new.fuel }
+        ensures comes { ComesSo H.meaning true self.old.left (loops.after_stage self.old.limits (level_of H.meaning self.old) stage turns (done_by (ended end) (H.state host.old) self.old)) result self.new (H.state host.new) }
     {
         match (stage, end.code) {
-            (Stage::Start, 0) => self.next_turn(alloc, host, variables, turns, limits),
-            (Stage::Next, 0) => self.next_turn(alloc, host, variables, turns, limits),
+            (Stage::Start | Stage::Next, 0) => self.make_turns(alloc, host, turns, NEAR),
             (Stage::Condition, 0) => {
-                let holds = truth_of(&end.text)?;
-                self.open_body(alloc, host, variables, turns, holds, limits)
+                if truth_of(&end.text)? {
+                    self.run_turn(alloc, host, turns)
+                } else {
+                    Ok(Came::Ended(Ending::silent(alloc)))
+                }
             }
-            (Stage::Body, 0 | 4) => self.open_next(alloc, host, variables, turns, limits),
-            (Stage::Body | Stage::Next, 3) => Ok(Now::At(Ending::silent(alloc))),
-            _ => Ok(Now::At(end)),
+            (Stage::Body, 0 | 4) => self.run_next(alloc, host, turns),
+            (Stage::Body | Stage::Next, 3) => Ok(Came::Ended(Ending::silent(alloc))),
+            _ => Ok(Came::Ended(end)),
         }
     }
 
-    // Goes on with a loop, whose condition holds or not.
-    fn open_body<H: Host>(
-        &mut self,
-        alloc: Global,
-        host: &H,
-        variables: &mut Vars,
-        turns: Loop,
-        holds: bool,
-        limits: &Limits,
-    ) -> Result<Now, Halt>
-        ensures falls { Falls result (loop_weight stages.Condition turns) self.old self.new }
-        ensures goes { GoesSo H.meaning limits.now (resume H.meaning limits.now self.old.left self.old.stack (if_holds holds (turn_does (evaluate H.meaning limits.now self.old.left) turns (loop_does limits.now (evaluate H.meaning limits.now self.old.left) turns)) done (H.state host.now) variables.old self.old.fuel)) result self.new (H.state host.now) variables.new }
+    // Goes on with a loop at a body.
+    fn run_turn<H: Host>(&mut self, alloc: Global, host: &mut H, turns: Loop) -> Result<Came, Halt>
+        ensures same_place { H.place host.new ≡ H.place host.old }
+        ensures same_limits { self.new.limits ≡ self.old.limits }
+        ensures falls { FallsBelow result (loop_weight stages.Condition turns) self.old.fuel self.new.fuel }
+        ensures comes { DoesSo H.meaning true (turn_does (level_of H.meaning self.old) turns (loop_does self.old.limits (level_of H.meaning self.old) turns)) (H.state host.old) self.old result (H.state host.new) self.new }
     {
-        if !holds {
-            return Ok(Now::At(Ending::silent(alloc)));
+        match self.run_script(alloc, host, turns.body().script(), false, NEAR)? {
+            Came::Ended(end) => self.after_stage_body(alloc, host, turns, end),
+            Came::Waits(waiting) => {
+                let frame = Frame::Turns(Stage::Body, turns);
+                Ok(Came::Waits(before(waiting, frame)?))
+            }
         }
-        let body = turns.body().script().share()?;
-        self.stack.push(Frame::Turns(Stage::Body, turns))?;
-        Ok(Now::Open(body))
     }
 
-    // Goes on with a loop behind its body.
-    fn open_next<H: Host>(
+    // Goes on with a loop behind a body.
+    fn after_stage_body<H: Host>(
         &mut self,
         alloc: Global,
-        host: &H,
-        variables: &mut Vars,
+        host: &mut H,
         turns: Loop,
-        limits: &Limits,
-    ) -> Result<Now, Halt>
-        ensures falls { Falls result (loop_weight stages.Body turns) self.old self.new }
-        ensures goes { GoesSo H.meaning limits.now (resume H.meaning limits.now self.old.left self.old.stack (behind_body (evaluate H.meaning limits.now self.old.left) turns (loop_does limits.now (evaluate H.meaning limits.now self.old.left) turns) (H.state host.now) variables.old self.old.fuel)) result self.new (H.state host.now) variables.new }
+        end: Ending,
+    ) -> Result<Came, Halt>
+        ensures same_place { H.place host.new ≡ H.place host.old }
+        ensures same_limits { self.new.limits ≡ self.old.limits }
+        ensures falls { FallsBelow result (loop_weight stages.Body turns) self.old.fuel self.new.fuel }
+        ensures comes { ComesSo H.meaning true self.old.left (loops.after_stage self.old.limits (level_of H.meaning self.old) stages.Body turns (done_by (ended end) (H.state host.old) self.old)) result self.new (H.state host.new) }
     {
-        match turns.next() {
-            None => self.next_turn(alloc, host, variables, turns, limits),
-            Some(next) => {
-                let next = next.script().share()?;
-                self.stack.push(Frame::Turns(Stage::Next, turns))?;
-                Ok(Now::Open(next))
+        match end.code {
+            0 | 4 => self.run_next(alloc, host, turns),
+            3 => Ok(Came::Ended(Ending::silent(alloc))),
+            _ => Ok(Came::Ended(end)),
+        }
+    }
+
+    // Goes on with a loop at the script behind its body.
+    fn run_next<H: Host>(&mut self, alloc: Global, host: &mut H, turns: Loop) -> Result<Came, Halt>
+        ensures same_place { H.place host.new ≡ H.place host.old }
+        ensures same_limits { self.new.limits ≡ self.old.limits }
+        ensures falls { FallsBelow result (loop_weight stages.Body turns) self.old.fuel self.new.fuel }
+        ensures comes { DoesSo H.meaning true (behind_body (level_of H.meaning self.old) turns (loop_does self.old.limits (level_of H.meaning self.old) turns)) (H.state host.old) self.old result (H.state host.new) self.new }
+    {
+        let Some(next) = turns.next() else {
+            return self.make_turns(alloc, host, turns, NEAR);
+        };
+        match self.run_script(alloc, host, next.script(), false, NEAR)? {
+            Came::Ended(end) => match end.code {
+                0 => self.make_turns(alloc, host, turns, NEAR),
+                3 => Ok(Came::Ended(Ending::silent(alloc))),
+                _ => Ok(Came::Ended(end)),
+            },
+            Came::Waits(waiting) => {
+                let frame = Frame::Turns(Stage::Next, turns);
+                Ok(Came::Waits(before(waiting, frame)?))
             }
+        }
+    }
+
+    // foreach name l b
+    #[cycle(run)]
+    pub fn run_foreach<H: Host>(
+        &mut self,
+        alloc: Global,
+        host: &mut H,
+        command: &Txt,
+        words: &[Txt],
+        near: u32,
+    ) -> Result<Came, Halt>
+        ensures same_place { H.place host.new ≡ H.place host.old }
+        ensures same_limits { self.new.limits ≡ self.old.limits }
+        ensures spends { self.new.fuel ≤ self.old.fuel }
+        ensures comes { DoesSo H.meaning true (foreach_does self.old.limits (level_of H.meaning self.old) command.now words.now) (H.state host.old) self.old result (H.state host.new) self.new }
+    {
+        let (name, body, elements) = foreach_form(alloc, self.table.lists(), command, words)?;
+        self.next_elements(alloc, host, name, body, elements, near)
+    }
+
+    // Goes on with the elements that are left of a `foreach`.
+    #[cycle(run)]
+    fn next_elements<H: Host>(
+        &mut self,
+        alloc: Global,
+        host: &mut H,
+        name: Txt,
+        body: Txt,
+        elements: Rest<Txt>,
+        near: u32,
+    ) -> Result<Came, Halt>
+        ensures same_place { H.place host.new ≡ H.place host.old }
+        ensures same_limits { self.new.limits ≡ self.old.limits }
+        ensures falls { FallsTo result 0 self.old.fuel self.new.fuel }
+        ensures comes { DoesSo H.meaning true (each self.old.limits (level_of H.meaning self.old) name body elements) (H.state host.old) self.old result (H.state host.new) self.new }
+    {
+        let script = self.table.parsed().script(alloc, &body)?;
+        let mut elements = elements;
+        'element: while let Some(element) = elements.next() {
+            self.take_step()?;
+            store(&mut self.variables, &name, element, &self.limits)?;
+            match self.run_script(alloc, host, &script, false, near)? {
+                Came::Ended(end) => match end.code {
+                    0 | 4 => {}
+                    3 => break 'element,
+                    _ => return Ok(Came::Ended(end)),
+                },
+                Came::Waits(waiting) => {
+                    let frame = Frame::Each {
+                        name,
+                        body,
+                        elements,
+                    };
+                    return Ok(Came::Waits(before(waiting, frame)?));
+                }
+            }
+        }
+        Ok(Came::Ended(Ending::silent(alloc)))
+    }
+
+    /// Goes on with a `foreach` behind its body.
+    pub fn after_element<H: Host>(
+        &mut self,
+        alloc: Global,
+        host: &mut H,
+        name: Txt,
+        body: Txt,
+        elements: Rest<Txt>,
+        end: Ending,
+    ) -> Result<Came, Halt>
+        ensures same_place { H.place host.new ≡ H.place host.old }
+        ensures same_limits { self.new.limits ≡ self.old.limits }
+        ensures falls { FallsBelow result 1 self.old.fuel self.new.fuel }
+        ensures comes { ComesSo H.meaning true self.old.left (after_frame H.meaning self.old.limits self.old.left (frame.Each name body elements) (done_by (ended end) (H.state host.old) self.old)) result self.new (H.state host.new) }
+    {
+        match end.code {
+            0 | 4 => self.next_elements(alloc, host, name, body, elements, NEAR),
+            3 => Ok(Came::Ended(Ending::silent(alloc))),
+            _ => Ok(Came::Ended(end)),
         }
     }
 }

@@ -1,18 +1,18 @@
-//! The machine: it runs a script or a plan by a stack of frames.
-ghost use Rattle.std.specs.Prelude.{◌≡◌, ◌+◌, ◌*◌, ◌∷◌, []};
-ghost use Rattle.tks_parse.specs.Tree.{script_size};
-ghost use Rattle.tks_eval.specs.Outcome.{End};
-ghost use Rattle.tks_eval.specs.Evaluation.{evaluate, plan_does, thing_does};
+//! The machine: it runs a script or a plan, and keeps what waits in it.
+ghost use Rattle.std.specs.Prelude.{true, ◌≡◌, [], ◌∷◌, ◌++◌, IfOk, OnOk};
+ghost use Rattle.tks_eval.specs.Outcome.{Outcome};
+ghost use Rattle.tks_eval.specs.Evaluation.{evaluate, thing_does};
 ghost use Rattle.tks_eval.specs.Meets.{EndsSo, FailsSo, TakesStep};
-ghost use Rattle.tks_eval.specs.Machine.{resume, outcome_now, plan_weight, frame_weight, GoesSo, Falls};
+ghost use Rattle.tks_eval.specs.Machine.{after_frame, left_below, opens_do, ended, done_by, frame_weight, opens_weight, ComesSo, DoesSo, FallsBelow, GoesSo, ToldSo, halted};
 
+use crate::boxed::boxed;
 use crate::ended::Ended;
-use crate::frame::{Ending, Frame, Now};
+use crate::frame::{Came, Ending, Frame, Opens, Waiting};
 use crate::halt::Halt;
 use crate::host::{Host, Plan};
 use crate::rest::Rest;
 use crate::table::Tables;
-use std::alloc::Global;
+use std::alloc::{AllocError, Global};
 use std::mem;
 use tks_parse::Script;
 use tks_parse_table::ParseTable;
@@ -20,13 +20,16 @@ use tks_tcl::Stop;
 use tks_text::{Limits, ScriptFault, Txt};
 use tks_vars::Vars;
 
-/// A run under way: what waits for the present end, how many scripts may yet be opened in one another, and
-/// the steps that are left.
+/// So many things are run in one another where they stand. What lies deeper waits, and is opened anew.
+pub const NEAR: u32 = 64;
+
+/// A run under way: how many scripts may yet be opened in one another, the steps that are left, and the variables.
 #[derive(Drop)]
 pub struct Machine {
-    pub stack: Rest<Frame>,
     pub left: u32,
     pub fuel: u64,
+    pub variables: Vars,
+    pub limits: Limits,
     /// What was read so far.
     pub table: Tables,
 }
@@ -43,15 +46,11 @@ pub fn eval<H: Host>(
     ensures same_place { H.place host.new ≡ H.place host.old }
     ensures ends { EndsSo (evaluate H.meaning limits.now limits.now.depth script (H.state host.old) variables.old limits.now.fuel) result (H.state host.new) variables.new }
 {
-    let mut machine = Machine::at_rest(alloc, taken(alloc, parsed), limits);
-    let ended = machine.run(alloc, host, variables, Now::Open(script), limits);
-    *parsed = machine.into_parsed();
+    let mut machine = Machine::at_rest(alloc, variables, parsed, limits);
+    let first = machine.run_script(alloc, host, &script, true, NEAR);
+    let ended = machine.run(alloc, host, Rest::new(alloc), stopped(first));
+    machine.give_back(variables, parsed);
     ended
-}
-
-// What was parsed before, in place of which nothing is kept.
-fn taken(alloc: Global, parsed: &mut ParseTable) -> ParseTable {
-    mem::replace(parsed, ParseTable::new(alloc))
 }
 
 /// Does a thing that waited, by its plan, with all the steps that an input has. It ends with code 0 and the empty text: no
@@ -67,67 +66,110 @@ pub fn eval_plan<H: Host>(
     ensures same_place { H.place host.new ≡ H.place host.old }
     ensures ends { EndsSo (thing_does H.meaning limits.now (evaluate H.meaning limits.now limits.now.depth) plan (H.state host.old) variables.old limits.now.fuel) result (H.state host.new) variables.new }
 {
-    let mut machine = Machine::at_rest(alloc, taken(alloc, parsed), limits);
-    let ended = machine.run_thing(alloc, host, variables, plan, limits);
-    *parsed = machine.into_parsed();
+    let mut machine = Machine::at_rest(alloc, variables, parsed, limits);
+    let first = machine.do_thing(alloc, host, plan, NEAR);
+    let ended = machine.run(alloc, host, Rest::new(alloc), stopped(first));
+    machine.give_back(variables, parsed);
     ended
 }
 
+// How far a thing came that no error ends.
+fn stopped(came: Result<Came, Stop>) -> Result<Came, Halt>
+    ensures { result ≡ halted came }
+{
+    match came {
+        Ok(came) => Ok(came),
+        Err(why) => Err(Halt::Stop(why)),
+    }
+}
+
+// How far a thing came, where an error is an end.
+fn told(alloc: Global, came: Result<Came, Halt>, limits: &Limits) -> Result<Came, Stop>
+    ensures { ToldSo limits.now came result }
+{
+    match came {
+        Ok(came) => Ok(came),
+        Err(Halt::Fault(fault)) => Ok(Came::Ended(failed(alloc, &fault, limits)?)),
+        Err(Halt::Stop(why)) => Err(why),
+    }
+}
+
+/// What waits for this to be opened, with nothing behind it.
+pub fn waiting(alloc: Global, opens: Opens) -> Result<Box<Waiting>, AllocError>
+    ensures { IfOk result (λ w. (w.value.opens ≡ opens) × (w.value.frames.items ≡ [])) }
+{
+    boxed(
+        alloc,
+        Waiting {
+            opens,
+            frames: Vec::new(alloc),
+        },
+    )
+}
+
+/// The same waiting, with a frame behind it.
+pub fn before(waiting: Box<Waiting>, frame: Frame) -> Result<Box<Waiting>, AllocError>
+    ensures { IfOk result (λ w. (w.value.opens ≡ waiting.value.opens) × (w.value.frames.items ≡ waiting.value.frames.items ++ frame ∷ [])) }
+{
+    let mut waiting = waiting;
+    match waiting.as_mut().frames.push(frame) {
+        Ok(()) => Ok(waiting),
+        Err(_) => Err(AllocError),
+    }
+}
+
 impl Machine {
-    // Nothing waits.
-    fn at_rest(alloc: Global, parsed: ParseTable, limits: &Limits) -> Machine
-        ensures { result ≡ record { stack = []; left = limits.now.depth; fuel = limits.now.fuel; table = tt } }
+    // A machine with these variables, and what was parsed before, in place of which nothing is kept.
+    fn at_rest(
+        alloc: Global,
+        variables: &mut Vars,
+        parsed: &mut ParseTable,
+        limits: &Limits,
+    ) -> Machine
+        ensures { result ≡ record { left = limits.now.depth; fuel = limits.now.fuel; variables = variables.old; limits = limits.now; table = tt } }
     {
+        let parsed = mem::replace(parsed, ParseTable::new(alloc));
         Machine {
-            stack: Rest::new(alloc),
             left: limits.depth,
             fuel: limits.fuel,
+            variables: mem::replace(variables, Vars::new(alloc)),
+            limits: *limits,
             table: Tables::of(alloc, parsed),
         }
     }
 
-    // What was parsed so far.
-    fn into_parsed(self) -> ParseTable {
-        let Machine { table, .. } = self;
-        table.into_parsed()
-    }
-
-    // Does a thing that waited, by its plan, up to its end.
-    fn run_thing<H: Host>(
-        &mut self,
-        alloc: Global,
-        host: &mut H,
-        variables: &mut Vars,
-        plan: Plan,
-        limits: &Limits,
-    ) -> Result<Ended, Stop>
-        requires { self.old ≡ record { stack = []; left = limits.now.depth; fuel = limits.now.fuel; table = tt } }
-        ensures same_place { H.place host.new ≡ H.place host.old }
-        ensures ends { EndsSo (thing_does H.meaning limits.now (evaluate H.meaning limits.now limits.now.depth) plan (H.state host.old) variables.old limits.now.fuel) result (H.state host.new) variables.new }
+    // Gives the variables back, and what was parsed so far.
+    fn give_back(self, variables: &mut Vars, parsed: &mut ParseTable)
+        ensures { variables.new ≡ self.variables }
     {
-        self.stack.push(Frame::Thing)?;
-        self.run(alloc, host, variables, Now::Planned(plan), limits)
+        let Machine {
+            variables: held,
+            table,
+            ..
+        } = self;
+        *variables = held;
+        *parsed = table.into_parsed();
     }
 
     // Goes on up to the end of the whole.
-    #[tactic(auto, using(crate::proofs::Halts::fails_halts))]
     fn run<H: Host>(
         &mut self,
         alloc: Global,
         host: &mut H,
-        variables: &mut Vars,
-        now: Now,
-        limits: &Limits,
+        stack: Rest<Frame>,
+        first: Result<Came, Halt>,
     ) -> Result<Ended, Stop>
         ensures same_place { H.place host.new ≡ H.place host.old }
-        ensures ends { EndsSo (resume H.meaning limits.now self.old.left self.old.stack (outcome_now H.meaning limits.now self.old.left now (H.state host.old) variables.old self.old.fuel)) result (H.state host.new) variables.new }
+        ensures ends { (whole : Outcome H.State) → GoesSo H.meaning whole stack first self.old (H.state host.old) → EndsSo whole result (H.state host.new) self.new.variables }
     {
-        let mut now = now;
+        let mut stack = stack;
+        let mut came = first;
         'steps: loop {
             let before = self.fuel;
             'turns: loop {
-                let next = match now {
-                    Now::At(end) => match self.stack.next() {
+                let reached = told(alloc, came, &self.limits)?;
+                came = match reached {
+                    Came::Ended(end) => match stack.next() {
                         None => {
                             return Ok(Ended {
                                 code: end.code,
@@ -135,21 +177,13 @@ impl Machine {
                                 fuel: self.fuel,
                             });
                         }
-                        Some(frame) => self.resume(alloc, host, variables, frame, end, limits),
+                        Some(frame) => self.resume(alloc, host, frame, end),
                     },
-                    Now::Open(script) => self.open(alloc, host, variables, script, limits),
-                    Now::Counts(waits) => {
-                        self.open_waits(host, variables, Box::into_inner(waits), limits)
+                    Came::Waits(waiting) => {
+                        let Waiting { opens, frames } = Box::into_inner(waiting);
+                        put_on(&mut stack, frames)?;
+                        self.open(alloc, host, opens)
                     }
-                    Now::Index(parts) => {
-                        self.fill(alloc, host, variables, Txt::new(alloc), parts, limits)
-                    }
-                    Now::Planned(plan) => self.do_plan(alloc, host, variables, plan, limits),
-                };
-                now = match next {
-                    Ok(now) => now,
-                    Err(Halt::Fault(fault)) => Now::At(failed(alloc, &fault, limits)?),
-                    Err(Halt::Stop(why)) => return Err(why),
                 };
                 if self.fuel != before {
                     continue 'steps;
@@ -157,20 +191,67 @@ impl Machine {
             }
         }
     }
-}
 
-/// The end by an error.
-pub fn failed(alloc: Global, fault: &ScriptFault, limits: &Limits) -> Result<Ending, Stop>
-    ensures { FailsSo limits.now fault.now result }
-{
-    let text = fault.text(alloc)?;
-    if text.len() > limits.text as usize {
-        return Err(Stop::TooLarge);
+    // Opens what waits.
+    fn open<H: Host>(&mut self, alloc: Global, host: &mut H, opens: Opens) -> Result<Came, Halt>
+        ensures same_place { H.place host.new ≡ H.place host.old }
+        ensures same_limits { self.new.limits ≡ self.old.limits }
+        ensures falls { FallsBelow result (opens_weight opens) self.old.fuel self.new.fuel }
+        ensures comes { ComesSo H.meaning true self.old.left (done_by (opens_do H.meaning self.old.limits self.old.left opens) (H.state host.old) self.old) result self.new (H.state host.new) }
+    {
+        match opens {
+            Opens::Script(script) => Ok(self.run_script(alloc, host, &script, true, NEAR)?),
+            Opens::Index(parts) => self.make_text(alloc, host, Txt::new(alloc), parts, NEAR),
+            Opens::Things(due) => Ok(self.next_things(alloc, host, due, NEAR)?),
+        }
     }
-    Ok(Ending { code: 1, text })
-}
 
-impl Machine {
+    // Goes on with what waited for an end.
+    fn resume<H: Host>(
+        &mut self,
+        alloc: Global,
+        host: &mut H,
+        frame: Frame,
+        end: Ending,
+    ) -> Result<Came, Halt>
+        ensures same_place { H.place host.new ≡ H.place host.old }
+        ensures same_limits { self.new.limits ≡ self.old.limits }
+        ensures falls { FallsBelow result (frame_weight frame) self.old.fuel self.new.fuel }
+        ensures comes { ComesSo H.meaning true (left_below self.old.left frame) (after_frame H.meaning self.old.limits self.old.left frame (done_by (ended end) (H.state host.old) self.old)) result self.new (H.state host.new) }
+    {
+        match frame {
+            Frame::Commands { rest, levels } => {
+                Ok(self.run_commands(alloc, host, rest, levels, end, true, NEAR)?)
+            }
+            Frame::Command {
+                words,
+                expand,
+                rest,
+            } => self.after_word(alloc, host, words, expand, rest, end),
+            Frame::Nested { made, parts } => self.after_nested(alloc, host, made, parts, end),
+            Frame::Element { name, made, parts } => {
+                self.after_index(alloc, host, name, made, parts, end)
+            }
+            Frame::Catch { name } => self.after_caught(alloc, host, name, end),
+            Frame::Each {
+                name,
+                body,
+                elements,
+            } => self.after_element(alloc, host, name, body, elements, end),
+            Frame::Value(counting) => self.after_value(alloc, host, counting, end),
+            Frame::Whole => self.after_whole(alloc, host, end),
+            Frame::Branch { body, rest } => self.after_branch(alloc, host, body, rest, end),
+            Frame::Turns(stage, turns) => self.after_stage(alloc, host, stage, turns, end),
+            Frame::Procedure => self.after_procedure(host, end),
+            Frame::Global => Ok(self.after_global(host, end)?),
+            Frame::Scripts { window, scripts } => {
+                Ok(self.after_script(alloc, host, window, scripts, end)?)
+            }
+            Frame::Thing => Ok(self.after_thing(alloc, host, end)?),
+            Frame::Update { due } => Ok(self.next_things(alloc, host, due, NEAR)?),
+        }
+    }
+
     /// Takes a step.
     pub fn take_step(&mut self) -> Result<(), Stop>
         ensures step { TakesStep result self.old.fuel self.new.fuel }
@@ -182,115 +263,26 @@ impl Machine {
         self.fuel -= 1;
         Ok(())
     }
+}
 
-    // Opens a script.
-    fn open<H: Host>(
-        &mut self,
-        alloc: Global,
-        host: &mut H,
-        variables: &mut Vars,
-        script: Script,
-        limits: &Limits,
-    ) -> Result<Now, Halt>
-        ensures same_place { H.place host.new ≡ H.place host.old }
-        ensures falls { Falls result (4 * script_size script + 2) self.old self.new }
-        ensures goes { GoesSo H.meaning limits.now (resume H.meaning limits.now self.old.left self.old.stack (evaluate H.meaning limits.now self.old.left script (H.state host.old) variables.old self.old.fuel)) result self.new (H.state host.new) variables.new }
-    {
-        let levels = self.left;
-        if levels == 0 {
-            return Err(Halt::Stop(Stop::Depth));
-        }
-        self.left -= 1;
-        let begun = Ending::silent(alloc);
-        self.after_command(
-            alloc,
-            host,
-            variables,
-            script.into_remaining(),
-            levels,
-            begun,
-            limits,
-        )
+// Puts frames on a stack, the innermost first.
+fn put_on(stack: &mut Rest<Frame>, frames: Vec<Frame>) -> Result<(), AllocError>
+    ensures { OnOk result (stack.new ≡ frames.items ++ stack.old) }
+{
+    let mut frames = frames;
+    while let Some(frame) = frames.pop() {
+        stack.push(frame)?;
     }
+    Ok(())
+}
 
-    // Does what a plan says. Behind that, as many scripts may be open as now.
-    fn do_plan<H: Host>(
-        &mut self,
-        alloc: Global,
-        host: &mut H,
-        variables: &mut Vars,
-        plan: Plan,
-        limits: &Limits,
-    ) -> Result<Now, Halt>
-        ensures same_place { H.place host.new ≡ H.place host.old }
-        ensures falls { Falls result (plan_weight plan) self.old self.new }
-        ensures goes { GoesSo H.meaning limits.now (resume H.meaning limits.now self.old.left self.old.stack (plan_does H.meaning limits.now (evaluate H.meaning limits.now self.old.left) plan (H.state host.old) variables.old self.old.fuel)) result self.new (H.state host.new) variables.new }
-    {
-        let levels = self.left;
-        self.run_plan(alloc, host, variables, plan, levels, limits)
+/// The end by an error.
+pub fn failed(alloc: Global, fault: &ScriptFault, limits: &Limits) -> Result<Ending, Stop>
+    ensures { FailsSo limits.now fault.now result }
+{
+    let text = fault.text(alloc)?;
+    if text.len() > limits.text as usize {
+        return Err(Stop::TooLarge);
     }
-
-    // Goes on with what waited for an end.
-    fn resume<H: Host>(
-        &mut self,
-        alloc: Global,
-        host: &mut H,
-        variables: &mut Vars,
-        frame: Frame,
-        end: Ending,
-        limits: &Limits,
-    ) -> Result<Now, Halt>
-        ensures same_place { H.place host.new ≡ H.place host.old }
-        ensures falls { Falls result (frame_weight frame) self.old self.new }
-        ensures goes { GoesSo H.meaning limits.now (resume H.meaning limits.now self.old.left (frame ∷ self.old.stack) (End end.code end.text (H.state host.old) variables.old self.old.fuel)) result self.new (H.state host.new) variables.new }
-    {
-        match frame {
-            Frame::Commands { rest, levels } => {
-                self.after_command(alloc, host, variables, rest, levels, end, limits)
-            }
-            Frame::Command {
-                words,
-                expand,
-                rest,
-            } => self.after_word(alloc, host, variables, words, expand, rest, end, limits),
-            Frame::Nested { made, parts } => {
-                self.after_nested(alloc, host, variables, made, parts, end, limits)
-            }
-            Frame::Element { name, made, parts } => {
-                self.after_index(alloc, host, variables, name, made, parts, end, limits)
-            }
-            Frame::Catch { name } => self.after_caught(alloc, host, variables, name, end, limits),
-            Frame::Each {
-                name,
-                body,
-                elements,
-            } => self.after_element(alloc, host, variables, name, body, elements, end, limits),
-            Frame::Value(counting) => {
-                self.after_value(alloc, host, variables, counting, end, limits)
-            }
-            Frame::Operand(counting) => {
-                self.after_operand(alloc, host, variables, counting, end, limits)
-            }
-            Frame::Whole => self.after_whole(alloc, host, variables, end, limits),
-            Frame::Branch { body, rest } => {
-                self.after_branch(alloc, host, variables, body, rest, end, limits)
-            }
-            Frame::Turns(stage, turns) => {
-                self.after_stage(alloc, host, variables, stage, turns, end, limits)
-            }
-            Frame::Procedure { levels } => {
-                self.after_procedure(host, variables, levels, end, limits)
-            }
-            Frame::Global { levels } => self.after_global(host, variables, levels, end, limits),
-            Frame::Scripts {
-                window,
-                scripts,
-                levels,
-            } => self.after_script(alloc, host, variables, window, scripts, levels, end, limits),
-            Frame::Thing => self.after_thing(alloc, host, variables, end, limits),
-            Frame::Update { due, levels } => {
-                self.next_thing(alloc, host, variables, due, levels, limits)
-            }
-        }
-    }
+    Ok(Ending { code: 1, text })
 }

@@ -1,23 +1,23 @@
-//! Words of commands: what stands in them is put together, and scripts in them are waited for.
-ghost use Rattle.std.specs.Prelude.{◌≡◌, ◌≤◌, ◌+◌, ◌*◌, List, ℕ, [], ◌∷◌, ◌++◌, IfOk, IfErr, IfSome, IfNone, OnOk, OnErr, Ok, Some};
-ghost use Rattle.tks_parse.specs.Tree.{Parts, nested, no_part, parts_size};
+//! Words of commands: what stands in them is put together, and scripts in them are run.
+ghost use Rattle.std.specs.Prelude.{true, ◌≡◌, ◌*◌, ◌+◌, [], ◌++◌, ◌∷◌, IfOk, IfSome, OnOk, Ok};
+ghost use Rattle.tks_parse.specs.Tree.{parts_size, words_size};
 ghost use Rattle.tks_parse.specs.View.{words_of, parts_of};
-ghost use Rattle.tks_eval.specs.Outcome.{End, appended};
-ghost use Rattle.tks_eval.specs.Evaluation.{evaluate, element_name, with_value, words_in, parts_do};
+ghost use Rattle.tks_eval.specs.Outcome.{appended};
+ghost use Rattle.tks_eval.specs.Evaluation.{element_name, with_value, words_in, parts_do, words_do};
 ghost use Rattle.tks_tcl.specs.Cause.{after};
 ghost use Rattle.tks_tcl.specs.Meets.{GivesSo};
-ghost use Rattle.tks_eval.specs.Filling.{filled, left_of, waits_for, runs};
-ghost use Rattle.tks_eval.specs.Machine.{resume, frame_weight, behind_script, GoesSo, HaltsSo, Falls, FillsSo, FillFalls};
+ghost use Rattle.tks_eval.specs.Filling.{IsWord};
+ghost use Rattle.tks_eval.specs.Machine.{after_frame, ended, level_of, done_by, frame_weight, ComesSo, DoesSo, FallsTo, FallsBelow};
 ghost use Rattle.tks_eval.specs.declared.frame.Frame.TheVariants as frame;
 
-use crate::frame::{Ending, Frame, Now};
+use crate::expressions::scalar;
+use crate::frame::{Came, Ending, Frame, Opens};
 use crate::halt::Halt;
 use crate::host::Host;
-use crate::machine::Machine;
-use crate::rest::Rest;
+use crate::machine::{Machine, NEAR, before, waiting};
 use std::alloc::{AllocError, Global};
-use tks_parse::{Part, Parts, Remaining, Script, Word};
-use tks_tcl::{Interrupt, Stop, list_in};
+use tks_parse::{Part, Parts, Remaining, Word};
+use tks_tcl::{Interrupt, list_in};
 use tks_text::{Limits, Seq, Txt, fits};
 use tks_vars::Vars;
 
@@ -32,16 +32,6 @@ fn grow(made: &mut Txt, more: &Txt, limits: &Limits) -> Result<(), Interrupt>
     Ok(())
 }
 
-/// A text of which nothing is made yet, with this behind that.
-pub fn alone(text: Txt, limits: &Limits) -> Result<Txt, Interrupt>
-    ensures { GivesSo (λ t. t) result (appended limits.now [] text) }
-{
-    if text.len() > limits.text as usize {
-        return Err(Interrupt::TooLarge);
-    }
-    Ok(text)
-}
-
 // A text that is being made, with more behind it. Where nothing is made yet, it is what comes.
 fn joined(made: Txt, more: Txt, limits: &Limits) -> Result<Txt, Interrupt>
     ensures { GivesSo (λ t. t) result (appended limits.now made more) }
@@ -51,7 +41,9 @@ fn joined(made: Txt, more: Txt, limits: &Limits) -> Result<Txt, Interrupt>
         grow(&mut made, &more, limits)?;
         return Ok(made);
     }
-    let more = alone(more, limits)?;
+    if more.len() > limits.text as usize {
+        return Err(Interrupt::TooLarge);
+    }
     Ok(more)
 }
 
@@ -79,13 +71,8 @@ fn element_name(name: &Txt, index: &Txt) -> Result<Txt, AllocError>
     Ok(whole)
 }
 
-/// Adds the words that a word's text stands for.
-pub fn add_words(
-    alloc: Global,
-    words: &mut Seq<Txt>,
-    expand: bool,
-    text: Txt,
-) -> Result<(), Interrupt>
+// Adds the words that a word's text stands for.
+fn add_words(alloc: Global, words: &mut Seq<Txt>, expand: bool, text: Txt) -> Result<(), Interrupt>
     ensures { GivesSo (λ _. words.new) result (after (words_in expand text) (λ more. Ok (words.old ++ more))) }
 {
     if !expand {
@@ -93,294 +80,243 @@ pub fn add_words(
         return Ok(());
     }
     let more = list_in(alloc, &text)?;
-    append(words, Rest::of(more.into_items()))?;
+    append(words, more.as_slice())?;
     Ok(())
 }
 
 // Adds words behind others.
-fn append(words: &mut Seq<Txt>, more: Rest<Txt>) -> Result<(), AllocError>
-    ensures { OnOk result (words.new ≡ words.old ++ more) }
+fn append(words: &mut Seq<Txt>, more: &[Txt]) -> Result<(), AllocError>
+    ensures { OnOk result (words.new ≡ words.old ++ more.now) }
 {
-    let mut more = more;
-    while let Some(word) = more.next() {
-        words.push(word)?;
+    for word in more {
+        words.push(word.try_clone()?)?;
     }
     Ok(())
 }
 
-/// Whether nothing in a word has to be run. It is asked before a word is made at once, so that none is begun in vain.
-pub fn stands(parts: &Parts) -> bool {
-    parts.as_slice().iter().all(|part| matches!(part, Part::Text(_) | Part::Variable(_, None)))
-}
-
-/// The script whose result is all that these parts make.
-pub fn only_script(parts: &Parts) -> Option<&Script>
-    ensures { IfSome result (λ script. parts.now ≡ nested script.now no_part) }
+/// The text that a word is, where it lies: its characters, or a variable's value.
+#[tactic(auto, using(crate::proofs::Lent::filled_one))]
+pub fn lent<'a>(word: &'a Word, variables: &'a Vars, limits: &Limits) -> Option<&'a Txt>
+    ensures { IfSome result (λ t. IsWord limits.now variables.now word.now t.now) }
 {
-    match parts.as_slice() {
-        [Part::Nested(script)] => Some(script),
+    if word.expand {
+        return None;
+    }
+    let [part] = word.parts.as_slice() else {
+        return None;
+    };
+    match part {
+        Part::Text(text) if fits(text, limits) => Some(text),
+        Part::Variable(name, None) => match scalar(name, variables, limits) {
+            Ok(value) => Some(value),
+            Err(_) => None,
+        },
         _ => None,
     }
 }
 
-/// What stands in a word and has to be run before the word goes on.
-#[derive(Drop)]
-pub enum Inner {
-    /// The index of the element of this name.
-    Index(Txt, Remaining<Part>),
-    /// A script.
-    Script(Script),
-}
-
-/// Adds the characters and the scalars that come first to a text that is being made, and takes what is behind them.
-pub fn fill_up(
-    made: &mut Txt,
-    parts: &mut Remaining<Part>,
-    variables: &Vars,
-    limits: &Limits,
-) -> Result<Option<Inner>, Interrupt>
-    ensures { GivesSo (λ inner. (left_of inner (parts_of parts.new), made.new)) result (filled limits.now variables.now (parts_of parts.old) made.old) }
-{
-    while let Some(part) = parts.first() {
-        match part {
-            Part::Text(text) => {
-                grow(made, text, limits)?;
-                parts.skip();
-            }
-            Part::Variable(name, None) => {
-                grow_by_value(made, name, variables, limits)?;
-                parts.skip();
-            }
-            Part::Variable(name, Some(index)) => {
-                let name = name.try_clone()?;
-                let index = index.remaining()?;
-                parts.skip();
-                return Ok(Some(Inner::Index(name, index)));
-            }
-            Part::Nested(script) => {
-                let script = script.share()?;
-                parts.skip();
-                return Ok(Some(Inner::Script(script)));
-            }
-        }
-    }
-    Ok(None)
-}
-
-/// How far a word was made.
-#[derive(Drop)]
-pub enum Filled {
-    /// It ended: its text, with code 0, or the other end of a script in it.
-    Ended(Ending),
-    /// This has to be opened, behind the text so far and before these parts.
-    Waits(Txt, Inner, Remaining<Part>),
-}
-
 impl Machine {
-    /// Goes on with what has to be run in a word.
-    pub fn open_inner(
+    /// Makes the text of parts, behind what is made of it.
+    #[cycle(run)]
+    pub fn make_text<H: Host>(
         &mut self,
-        inner: Inner,
+        alloc: Global,
+        host: &mut H,
         made: Txt,
         parts: Remaining<Part>,
-    ) -> Result<Now, AllocError>
-        ensures fuel { self.new.fuel ≡ self.old.fuel }
-        ensures opened { IfOk result (λ now. (now ≡ runs inner) × (self.new ≡ record self.old { stack = waits_for inner made parts ∷ self.old.stack })) }
-        ensures kept { OnErr result (self.new ≡ self.old) }
-    {
-        match inner {
-            Inner::Index(name, index) => {
-                self.stack.push(Frame::Element { name, made, parts })?;
-                Ok(Now::Index(index))
-            }
-            Inner::Script(script) => {
-                self.stack.push(Frame::Nested { made, parts })?;
-                Ok(Now::Open(script))
-            }
-        }
-    }
-
-    // The end of what stands in a word, where that is run at once; else that itself.
-    fn run_inner<H: Host>(
-        &mut self,
-        alloc: Global,
-        host: &H,
-        variables: &mut Vars,
-        inner: Inner,
-        limits: &Limits,
-    ) -> Result<Ending, Inner>
-        ensures ok { IfOk result (λ end. (rest : Parts) → (made : List ℕ) → parts_do limits.now (evaluate H.meaning limits.now self.old.left) (left_of (Some inner) rest) made (H.state host.now) variables.old self.old.fuel ≡ behind_script limits.now (evaluate H.meaning limits.now self.old.left) rest made (End end.code end.text (H.state host.now) variables.new self.new.fuel)) }
-        ensures back { IfErr result (λ i. i ≡ inner) }
-        ensures err { OnErr result ((variables.new ≡ variables.old) × (self.new.fuel ≡ self.old.fuel)) }
-        ensures spends { self.new.fuel ≤ self.old.fuel }
-        ensures kept { self.new ≡ record self.old { fuel = self.new.fuel } }
-    {
-        let script = match inner {
-            Inner::Script(script) => script,
-            index => return Err(index),
-        };
-        match self.run_at_once(alloc, host, variables, &script, true, limits) {
-            Some(end) => Ok(end),
-            None => Err(Inner::Script(script)),
-        }
-    }
-
-    /// The end of a word that is the result of a script, where that is run at once.
-    pub fn result_at_once<H: Host>(
-        &mut self,
-        alloc: Global,
-        host: &H,
-        variables: &mut Vars,
-        script: &Script,
-        limits: &Limits,
-    ) -> Result<Option<Ending>, Halt>
-        ensures kept { self.new ≡ record self.old { fuel = self.new.fuel } }
-        ensures spends { self.new.fuel ≤ self.old.fuel }
-        ensures some { IfOk result (λ o. IfSome o (λ end. parts_do limits.now (evaluate H.meaning limits.now self.old.left) (nested script.now no_part) [] (H.state host.now) variables.old self.old.fuel ≡ End end.code end.text (H.state host.now) variables.new self.new.fuel)) }
-        ensures none { IfOk result (λ o. IfNone o ((variables.new ≡ variables.old) × (self.new.fuel ≡ self.old.fuel))) }
-        ensures err { IfErr result (λ why. HaltsSo H.meaning limits.now (parts_do limits.now (evaluate H.meaning limits.now self.old.left) (nested script.now no_part) [] (H.state host.now) variables.old self.old.fuel) why (H.state host.now) variables.new self.new.fuel) }
-    {
-        let Some(end) = self.run_at_once(alloc, host, variables, script, true, limits) else {
-            return Ok(None);
-        };
-        if end.code == 0 && !fits(&end.text, limits) {
-            return Err(Halt::Stop(Stop::TooLarge));
-        }
-        Ok(Some(end))
-    }
-
-    /// Makes a word, or an index, up to a script or an index in it that can't be run at once.
-    pub fn make_word<H: Host>(
-        &mut self,
-        alloc: Global,
-        host: &H,
-        variables: &mut Vars,
-        made: Txt,
-        parts: Remaining<Part>,
-        limits: &Limits,
-    ) -> Result<Filled, Halt>
-        ensures kept { self.new ≡ record self.old { fuel = self.new.fuel } }
-        ensures falls { FillFalls result (parts_size (parts_of parts)) self.old.fuel self.new.fuel }
-        ensures goes { FillsSo H.meaning limits.now self.old.left (parts_do limits.now (evaluate H.meaning limits.now self.old.left) (parts_of parts) made (H.state host.now) variables.old self.old.fuel) result (H.state host.now) variables.new self.new.fuel }
+        near: u32,
+    ) -> Result<Came, Halt>
+        ensures same_place { H.place host.new ≡ H.place host.old }
+        ensures same_limits { self.new.limits ≡ self.old.limits }
+        ensures falls { FallsTo result (4 * parts_size (parts_of parts)) self.old.fuel self.new.fuel }
+        ensures comes { DoesSo H.meaning true (parts_do self.old.limits (level_of H.meaning self.old) (parts_of parts) made) (H.state host.old) self.old result (H.state host.new) self.new }
     {
         let mut made = made;
         let mut parts = parts;
-        'inner: loop {
-            let Some(inner) = fill_up(&mut made, &mut parts, variables, limits)? else {
-                return Ok(Filled::Ended(Ending {
-                    code: 0,
-                    text: made,
-                }));
-            };
-            let end = match self.run_inner(alloc, host, variables, inner, limits) {
-                Ok(end) => end,
-                Err(inner) => return Ok(Filled::Waits(made, inner, parts)),
-            };
-            if end.code != 0 {
-                return Ok(Filled::Ended(end));
+        'part: while let Some(part) = parts.first() {
+            match part {
+                Part::Text(text) => {
+                    grow(&mut made, text, &self.limits)?;
+                    parts.skip();
+                }
+                Part::Variable(name, None) => {
+                    grow_by_value(&mut made, name, &self.variables, &self.limits)?;
+                    parts.skip();
+                }
+                Part::Variable(name, Some(index)) => {
+                    let name = name.try_clone()?;
+                    let index = self.make_index(alloc, host, index, near)?;
+                    parts.skip();
+                    match index {
+                        Came::Waits(waiting) => {
+                            return Ok(Came::Waits(before(
+                                waiting,
+                                Frame::Element { name, made, parts },
+                            )?));
+                        }
+                        Came::Ended(end) => {
+                            if end.code != 0 {
+                                return Ok(Came::Ended(end));
+                            }
+                            let name = element_name(&name, &end.text)?;
+                            grow_by_value(&mut made, &name, &self.variables, &self.limits)?;
+                        }
+                    }
+                }
+                Part::Nested(script) => {
+                    let result = self.run_script(alloc, host, script, true, near)?;
+                    parts.skip();
+                    match result {
+                        Came::Waits(waiting) => {
+                            return Ok(Came::Waits(before(waiting, Frame::Nested { made, parts })?));
+                        }
+                        Came::Ended(end) => {
+                            if end.code != 0 {
+                                return Ok(Came::Ended(end));
+                            }
+                            made = joined(made, end.text, &self.limits)?;
+                        }
+                    }
+                }
             }
-            made = joined(made, end.text, limits)?;
         }
+        Ok(Came::Ended(Ending::with(made)))
     }
 
-    /// Goes on with a word, or an index, up to a script or an index in it.
-    #[tactic(auto, using(crate::proofs::Halts::given_halts, crate::proofs::Filling::parts_filled))]
-    pub fn fill<H: Host>(
+    // Makes the index of an element.
+    #[cycle(run)]
+    fn make_index<H: Host>(
         &mut self,
         alloc: Global,
-        host: &H,
-        variables: &Vars,
-        made: Txt,
-        parts: Remaining<Part>,
-        limits: &Limits,
-    ) -> Result<Now, Halt>
-        ensures falls { Falls result (4 * parts_size (parts_of parts) + 1) self.old self.new }
-        ensures goes { GoesSo H.meaning limits.now (resume H.meaning limits.now self.old.left self.old.stack (parts_do limits.now (evaluate H.meaning limits.now self.old.left) (parts_of parts) made (H.state host.now) variables.now self.old.fuel)) result self.new (H.state host.now) variables.now }
+        host: &mut H,
+        parts: &Parts,
+        near: u32,
+    ) -> Result<Came, Halt>
+        ensures same_place { H.place host.new ≡ H.place host.old }
+        ensures same_limits { self.new.limits ≡ self.old.limits }
+        ensures falls { FallsTo result (4 * parts_size parts.now + 1) self.old.fuel self.new.fuel }
+        ensures comes { DoesSo H.meaning true (parts_do self.old.limits (level_of H.meaning self.old) parts.now []) (H.state host.old) self.old result (H.state host.new) self.new }
     {
-        let mut made = made;
-        let mut parts = parts;
-        match fill_up(&mut made, &mut parts, variables, limits)? {
-            None => Ok(Now::At(Ending {
-                code: 0,
-                text: made,
-            })),
-            Some(inner) => {
-                let now = self.open_inner(inner, made, parts)?;
-                Ok(now)
+        let parts = parts.remaining()?;
+        if near == 0 {
+            return Ok(Came::Waits(waiting(alloc, Opens::Index(parts))?));
+        }
+        self.make_text(alloc, host, Txt::new(alloc), parts, near - 1)
+    }
+
+    /// Makes the words that are left of a command, and runs it.
+    #[cycle(run)]
+    pub fn make_words<H: Host>(
+        &mut self,
+        alloc: Global,
+        host: &mut H,
+        words: Seq<Txt>,
+        rest: Remaining<Word>,
+        asked: bool,
+        near: u32,
+    ) -> Result<Came, Halt>
+        ensures same_place { H.place host.new ≡ H.place host.old }
+        ensures same_limits { self.new.limits ≡ self.old.limits }
+        ensures falls { FallsTo result (4 * words_size (words_of rest)) self.old.fuel self.new.fuel }
+        ensures comes { DoesSo H.meaning asked (words_do H.meaning self.old.limits (level_of H.meaning self.old) (words_of rest) words) (H.state host.old) self.old result (H.state host.new) self.new }
+    {
+        let mut words = words;
+        let mut rest = rest;
+        'word: while let Some(word) = rest.first() {
+            if let Some(text) = lent(word, &self.variables, &self.limits) {
+                words.push(text.try_clone()?)?;
+                rest.skip();
+                continue 'word;
+            }
+            let expand = word.expand;
+            let parts = word.parts.remaining()?;
+            let came = self.make_text(alloc, host, Txt::new(alloc), parts, near)?;
+            rest.skip();
+            match came {
+                Came::Waits(waiting) => {
+                    let frame = Frame::Command {
+                        words,
+                        expand,
+                        rest,
+                    };
+                    return Ok(Came::Waits(before(waiting, frame)?));
+                }
+                Came::Ended(end) => {
+                    if end.code != 0 {
+                        return Ok(Came::Ended(end));
+                    }
+                    add_words(alloc, &mut words, expand, end.text)?;
+                }
             }
         }
+        self.do_command(alloc, host, words.as_slice(), asked, near)
     }
 
     /// Goes on with a word behind a script in it.
-    #[tactic(auto, using(crate::proofs::Halts::given_halts))]
     pub fn after_nested<H: Host>(
         &mut self,
         alloc: Global,
-        host: &H,
-        variables: &Vars,
+        host: &mut H,
         made: Txt,
         parts: Remaining<Part>,
         end: Ending,
-        limits: &Limits,
-    ) -> Result<Now, Halt>
-        ensures falls { Falls result (frame_weight (frame.Nested made parts)) self.old self.new }
-        ensures goes { GoesSo H.meaning limits.now (resume H.meaning limits.now self.old.left (frame.Nested made parts ∷ self.old.stack) (End end.code end.text (H.state host.now) variables.now self.old.fuel)) result self.new (H.state host.now) variables.now }
+    ) -> Result<Came, Halt>
+        ensures same_place { H.place host.new ≡ H.place host.old }
+        ensures same_limits { self.new.limits ≡ self.old.limits }
+        ensures falls { FallsBelow result (frame_weight (frame.Nested made parts)) self.old.fuel self.new.fuel }
+        ensures comes { ComesSo H.meaning true self.old.left (after_frame H.meaning self.old.limits self.old.left (frame.Nested made parts) (done_by (ended end) (H.state host.old) self.old)) result self.new (H.state host.new) }
     {
         if end.code != 0 {
-            return Ok(Now::At(end));
+            return Ok(Came::Ended(end));
         }
-        let made = joined(made, end.text, limits)?;
-        self.fill(alloc, host, variables, made, parts, limits)
+        let made = joined(made, end.text, &self.limits)?;
+        self.make_text(alloc, host, made, parts, NEAR)
     }
 
     /// Goes on with a word behind the index of an element.
-    #[tactic(auto, using(crate::proofs::Halts::given_halts))]
     pub fn after_index<H: Host>(
         &mut self,
         alloc: Global,
-        host: &H,
-        variables: &Vars,
+        host: &mut H,
         name: Txt,
         made: Txt,
         parts: Remaining<Part>,
         end: Ending,
-        limits: &Limits,
-    ) -> Result<Now, Halt>
-        ensures falls { Falls result (frame_weight (frame.Element name made parts)) self.old self.new }
-        ensures goes { GoesSo H.meaning limits.now (resume H.meaning limits.now self.old.left (frame.Element name made parts ∷ self.old.stack) (End end.code end.text (H.state host.now) variables.now self.old.fuel)) result self.new (H.state host.now) variables.now }
+    ) -> Result<Came, Halt>
+        ensures same_place { H.place host.new ≡ H.place host.old }
+        ensures same_limits { self.new.limits ≡ self.old.limits }
+        ensures falls { FallsBelow result (frame_weight (frame.Element name made parts)) self.old.fuel self.new.fuel }
+        ensures comes { ComesSo H.meaning true self.old.left (after_frame H.meaning self.old.limits self.old.left (frame.Element name made parts) (done_by (ended end) (H.state host.old) self.old)) result self.new (H.state host.new) }
     {
         if end.code != 0 {
-            return Ok(Now::At(end));
+            return Ok(Came::Ended(end));
         }
         let name = element_name(&name, &end.text)?;
         let mut made = made;
-        grow_by_value(&mut made, &name, variables, limits)?;
-        self.fill(alloc, host, variables, made, parts, limits)
+        grow_by_value(&mut made, &name, &self.variables, &self.limits)?;
+        self.make_text(alloc, host, made, parts, NEAR)
     }
 
     /// Goes on with the words of a command behind one that was made.
-    #[tactic(auto, using(crate::proofs::Halts::given_halts))]
     pub fn after_word<H: Host>(
         &mut self,
         alloc: Global,
         host: &mut H,
-        variables: &mut Vars,
         words: Seq<Txt>,
         expand: bool,
         rest: Remaining<Word>,
         end: Ending,
-        limits: &Limits,
-    ) -> Result<Now, Halt>
+    ) -> Result<Came, Halt>
         ensures same_place { H.place host.new ≡ H.place host.old }
-        ensures falls { Falls result (frame_weight (frame.Command words expand rest)) self.old self.new }
-        ensures goes { GoesSo H.meaning limits.now (resume H.meaning limits.now self.old.left (frame.Command words expand rest ∷ self.old.stack) (End end.code end.text (H.state host.old) variables.old self.old.fuel)) result self.new (H.state host.new) variables.new }
+        ensures same_limits { self.new.limits ≡ self.old.limits }
+        ensures falls { FallsBelow result (frame_weight (frame.Command words expand rest)) self.old.fuel self.new.fuel }
+        ensures comes { ComesSo H.meaning true self.old.left (after_frame H.meaning self.old.limits self.old.left (frame.Command words expand rest) (done_by (ended end) (H.state host.old) self.old)) result self.new (H.state host.new) }
     {
         if end.code != 0 {
-            return Ok(Now::At(end));
+            return Ok(Came::Ended(end));
         }
         let mut words = words;
         add_words(alloc, &mut words, expand, end.text)?;
-        let reached = self.reach(alloc, host, variables, words, rest, true, limits)?;
-        self.go_on(alloc, host, variables, reached, limits)
+        self.make_words(alloc, host, words, rest, true, NEAR)
     }
 }

@@ -1,8 +1,5 @@
-use Rattle.std.proofs.Common.{◌≡◌, ◌++◌, length}
+use Rattle.std.proofs.Common.{◌≡◌, ◌++◌, drop}
 use Rattle.tks_eval.proofs.words.append.Given as goal
 
 abbrev pub invariant-loop-word : goal.invariant-loop-word
-invariant-loop-word l = l.words ++ l.more ≡ l.fn.words ++ l.fn.more
-
-abbrev pub decreases-loop-word : goal.decreases-loop-word
-decreases-loop-word l = length l.more
+invariant-loop-word l = l.words ++ drop l.word-index l.more ≡ l.fn.words ++ l.more

@@ -1,10 +1,14 @@
-use Rattle.std.proofs.Common.{◌≡◌, ◌+◌}
-use Rattle.tks_eval.specs.Machine.{resume, outcome_now, stack_weight, now_weight}
+use Rattle.std.proofs.Common.{◌≡◌}
+use Rattle.tks_eval.specs.Outcome.{Outcome}
+use Rattle.tks_eval.specs.Machine.{GoesSo}
+use Rattle.tks_eval.proofs.Running.{turns_left}
 use Rattle.tks_eval.proofs.machine.Machine.run.Given as goal
 
 abbrev pub invariant-steps : goal.invariant-steps
-invariant-steps g l = (g.H.Host.place l.host ≡ g.H.Host.place l.fn.host) × (resume g.H.Host.meaning l.fn.limits l.fn.self.left l.fn.self.stack (outcome_now g.H.Host.meaning l.fn.limits l.fn.self.left l.fn.now (g.H.Host.state l.fn.host) l.fn.variables l.fn.self.fuel)
-    ≡ resume g.H.Host.meaning l.limits l.self.left l.self.stack (outcome_now g.H.Host.meaning l.limits l.self.left l.now (g.H.Host.state l.host) l.variables l.self.fuel))
+invariant-steps g l = record {
+  place : g.H.Host.place l.host ≡ g.H.Host.place l.fn.host;
+  goes : (whole : Outcome g.row.H-State.Denot) → GoesSo g.H.Host.meaning whole l.fn.stack l.fn.first l.fn.self (g.H.Host.state l.fn.host) → GoesSo g.H.Host.meaning whole l.stack l.came l.self (g.H.Host.state l.host);
+}
 
 abbrev pub decreases-steps : goal.decreases-steps
 decreases-steps g l = l.self.fuel
@@ -13,9 +17,8 @@ abbrev pub invariant-turns : goal.invariant-turns
 invariant-turns g l = record {
   before : l.self.fuel ≡ l.before;
   place : g.H.Host.place l.host ≡ g.H.Host.place l.fn.host;
-  goes : resume g.H.Host.meaning l.fn.limits l.fn.self.left l.fn.self.stack (outcome_now g.H.Host.meaning l.fn.limits l.fn.self.left l.fn.now (g.H.Host.state l.fn.host) l.fn.variables l.fn.self.fuel)
-      ≡ resume g.H.Host.meaning l.limits l.self.left l.self.stack (outcome_now g.H.Host.meaning l.limits l.self.left l.now (g.H.Host.state l.host) l.variables l.self.fuel);
+  goes : (whole : Outcome g.row.H-State.Denot) → GoesSo g.H.Host.meaning whole l.fn.stack l.fn.first l.fn.self (g.H.Host.state l.fn.host) → GoesSo g.H.Host.meaning whole l.stack l.came l.self (g.H.Host.state l.host);
 }
 
 abbrev pub decreases-turns : goal.decreases-turns
-decreases-turns g l = now_weight l.now + stack_weight l.self.stack
+decreases-turns g l = turns_left l.came l.stack
