@@ -9,7 +9,10 @@ sys.path.insert(0, os.path.join(ROOT, 'clients/python'))
 
 def program_in(words):
     """The program to run: takes `--program PATH` out of a tool's words. Without it, it is the proved one of this
-    repository, which `./desk` makes where it isn't there."""
+    repository, which `./desk` makes where it isn't there. `--help` tells how the tool is called, and ends it."""
+    if '--help' in words:
+        print(sys.modules['__main__'].__doc__.strip())
+        sys.exit(0)
     if '--program' not in words:
         return proved_program()
     at = words.index('--program')
