@@ -1,5 +1,5 @@
 -- What expressions come to behind one of their items, and calls behind what they call.
-use Rattle.std.proofs.Common.{◌≡◌, ◌≤◌, ◌<◌, ◌-◌, ℕ, zero, suc, Bool, true, cond, List, [], ◌∷◌, length, drop, reverse, Option, Some, None, Result, Ok, Err, sym, subst, ap, ◌∙◌, arith}
+use Rattle.std.proofs.Common.{◌≡◌, ◌≤◌, ◌<◌, ◌-◌, ℕ, zero, suc, Bool, true, cond, List, [], ◌∷◌, length, drop, reverse, Option, Some, None, Result, Ok, Err, refl, sym, subst, ap, ◌∙◌, arith}
 use Rattle.std.proofs.Math.ListN.{get_or}
 use Rattle.tks_text.specs.declared.limits.Limits.{Limits}
 use Rattle.tks_parse.specs.Tree.{Script, Parts}
@@ -8,6 +8,8 @@ use Rattle.tks_vars.specs.Variables.{Variables, pushed_global}
 use Rattle.tks_vars.specs.declared.procedure.Procedure.{Procedure}
 use Rattle.tks_expr.specs.Compiled.{items_do, items_in}
 use Rattle.tks_expr.specs.declared.items.Item.{Item}
+use Rattle.tks_expr.specs.declared.items.Leaf.{Leaf}
+use Rattle.tks_expr.specs.declared.operator.Binary.{Binary}
 use Rattle.tks_expr.specs.declared.items.Item.TheVariants as item
 use Rattle.tks_tcl.specs.Cause.{value_or_fault}
 use Rattle.tks_tcl.specs.Cause as tcl
@@ -21,7 +23,7 @@ use Rattle.tks_eval.specs.Meets.{TakesSo, StopsSo, halt_of_interrupt}
 use Rattle.tks_eval.specs.Evaluation.{text_done, and_then, made_text, expression_does, without_frame, after_script, scripts_do, settled, procedure_does, update_does, plan_does, thing_does, control_does, host_does, plain_does, command_does, call, evaluate}
 use Rattle.tks_eval.specs.Names.{Control, control_named}
 use Rattle.tks_eval.specs.Procedures.{entered, script_in}
-use Rattle.tks_eval.specs.Counting.{item_done, items_go}
+use Rattle.tks_eval.specs.Counting.{two_leaves, item_done, items_go}
 use Rattle.tks_eval.specs.Machine.{level_of, done_by, items_weight, ComesSo, ValuedSo}
 use Rattle.tks_eval.specs.declared.expressions.Valued.{Valued}
 use Rattle.tks_eval.specs.declared.frame.Frame.TheVariants as frame
@@ -32,7 +34,7 @@ use Rattle.tks_eval.specs.declared.host.Plan.{Plan}
 use Rattle.tks_eval.specs.declared.machine.Machine.{Machine}
 use Rattle.tks_eval.proofs.After.{given_after}
 use Rattle.tks_eval.proofs.Coming.{comes_from, given_halts}
-use Rattle.tks_eval.proofs.Counting.{item_then, passed_over, expression_counts, weighs_more}
+use Rattle.tks_eval.proofs.Counting.{leaves_go, item_then, passed_over, expression_counts, weighs_more}
 use Rattle.tks_eval.proofs.Spending.{evaluate_spends}
 use Rattle.tks_eval.proofs.Updates.{update_unrolls}
 
@@ -96,6 +98,23 @@ module _ {S : Type 0} (host : Meaning S) (limits : Limits) (inner : Level S) (m 
       (given_halts host limits below m state within here true (item_done limits m.variables i stack)
       (λ z. items_do text_done (fails limits) and_then (made_text limits inner) z.0 rest z.1 state m.variables m.fuel) why
       (subst (λ l. meets.FailsSo why (item_done l m.variables i stack)) within h)))
+
+-- an operator between two leaves that is all of an expression
+module _ {S : Type 0} (host : Meaning S) (inner : Level S) (m : Machine) (state : S) (op : Binary) (a b : Leaf) where
+  -- it is done
+  pub leaves_done : (text : List ℕ) → two_leaves m.limits m.variables op a b ≡ Ok text
+      → done_by (items_go m.limits inner (item.Two op a b ∷ []) []) state m ≡ End 0 text state m.variables m.fuel
+  leaves_done text h =
+      leaves_go m.limits state m.variables m.fuel inner op a b
+      ∙ ap (λ r. given m.limits r state m.variables m.fuel (λ z. End 0 z state m.variables m.fuel)) h
+
+  -- it can't be
+  pub leaves_halt : (why : Interrupt) → meets.FailsSo why (two_leaves m.limits m.variables op a b)
+      → ValuedSo host m.left (done_by (items_go m.limits inner (item.Two op a b ∷ []) []) state m) (Err (halt_of_interrupt why)) m state
+  leaves_halt why h =
+      halts_valued host m.left m state true _ (halt_of_interrupt why)
+      (comes_from host m.limits m.left m state refl true _ _ (Err (halt_of_interrupt why)) (leaves_go m.limits state m.variables m.fuel inner op a b)
+      (given_halts host m.limits m.left m state refl refl true (two_leaves m.limits m.variables op a b) (λ z. End 0 z state m.variables m.fuel) why h))
 
 -- what a text spells, once it is read
 pub expression_goes : {S : Type 0} (limits : Limits) (inner : Level S) (state : S) (variables : Variables) (fuel : ℕ) (text : List ℕ) (items : List Item) → items_in text ≡ Ok items

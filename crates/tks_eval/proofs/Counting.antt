@@ -22,7 +22,7 @@ use Rattle.tks_tcl.specs.Cause.{Cause, Fault, OverLimit, value_or_fault}
 use Rattle.tks_tcl.specs.Cause as tcl
 use Rattle.tks_eval.specs.Outcome.{Outcome, End, Next, Level, after, fails, given}
 use Rattle.tks_eval.specs.Evaluation.{text_done, and_then, made_text, with_value, value_does, expression_does}
-use Rattle.tks_eval.specs.Counting.{leaf_value, put, put_two, done_on_top, item_done, items_go}
+use Rattle.tks_eval.specs.Counting.{leaf_value, two_leaves, put, put_two, done_on_top, item_done, items_go}
 use Rattle.tks_eval.specs.Machine.{items_weight}
 use Rattle.tks_eval.proofs.After.{after_after, after_done, after_fails, given_after, given_same}
 
@@ -109,15 +109,23 @@ module _ {S : Type 0} (limits : Limits) (state : S) (variables : Variables) (fue
         ∙ given_same limits state variables fuel (leaf_value limits variables b) _ _ (λ y. two_then op x y stack rest)
         ∙ sym (given_after limits state variables fuel (leaf_value limits variables b) (put_two op stack x) (λ z. does_here z rest))
 
-    both_then : (op : Binary) (a b : Leaf) (stack : List (List ℕ)) (rest : List Item)
+    -- an operator between two leaves
+    leaves_then : (op : Binary) (a b : Leaf) (next : List ℕ → Next S)
         → after (leaf_text text_done (fails limits) and_then (made_text limits inner) a state variables fuel) (λ x. and_then (leaf_text text_done (fails limits) and_then (made_text limits inner) b)
-        (λ y. and_then (operated text_done (fails limits) and_then (made_text limits inner) op x y) (λ z. does 0 rest (z ∷ stack))))
-        ≡ given limits (item_done limits variables (item.Two op a b) stack) state variables fuel (λ z. does_here z rest)
-    both_then op a b stack rest =
-        leaf_then a (λ x. and_then (leaf_text text_done (fails limits) and_then (made_text limits inner) b)
-        (λ y. and_then (operated text_done (fails limits) and_then (made_text limits inner) op x y) (λ z. does 0 rest (z ∷ stack))))
-        ∙ given_same limits state variables fuel (leaf_value limits variables a) _ _ (λ x. right_then op b x stack rest)
-        ∙ sym (given_after limits state variables fuel (leaf_value limits variables a) (λ x. tcl.after (leaf_value limits variables b) (put_two op stack x)) (λ z. does_here z rest))
+        (λ y. and_then (operated text_done (fails limits) and_then (made_text limits inner) op x y) next))
+        ≡ given limits (two_leaves limits variables op a b) state variables fuel (λ z. next z state variables fuel)
+    leaves_then op a b next =
+        leaf_then a (λ x. and_then (leaf_text text_done (fails limits) and_then (made_text limits inner) b) (λ y. and_then (operated text_done (fails limits) and_then (made_text limits inner) op x y) next))
+        ∙ given_same limits state variables fuel (leaf_value limits variables a) _ _ (λ x.
+        leaf_then b (λ y. and_then (operated text_done (fails limits) and_then (made_text limits inner) op x y) next)
+        ∙ given_same limits state variables fuel (leaf_value limits variables b) _ _ (λ y. told_then (applied op x y) next)
+        ∙ sym (given_after limits state variables fuel (leaf_value limits variables b) (λ y. value_or_fault (applied op x y)) (λ z. next z state variables fuel)))
+        ∙ sym (given_after limits state variables fuel (leaf_value limits variables a) (λ x. tcl.after (leaf_value limits variables b) (λ y. value_or_fault (applied op x y))) (λ z. next z state variables fuel))
+
+    -- it is all of an expression
+    pub leaves_go : (op : Binary) (a b : Leaf)
+        → items_go limits inner (item.Two op a b ∷ []) [] state variables fuel ≡ given limits (two_leaves limits variables op a b) state variables fuel (λ z. End 0 z state variables fuel)
+    leaves_go op a b = leaves_then op a b (λ z. does 0 [] (z ∷ []))
 
     -- an item that makes no text
     pub item_then : (i : Item) (stack : List (List ℕ)) (rest : List Item) → ((parts : Parts) → i ≡ item.Make parts → ⊥)
@@ -125,7 +133,8 @@ module _ {S : Type 0} (limits : Limits) (state : S) (variables : Variables) (fue
     item_then (item.Load a) stack rest other =
         leaf_then a (λ text. does 0 rest (text ∷ stack)) ∙ sym (given_after limits state variables fuel (leaf_value limits variables a) (put stack) (λ z. does_here z rest))
     item_then (item.Make parts) stack rest other = absurd (other parts refl)
-    item_then (item.Two op a b) stack rest other = both_then op a b stack rest
+    item_then (item.Two op a b) stack rest other =
+        leaves_then op a b (λ z. does 0 rest (z ∷ stack)) ∙ sym (given_after limits state variables fuel (two_leaves limits variables op a b) (put stack) (λ z. does_here z rest))
     item_then (item.Skip n) stack rest other = refl
     item_then (item.Right op b) [] rest other = refl
     item_then (item.Right op b) (x ∷ stack) rest other = right_then op b x stack rest

@@ -1,5 +1,5 @@
 -- Scripts: the first of their commands, and those behind it.
-use Rattle.std.proofs.Common.{◌≡◌, ◌≤◌, ◌<◌, ◌+◌, ◌-◌, ℕ, zero, suc, Bool, true, false, cond, List, [], Some, Ok, Err, refl, sym, subst, ap, ◌∙◌, arith}
+use Rattle.std.proofs.Common.{◌≡◌, ◌≤◌, ◌<◌, ◌+◌, ◌-◌, ℕ, zero, suc, Bool, true, false, cond, List, [], Some, Result, Ok, Err, refl, sym, subst, ap, ◌∙◌, arith}
 use Rattle.tks_text.specs.Fault.{fault_text}
 use Rattle.tks_text.specs.declared.fault.ScriptFault.{ScriptFault}
 use Rattle.tks_text.specs.declared.limits.Limits.{Limits}
@@ -11,8 +11,13 @@ use Rattle.tks_tcl.specs.declared.stop.Stop.TheVariants as stop
 use Rattle.tks_eval.specs.Outcome.{Outcome, End, Stopped, TooLarge, Next, Level, Meaning, after, fails}
 use Rattle.tks_eval.specs.Meets.{FailsSo, StopsSo}
 use Rattle.tks_eval.specs.Evaluation.{words_do, commands_do, evaluate}
-use Rattle.tks_eval.specs.Machine.{EndsAs}
+use Rattle.tks_eval.specs.Machine.{EndsAs, CameSo, RunsSo, ComesSo, ToldSo, FallsTo}
 use Rattle.tks_eval.specs.declared.frame.Ending.{Ending}
+use Rattle.tks_eval.specs.declared.frame.Came.{Came}
+use Rattle.tks_eval.specs.declared.frame.Came.TheVariants as came
+use Rattle.tks_eval.specs.declared.halt.Halt.{Halt}
+use Rattle.tks_eval.specs.declared.halt.Halt.TheVariants as halt
+use Rattle.tks_eval.specs.declared.machine.Machine.{Machine}
 use Rattle.tks_eval.proofs.After.{after_done}
 use Rattle.tks_eval.proofs.Coming.{ends_as}
 
@@ -60,11 +65,6 @@ module _ {S : Type 0} (host : Meaning S) (limits : Limits) (level : Level S) whe
   GoesOn asked whole (command words rest) end state variables fuel = whole ≡ after (End end.code end.text state variables fuel) (commands_do host limits level (command words rest))
 
   module _ (asked : Bool) (whole : Outcome S) (end : Ending) (state : S) (variables : Variables) (fuel : ℕ) where
-    pub goes_begins : (rest : Script) → whole ≡ after (End end.code end.text state variables fuel) (commands_do host limits level rest) → GoesOn asked whole rest end state variables fuel
-    goes_begins no_command h = ends_as asked whole end state variables fuel (h ∙ after_done (End end.code end.text state variables fuel))
-    goes_begins (faulty fault) h = h
-    goes_begins (command words rest) h = h
-
     pub goes_first : (rest : Script) (words : Words) → first_words rest ≡ Some words → end.code ≡ 0 → GoesOn asked whole rest end state variables fuel
         → whole ≡ after (words_do host limits level words [] state variables fuel) (commands_do host limits level (behind rest))
     goes_first rest words first none h =
@@ -92,3 +92,36 @@ pub script_opens : {S : Type 0} (host : Meaning S) (limits : Limits) (left : ℕ
 script_opens host limits zero script state variables fuel some = absurd (omega (arith, some))
 script_opens host limits (suc n) script state variables fuel some =
     let one : suc n - 1 ≡ n = omega arith in ap (λ k. commands_do host limits (evaluate host limits k) script [] state variables fuel) (sym one)
+
+-- one of a single command does what that does
+pub lone_opens : {S : Type 0} (host : Meaning S) (limits : Limits) (left : ℕ) (script : Script) (words : Words) (state : S) (variables : Variables) (fuel : ℕ) → 0 < left → script ≡ command words no_command
+    → evaluate host limits left script state variables fuel ≡ words_do host limits (evaluate host limits (left - 1)) words [] state variables fuel
+lone_opens host limits left script words state variables fuel some is =
+    let level = evaluate host limits (left - 1) in
+    script_opens host limits left script state variables fuel some
+    ∙ ap (λ s. after (End 0 [] state variables fuel) (commands_do host limits level s)) is
+    ∙ after_done (words_do host limits level words [] state variables fuel)
+
+-- what came of a thing, where an error is an end
+pub told_runs : {S : Type 0} (host : Meaning S) (asked : Bool) (below : ℕ) (whole : Outcome S) (m : Machine) (state : S) (came : Result Came Halt) (told : Result Came Stop)
+    → ToldSo m.limits came told → ComesSo host asked below whole came m state → RunsSo host asked below whole told m state
+told_runs host asked below whole m state (Ok c) (Ok told) h comes = subst (λ k. CameSo host asked below whole k m state) (sym h) comes
+told_runs host asked below whole m state (Ok c) (Err why) h comes = absurd h
+told_runs host asked below whole m state (Err (halt.Fault fault)) (Ok (came.Ended end)) h comes =
+    (ends_as asked whole end state m.variables m.fuel (comes.0 ∙ failed_is m.limits state m.variables m.fuel fault end h), comes.1)
+told_runs host asked below whole m state (Err (halt.Fault fault)) (Ok (came.Waits w)) h comes = absurd h
+told_runs host asked below whole m state (Err (halt.Fault fault)) (Err why) h comes =
+    subst (λ o. StopsSo o why) (sym comes.0) (failed_stops m.limits state m.variables m.fuel fault why h)
+told_runs host asked below whole m state (Err (halt.Stop other)) (Ok told) h comes = absurd h
+told_runs host asked below whole m state (Err (halt.Stop other)) (Err why) h comes = subst (λ k. StopsSo whole k) (sym h) comes
+
+-- and no more is left of it
+pub told_falls : (limits : Limits) (came : Result Came Halt) (told : Result Came Stop) (size old new : ℕ) → ToldSo limits came told → FallsTo came size old new → FallsTo told size old new
+told_falls limits (Ok (came.Ended end)) (Ok told) size old new h fell = subst (λ k. FallsTo {E = Stop} (Ok k) size old new) (sym h) fell
+told_falls limits (Ok (came.Waits w)) (Ok told) size old new h fell = subst (λ k. FallsTo {E = Stop} (Ok k) size old new) (sym h) fell
+told_falls limits (Ok c) (Err why) size old new h fell = absurd h
+told_falls limits (Err (halt.Fault fault)) (Ok (came.Ended end)) size old new h fell = fell
+told_falls limits (Err (halt.Fault fault)) (Ok (came.Waits w)) size old new h fell = absurd h
+told_falls limits (Err (halt.Fault fault)) (Err why) size old new h fell = fell
+told_falls limits (Err (halt.Stop other)) (Ok told) size old new h fell = absurd h
+told_falls limits (Err (halt.Stop other)) (Err why) size old new h fell = fell

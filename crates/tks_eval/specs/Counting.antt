@@ -1,5 +1,5 @@
 -- What the items of an expression do with a stack of texts.
-use Rattle.std.specs.Prelude.{ℕ, if◌then◌else◌, codes, List, [], ◌∷◌, reverse, Option, Some, None, Result, Ok}
+use Rattle.std.specs.Prelude.{ℕ, if◌then◌else◌, codes, List, [], ◌∷◌, Option, Some, None, Result, Ok}
 use Rattle.tks_text.specs.declared.limits.Limits.{Limits}
 use Rattle.tks_vars.specs.Variables.{Variables}
 use Rattle.tks_expr.specs.Compiled.{items_do}
@@ -14,10 +14,10 @@ use Rattle.tks_eval.specs.Outcome.{Outcome, Next, Level, fails}
 use Rattle.tks_eval.specs.Outcome as outcome
 use Rattle.tks_eval.specs.Evaluation.{text_done, and_then, made_text, with_value}
 
--- the texts of values, that on top first
+-- texts, with another on top where there is one
 abbrev pub stack_of : Option (List ℕ) → List (List ℕ) → List (List ℕ)
-stack_of None below = reverse below
-stack_of (Some top) below = top ∷ reverse below
+stack_of None below = below
+stack_of (Some top) below = top ∷ below
 
 -- the text on top, if there is one
 abbrev pub on_top : List (List ℕ) → List ℕ
@@ -42,6 +42,10 @@ module _ (limits : Limits) (variables : Variables) where
   leaf_value (leaf.Literal text) = Ok text
   leaf_value (leaf.Scalar name) = with_value limits variables name []
 
+  -- what an operator between two leaves gives
+  abbrev pub two_leaves : Binary → Leaf → Leaf → Result (List ℕ) Cause
+  two_leaves op a b = after (leaf_value a) (λ x. after (leaf_value b) (λ y. value_or_fault (applied op x y)))
+
   -- how many items an item passes over, and the stack behind it, where this text was on top
   abbrev pub done_on_top : Item → List ℕ → List (List ℕ) → Result (ℕ × List (List ℕ)) Cause
   done_on_top (item.Right op b) x stack = after (leaf_value b) (put_two op stack x)
@@ -57,7 +61,7 @@ module _ (limits : Limits) (variables : Variables) where
   -- the same, whatever was on top
   abbrev pub item_done : Item → List (List ℕ) → Result (ℕ × List (List ℕ)) Cause
   item_done (item.Load x) stack = after (leaf_value x) (put stack)
-  item_done (item.Two op a b) stack = after (leaf_value a) (λ x. after (leaf_value b) (put_two op stack x))
+  item_done (item.Two op a b) stack = after (two_leaves op a b) (put stack)
   item_done (item.Skip n) stack = Ok (n, stack)
   item_done (item.Make parts) stack = Ok (0, stack)
   item_done i [] = Ok (0, [])

@@ -1,55 +1,42 @@
 //! Commands whose words are lent, and those that run no script.
 ghost use Rattle.std.specs.Prelude.{◌≡◌, true, IfSome, Some, option_map};
-ghost use Rattle.tks_list.specs.Reading.{list_of};
 ghost use Rattle.tks_parse.specs.View.{words_of};
 ghost use Rattle.tks_eval.specs.Filling.{IsWord, IsListWord};
 ghost use Rattle.tks_eval.specs.Machine.{PlainlySo, AnswersWords};
 ghost use Rattle.tks_tcl.specs.Plain.{plain};
+ghost use Rattle.tks_tcl.specs.View.{elements_of};
 
 use crate::frame::Ending;
 use crate::words::lent;
 use std::alloc::Global;
-use tks_list::{Elements, LEAST_KEPT, read};
+use tks_list::{LEAST_KEPT, read};
 use tks_parse::{Part, Word};
-use tks_share::Shared;
 use tks_tcl::{
-    ListTable, Quiet, Stop, is_word, lindex_answer, llength_answer, lrange_answer, plain,
+    Lent, ListTable, Quiet, Stop, is_word, lindex_answer, llength_answer, lrange_answer, plain,
     plain_quietly, return_answer,
 };
 use tks_text::{Limits, Txt};
 use tks_vars::Vars;
 
-// The list that a text splits into.
-fn list_in(alloc: Global, text: &Txt) -> Option<Shared<Elements>>
-    ensures { IfSome result (λ l. list_of text.now ≡ Some l) }
-{
-    let Ok(list) = read(alloc, text) else {
-        return None;
-    };
-    match Shared::new(alloc, list) {
-        Ok(list) => Some(list),
-        Err(_) => None,
-    }
-}
-
 // The list that a word splits into: that of a short text, which is read, or the one that is kept beside a variable's value.
-fn lent_list(
-    alloc: Global,
-    word: &Word,
-    variables: &mut Vars,
-    limits: &Limits,
-) -> Option<Shared<Elements>>
-    ensures some { IfSome result (λ l. IsListWord limits.now variables.old word.now l) }
+fn lent_list(alloc: Global, word: &Word, variables: &mut Vars, limits: &Limits) -> Option<Lent>
+    ensures some { IfSome result (λ l. IsListWord limits.now variables.old word.now (elements_of l)) }
     ensures same { variables.new ≡ variables.old }
 {
     let text = lent(word, variables, limits)?;
     if text.len() < LEAST_KEPT {
-        return list_in(alloc, text);
+        return match read(alloc, text) {
+            Ok(list) => Some(Lent::Read(list)),
+            Err(_) => None,
+        };
     }
     let [Part::Variable(name, None)] = word.parts.as_slice() else {
         return None;
     };
-    variables.list(name)
+    match variables.list(name) {
+        Some(list) => Some(Lent::Kept(list)),
+        None => None,
+    }
 }
 
 // Whether a word is this one.
@@ -156,6 +143,7 @@ fn ended(code: u8, text: Option<Txt>) -> Option<Ending>
 }
 
 /// The end of a command of words that are lent: of a list that is read, or of a `return`. Nothing is copied as a word.
+#[inline(always)]
 pub fn answer_at_once(
     alloc: Global,
     words: &[Word],
@@ -168,6 +156,16 @@ pub fn answer_at_once(
     if !words.first().is_some_and(may_answer) {
         return None;
     }
+    answer(alloc, words, variables, limits)
+}
+
+// The same of a command that may be one of those. It stands apart in what is compiled, since whoever runs a command would clear
+// the places for its parts each time.
+#[inline(never)]
+fn answer(alloc: Global, words: &[Word], variables: &mut Vars, limits: &Limits) -> Option<Ending>
+    ensures some { IfSome result (λ end. AnswersWords limits.now variables.old (words_of words.now) end.code end.text) }
+    ensures same { variables.new ≡ variables.old }
+{
     match words {
         [_, _, _, _] => ended(0, lrange_at_once(alloc, words, variables, limits)),
         [_, _, _] => ended(0, lindex_at_once(alloc, words, variables, limits)),

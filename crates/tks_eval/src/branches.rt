@@ -99,6 +99,7 @@ fn with_last(tests: Vec<Test>, words: &[Txt]) -> Result<Option<Branches>, AllocE
 }
 
 // What the words of an `if` say.
+#[inline(never)]
 fn read_branches(alloc: Global, words: &[Txt]) -> Result<Option<Branches>, AllocError>
     ensures { IfOk result (λ b. b ≡ branches Condition [] words.now) }
 {
@@ -181,6 +182,7 @@ impl Machine {
 
     // An `if` with one condition. Nothing is copied where that is decided where it stands.
     #[cycle(run)]
+    #[inline(always)]
     fn run_test<H: Host>(
         &mut self,
         alloc: Global,
@@ -221,6 +223,7 @@ impl Machine {
 
     // Runs a body that may be left out.
     #[cycle(run)]
+    #[inline(always)]
     fn run_body<H: Host>(
         &mut self,
         alloc: Global,
@@ -245,6 +248,7 @@ impl Machine {
 
     // Goes on with the branches that are left of an `if`.
     #[cycle(run)]
+    #[inline(never)]
     fn next_branches<H: Host>(
         &mut self,
         alloc: Global,

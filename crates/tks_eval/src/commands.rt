@@ -1,8 +1,8 @@
 //! Scripts and their commands, and the commands that run scripts.
-ghost use Rattle.std.specs.Prelude.{true, ◌≡◌, ◌≤◌, ◌<◌, ◌*◌, ◌+◌, [], ◌∷◌};
+ghost use Rattle.std.specs.Prelude.{true, ◌≡◌, ◌≤◌, ◌<◌, ◌*◌, ◌+◌, [], ◌∷◌, IfSome};
 ghost use Rattle.std.specs.FinMap as map;
 ghost use Rattle.std.specs.List.{list_all};
-ghost use Rattle.tks_parse.specs.Tree.{script_size, words_size};
+ghost use Rattle.tks_parse.specs.Tree.{command, no_command, script_size, words_size};
 ghost use Rattle.tks_parse.specs.View.{words_of, words_of_command};
 ghost use Rattle.tks_text.specs.Limits.{fits};
 ghost use Rattle.tks_eval.specs.Evaluation.{words_do, call, control_does, catch_does, eval_does, procedure_does};
@@ -14,18 +14,28 @@ use crate::control::Control;
 use crate::frame::{Came, Ending, Frame, Opens};
 use crate::halt::{Halt, error_about};
 use crate::host::Host;
-use crate::machine::{Machine, before, failed, waiting};
+use crate::machine::{Machine, before, failed, told, waiting};
 use crate::procedures::{enter, run_proc};
 use std::alloc::Global;
 use tks_parse::{Command, Remaining, RemainingScript, Script};
 use tks_tcl::{Stop, concatenated_within, store};
-use tks_text::{ErrorNumber, Limits, ScriptFault, Seq, Txt, decimal_of, fits};
+use tks_text::{ErrorNumber, Limits, ScriptFault, Txt, decimal_of, fits};
 
 /// Whether no text passes the limit.
 pub fn all_fit(texts: &[Txt], limits: &Limits) -> bool
     ensures { result ≡ list_all (λ t. fits limits.now t) texts.now }
 {
     texts.iter().all(|text| fits(text, limits))
+}
+
+// The command that is all of a script.
+fn lone_command(script: &Script) -> Option<&Command>
+    ensures { IfSome result (λ c. script.now ≡ command (words_of_command c.now) no_command) }
+{
+    match script.contents() {
+        ([command], None) => Some(command),
+        _ => None,
+    }
 }
 
 impl Machine {
@@ -45,8 +55,8 @@ impl Machine {
         ensures opened { 0 < near → FallsTo result (4 * script_size script.now) self.old.fuel self.new.fuel }
         ensures comes { RunsSo H.meaning asked self.old.left (done_by (level_of H.meaning self.old script.now) (H.state host.old) self.old) result self.new (H.state host.new) }
     {
-        let script = script.share()?;
         if near == 0 {
+            let script = script.share()?;
             return Ok(Came::Waits(waiting(alloc, Opens::Script(script))?));
         }
         let levels = self.left;
@@ -54,16 +64,23 @@ impl Machine {
             return Err(Stop::Depth);
         }
         self.left = levels - 1;
-        let begun = Ending::silent(alloc);
-        self.run_commands(
-            alloc,
-            host,
-            script.into_remaining(),
-            levels,
-            begun,
-            asked,
-            near - 1,
-        )
+        let Some(command) = lone_command(script) else {
+            let rest = script.share()?.into_remaining();
+            let begun = Ending::silent(alloc);
+            return self.run_commands(alloc, host, rest, levels, begun, asked, near - 1);
+        };
+        let came = self.run_command(alloc, host, command, asked, near - 1);
+        match told(alloc, came, &self.limits)? {
+            Came::Ended(end) => {
+                self.left = levels;
+                Ok(Came::Ended(end))
+            }
+            Came::Waits(waiting) => {
+                let mut rest = script.share()?.into_remaining();
+                rest.skip();
+                Ok(Came::Waits(before(waiting, Frame::Commands { rest, levels })?))
+            }
+        }
     }
 
     /// Runs the commands that are left of a script behind such an end.
@@ -95,13 +112,11 @@ impl Machine {
             let asked = asked && rest.is_last();
             let came = self.run_command(alloc, host, command, asked, near);
             rest.skip();
-            match came {
-                Ok(Came::Ended(next)) => end = next,
-                Ok(Came::Waits(waiting)) => {
+            match told(alloc, came, &self.limits)? {
+                Came::Ended(next) => end = next,
+                Came::Waits(waiting) => {
                     return Ok(Came::Waits(before(waiting, Frame::Commands { rest, levels })?));
                 }
-                Err(Halt::Fault(fault)) => end = failed(alloc, &fault, &self.limits)?,
-                Err(Halt::Stop(why)) => return Err(why),
             }
         }
         self.left = levels;
@@ -110,6 +125,7 @@ impl Machine {
 
     // Makes the words of a command, and runs it.
     #[cycle(run)]
+    #[inline(always)]
     fn run_command<H: Host>(
         &mut self,
         alloc: Global,
@@ -141,7 +157,8 @@ impl Machine {
                     }
                 }
                 let words = Remaining::all(words.clone()?);
-                self.make_words(alloc, host, Seq::new(alloc), words, asked, near)
+                let made = self.table.no_words(alloc);
+                self.make_words(alloc, host, made, words, asked, near)
             }
         }
     }
@@ -227,6 +244,7 @@ impl Machine {
 
     // catch s ?name?
     #[cycle(run)]
+    #[inline(never)]
     fn run_catch<H: Host>(
         &mut self,
         alloc: Global,
@@ -273,6 +291,7 @@ impl Machine {
 
     // eval ..
     #[cycle(run)]
+    #[inline(never)]
     fn run_eval<H: Host>(
         &mut self,
         alloc: Global,
@@ -294,6 +313,7 @@ impl Machine {
 
     // Calls a procedure.
     #[cycle(run)]
+    #[inline(never)]
     fn run_procedure<H: Host>(
         &mut self,
         alloc: Global,
@@ -323,6 +343,7 @@ impl Machine {
     }
 
     /// Ends a procedure, and its frame with it.
+    #[inline(always)]
     pub fn after_procedure<H: Host>(&mut self, host: &H, end: Ending) -> Result<Came, Halt>
         ensures same_limits { self.new.limits ≡ self.old.limits }
         ensures falls { FallsBelow result 1 self.old.fuel self.new.fuel }

@@ -1,9 +1,9 @@
 //! Expressions: their items are done one after the other with a stack of values.
-ghost use Rattle.std.specs.Prelude.{true, ◌≡◌, ◌≤◌, ◌-◌, ◌*◌, ◌+◌, [], ◌∷◌, length, drop, reverse, if◌then◌else◌, codes, IfOk, OnOk, MatchOption};
-ghost use Rattle.tks_parse.specs.Tree.{parts_size};
+ghost use Rattle.std.specs.Prelude.{true, ◌≡◌, ◌≤◌, ◌-◌, ◌*◌, ◌+◌, [], ◌∷◌, length, drop, reverse, if◌then◌else◌, codes, IfOk, IfSome, OnOk, MatchOption};
 ghost use Rattle.tks_expr.specs.View.{operand_text};
-ghost use Rattle.tks_eval.specs.Evaluation.{expr_does, expression_does, made_text, result_told, with_value};
-ghost use Rattle.tks_eval.specs.Counting.{on_top, leaf_value, put_two, item_done, done_on_top, items_go};
+ghost use Rattle.tks_expr.specs.declared.items.Item.TheVariants.{Two};
+ghost use Rattle.tks_eval.specs.Evaluation.{expr_does, expression_does, result_told, with_value};
+ghost use Rattle.tks_eval.specs.Counting.{on_top, leaf_value, two_leaves, put_two, item_done, done_on_top, items_go};
 ghost use Rattle.tks_tcl.specs.Meets.{GivesSo};
 ghost use Rattle.tks_eval.specs.Machine.{after_frame, ended, level_of, done_by, items_weight, frame_weight, told_by, ComesSo, DoesSo, ValuedSo, FallsTo, ValueFallsTo, FallsBelow};
 ghost use Rattle.tks_eval.specs.declared.frame.Frame.TheVariants as frame;
@@ -15,12 +15,12 @@ use crate::machine::{Machine, NEAR, before};
 use std::alloc::{AllocError, Global};
 use std::marker::Model;
 use tks_expr::{Binary, Item, Items, Leaf, Operand, Value, apply, apply_unary};
-use tks_parse::Parts;
 use tks_tcl::{Interrupt, joined_within};
 use tks_text::{ErrorNumber, Limits, Txt, fits};
 use tks_vars::Vars;
 
 /// The value of a variable that alone is a text.
+#[inline(always)]
 pub fn scalar<'a>(name: &Txt, variables: &'a Vars, limits: &Limits) -> Result<&'a Txt, Interrupt>
     ensures { GivesSo (λ t. t.now) result (with_value limits.now variables.now name.now []) }
 {
@@ -32,6 +32,7 @@ pub fn scalar<'a>(name: &Txt, variables: &'a Vars, limits: &Limits) -> Result<&'
 }
 
 // What a leaf comes to.
+#[inline(always)]
 fn leaf_operand<'a>(
     leaf: &'a Leaf,
     variables: &'a Vars,
@@ -48,21 +49,39 @@ fn leaf_operand<'a>(
     }
 }
 
-/// The values of an expression under way. The one on top stands apart, so that most expressions take no memory for them.
-/// Contracts see their texts, that on top first.
+// What an operator between two leaves gives.
+#[inline(always)]
+fn two_leaves(
+    alloc: Global,
+    operator: Binary,
+    left: &Leaf,
+    right: &Leaf,
+    variables: &Vars,
+    limits: &Limits,
+) -> Result<Value, Interrupt>
+    ensures { GivesSo (λ v. v) result (two_leaves limits.now variables.now operator left.now right.now) }
+{
+    let left = leaf_operand(left, variables, limits)?;
+    let right = leaf_operand(right, variables, limits)?;
+    Ok(Value::integer(apply(alloc, operator, left, right)?))
+}
+
+/// The values of an expression under way. That on top stands apart, and so may the one below it, so that most expressions take
+/// no memory for them. Contracts see their texts, that on top first.
 #[derive(Drop)]
 pub struct Values {
     top: Option<Value>,
+    second: Option<Value>,
     below: Vec<Value>,
 }
 
 impl Model for Values {
-    ghost use Rattle.std.specs.Prelude.{List, ℕ};
+    ghost use Rattle.std.specs.Prelude.{List, ℕ, reverse};
     ghost use Rattle.tks_eval.specs.Counting.{stack_of};
 
     ghost Value = { List (List ℕ) };
 
-    ghost view = { λ v. stack_of v.top v.below.items };
+    ghost view = { λ v. stack_of v.top (stack_of v.second (reverse v.below.items)) };
 }
 
 impl Values {
@@ -72,6 +91,7 @@ impl Values {
     {
         Values {
             top: None,
+            second: None,
             below: Vec::new(alloc),
         }
     }
@@ -82,6 +102,7 @@ impl Values {
     {
         Values {
             top: Some(top),
+            second: None,
             below,
         }
     }
@@ -90,8 +111,11 @@ impl Values {
     fn into_below(self) -> Result<Vec<Value>, AllocError>
         ensures { IfOk result (λ below. reverse below.items ≡ self) }
     {
-        let Values { top, below } = self;
+        let Values { top, second, below } = self;
         let mut below = below;
+        if let Some(second) = second {
+            below.push(second)?;
+        }
         if let Some(top) = top {
             below.push(top)?;
         }
@@ -99,11 +123,15 @@ impl Values {
     }
 
     // Puts a value on top.
+    #[inline(always)]
     fn push(&mut self, value: Value) -> Result<(), AllocError>
         ensures { OnOk result (self.new ≡ value ∷ self.old) }
     {
         if let Some(top) = self.top.take() {
-            self.below.push(top)?;
+            if let Some(second) = self.second.take() {
+                self.below.push(second)?;
+            }
+            self.second = Some(top);
         }
         self.top = Some(value);
         Ok(())
@@ -113,8 +141,11 @@ impl Values {
     fn pop(&mut self) -> Option<Value>
         ensures { MatchOption result ((self.old ≡ []) × (self.new ≡ [])) (λ v. self.old ≡ v ∷ self.new) }
     {
-        match self.top.take() {
-            Some(top) => Some(top),
+        if let Some(top) = self.top.take() {
+            return Some(top);
+        }
+        match self.second.take() {
+            Some(second) => Some(second),
             None => self.below.pop(),
         }
     }
@@ -162,9 +193,9 @@ impl Values {
                 Ok(0)
             }
             Item::Two(operator, left, right) => {
-                let left = leaf_operand(left, variables, limits)?;
-                let right = leaf_operand(right, variables, limits)?;
-                self.operate(alloc, *operator, left, right)
+                let value = two_leaves(alloc, *operator, left, right, variables, limits)?;
+                self.push(value)?;
+                Ok(0)
             }
             Item::Skip(count) => Ok(*count),
             Item::Make(_) => Ok(0),
@@ -277,9 +308,21 @@ fn behind(items: &[Item], count: usize) -> &[Item]
     items.split_at(count.min(items.len())).1
 }
 
+// The operator and the leaves where that is all of an expression.
+#[inline(always)]
+fn lone_pair(items: &[Item]) -> Option<(Binary, &Leaf, &Leaf)>
+    ensures { IfSome result (λ x. items.now ≡ Two x.0 x.1.now x.2.now ∷ []) }
+{
+    match items {
+        [Item::Two(operator, left, right)] => Some((*operator, left, right)),
+        _ => None,
+    }
+}
+
 impl Machine {
-    /// Evaluates an expression.
+    /// Evaluates an expression. An operator between two leaves, as most conditions are, needs no stack.
     #[cycle(run)]
+    #[inline(always)]
     pub fn value<H: Host>(
         &mut self,
         alloc: Global,
@@ -292,8 +335,13 @@ impl Machine {
         ensures spends { self.new.fuel ≤ self.old.fuel }
         ensures comes { ValuedSo H.meaning self.old.left (done_by (items_go self.old.limits (level_of H.meaning self.old) items.now []) (H.state host.old) self.old) result self.new (H.state host.new) }
     {
-        let all = items.as_slice().len();
-        self.count(alloc, host, items, all, Values::new(alloc), near)
+        let all = items.as_slice();
+        if let Some((operator, left, right)) = lone_pair(all) {
+            let variables = &self.variables;
+            let value = two_leaves(alloc, operator, left, right, variables, &self.limits)?;
+            return Ok(Valued::Value(value));
+        }
+        self.count(alloc, host, items, all.len(), Values::new(alloc), near)
     }
 
     // Does the items that are left of an expression, with these values.
@@ -322,7 +370,7 @@ impl Machine {
                 continue 'item;
             };
             rest = more;
-            match self.make_operand(alloc, host, parts, near)? {
+            match self.make_parts(alloc, host, parts, near)? {
                 Came::Ended(end) => {
                     if end.code != 0 {
                         return Ok(Valued::Ended(end));
@@ -340,24 +388,6 @@ impl Machine {
             }
         }
         Ok(Valued::Value(values.into_top(alloc)))
-    }
-
-    // Makes the text of an operand.
-    #[cycle(run)]
-    fn make_operand<H: Host>(
-        &mut self,
-        alloc: Global,
-        host: &mut H,
-        parts: &Parts,
-        near: u32,
-    ) -> Result<Came, Halt>
-        ensures same_place { H.place host.new ≡ H.place host.old }
-        ensures same_limits { self.new.limits ≡ self.old.limits }
-        ensures falls { FallsTo result (4 * parts_size parts.now) self.old.fuel self.new.fuel }
-        ensures comes { DoesSo H.meaning true (made_text self.old.limits (level_of H.meaning self.old) parts.now) (H.state host.old) self.old result (H.state host.new) self.new }
-    {
-        let parts = parts.remaining()?;
-        self.make_text(alloc, host, Txt::new(alloc), parts, near)
     }
 
     // expr word ..
@@ -388,6 +418,7 @@ impl Machine {
 
     // Evaluates the expression that a text spells, and tells its result.
     #[cycle(run)]
+    #[inline(always)]
     fn run_expression<H: Host>(
         &mut self,
         alloc: Global,

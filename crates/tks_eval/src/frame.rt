@@ -5,10 +5,11 @@ use crate::branches::Branches;
 use crate::expressions::Counting;
 use crate::host::Due;
 use crate::loops::{Loop, Stage};
+use crate::made::MadeWords;
 use crate::rest::Rest;
 use std::alloc::Global;
 use tks_parse::{Part, Remaining, RemainingScript, Script, Word};
-use tks_text::{Seq, Txt};
+use tks_text::Txt;
 
 /// How a script, a command or a word ended: its code, and its result or its error's text.
 #[derive(Drop)]
@@ -46,7 +47,7 @@ pub enum Frame {
     },
     /// A command, whose next word is being made.
     Command {
-        words: Seq<Txt>,
+        words: MadeWords,
         expand: bool,
         rest: Remaining<Word>,
     },

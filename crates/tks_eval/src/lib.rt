@@ -14,6 +14,7 @@ mod host;
 mod laws;
 mod loops;
 mod machine;
+mod made;
 mod plans;
 mod procedures;
 mod rest;

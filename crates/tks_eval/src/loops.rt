@@ -121,6 +121,7 @@ fn foreach_form(
 impl Machine {
     // while c b
     #[cycle(run)]
+    #[inline(never)]
     pub fn run_while<H: Host>(
         &mut self,
         alloc: Global,
@@ -145,6 +146,7 @@ impl Machine {
 
     // for s c n b
     #[cycle(run)]
+    #[inline(never)]
     pub fn run_for<H: Host>(
         &mut self,
         alloc: Global,

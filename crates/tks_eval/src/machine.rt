@@ -83,8 +83,9 @@ fn stopped(came: Result<Came, Stop>) -> Result<Came, Halt>
     }
 }
 
-// How far a thing came, where an error is an end.
-fn told(alloc: Global, came: Result<Came, Halt>, limits: &Limits) -> Result<Came, Stop>
+/// How far a thing came, where an error is an end.
+#[inline(always)]
+pub fn told(alloc: Global, came: Result<Came, Halt>, limits: &Limits) -> Result<Came, Stop>
     ensures { ToldSo limits.now came result }
 {
     match came {
@@ -95,6 +96,7 @@ fn told(alloc: Global, came: Result<Came, Halt>, limits: &Limits) -> Result<Came
 }
 
 /// What waits for this to be opened, with nothing behind it.
+#[inline(never)]
 pub fn waiting(alloc: Global, opens: Opens) -> Result<Box<Waiting>, AllocError>
     ensures { IfOk result (λ w. (w.value.opens ≡ opens) × (w.value.frames.items ≡ [])) }
 {
@@ -108,6 +110,7 @@ pub fn waiting(alloc: Global, opens: Opens) -> Result<Box<Waiting>, AllocError>
 }
 
 /// The same waiting, with a frame behind it.
+#[inline(never)]
 pub fn before(waiting: Box<Waiting>, frame: Frame) -> Result<Box<Waiting>, AllocError>
     ensures { IfOk result (λ w. (w.value.opens ≡ waiting.value.opens) × (w.value.frames.items ≡ waiting.value.frames.items ++ frame ∷ [])) }
 {

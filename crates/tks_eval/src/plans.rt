@@ -15,6 +15,7 @@ use tks_text::{ErrorNumber, ScriptFault, Txt};
 impl Machine {
     /// Does what a plan says.
     #[cycle(run)]
+    #[inline(never)]
     pub fn run_plan<H: Host>(
         &mut self,
         alloc: Global,

@@ -1,5 +1,5 @@
 //! `proc`, and calls of procedures.
-ghost use Rattle.std.specs.Prelude.{◌≡◌, ◌||◌, [], is_some, nat_lt, Ok, IfOk, OnErr};
+ghost use Rattle.std.specs.Prelude.{◌≡◌, ◌||◌, is_some, nat_lt, Ok, IfOk, OnErr};
 ghost use Rattle.std.specs.FinMap as map;
 ghost use Rattle.std.specs.List.{list_all};
 ghost use Rattle.tks_tcl.specs.Cause.{after};
@@ -66,15 +66,17 @@ fn takes_rest(parameter: &Parameter, behind: &[Parameter]) -> bool
     behind.is_empty() && parameter.name.as_bytes() == b"args".as_slice()
 }
 
-// The values that the words of a call give to parameters, or none where the number of words is wrong.
+// The values that the words of a call give to parameters, behind those that are given, or none where the number of words is
+// wrong.
 fn arguments(
     alloc: Global,
+    given: Arguments,
     parameters: &[Parameter],
     words: &[Txt],
 ) -> Result<Option<Arguments>, AllocError>
-    ensures { IfOk result (λ given. given ≡ arguments [] parameters.now words.now) }
+    ensures { IfOk result (λ all. all ≡ arguments given parameters.now words.now) }
 {
-    let mut given = Arguments::new(alloc)?;
+    let mut given = given;
     let mut parameters = parameters;
     let mut words = words;
     'parameter: while let Some((parameter, behind)) = parameters.split_first() {
@@ -130,10 +132,11 @@ pub fn enter(
     ensures err { OnErr result (variables.new ≡ variables.old) }
     ensures value { GivesSo (λ script. (script, variables.new)) result (after (entered limits.now command.now words.now variables.old (map.get variables.old.procedures command.now)) (λ x. Ok (script_in x))) }
 {
+    let given = variables.no_arguments()?;
     let Some(procedure) = variables.procedure(command) else {
         return Err(error_about(ErrorNumber::NoSuchCommand, command));
     };
-    let Some(arguments) = arguments(alloc, procedure.params.as_slice(), words)? else {
+    let Some(arguments) = arguments(alloc, given, procedure.params.as_slice(), words)? else {
         return Err(error_about(ErrorNumber::WrongWords, command));
     };
     let script = table.script(alloc, &procedure.body)?;

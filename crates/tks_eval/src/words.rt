@@ -1,9 +1,9 @@
 //! Words of commands: what stands in them is put together, and scripts in them are run.
 ghost use Rattle.std.specs.Prelude.{true, ◌≡◌, ◌*◌, ◌+◌, [], ◌++◌, ◌∷◌, IfOk, IfSome, OnOk, Ok};
-ghost use Rattle.tks_parse.specs.Tree.{parts_size, words_size};
+ghost use Rattle.tks_parse.specs.Tree.{nested, no_part, parts_size, words_size};
 ghost use Rattle.tks_parse.specs.View.{words_of, parts_of};
 ghost use Rattle.tks_eval.specs.Outcome.{appended};
-ghost use Rattle.tks_eval.specs.Evaluation.{element_name, with_value, words_in, parts_do, words_do};
+ghost use Rattle.tks_eval.specs.Evaluation.{element_name, with_value, words_in, parts_do, made_text, words_do};
 ghost use Rattle.tks_tcl.specs.Cause.{after};
 ghost use Rattle.tks_tcl.specs.Meets.{GivesSo};
 ghost use Rattle.tks_eval.specs.Filling.{IsWord};
@@ -15,10 +15,12 @@ use crate::frame::{Came, Ending, Frame, Opens};
 use crate::halt::Halt;
 use crate::host::Host;
 use crate::machine::{Machine, NEAR, before, waiting};
+use crate::made::MadeWords;
 use std::alloc::{AllocError, Global};
-use tks_parse::{Part, Parts, Remaining, Word};
+use std::rc::Rc;
+use tks_parse::{Part, Parts, Remaining, Script, Word};
 use tks_tcl::{Interrupt, list_in};
-use tks_text::{Limits, Seq, Txt, fits};
+use tks_text::{Limits, Txt, fits};
 use tks_vars::Vars;
 
 // Adds to a text that is being made.
@@ -32,19 +34,27 @@ fn grow(made: &mut Txt, more: &Txt, limits: &Limits) -> Result<(), Interrupt>
     Ok(())
 }
 
+// A text that stands alone.
+#[inline(always)]
+fn alone(text: Txt, limits: &Limits) -> Result<Txt, Interrupt>
+    ensures { GivesSo (λ t. t) result (appended limits.now [] text) }
+{
+    if text.len() > limits.text as usize {
+        return Err(Interrupt::TooLarge);
+    }
+    Ok(text)
+}
+
 // A text that is being made, with more behind it. Where nothing is made yet, it is what comes.
 fn joined(made: Txt, more: Txt, limits: &Limits) -> Result<Txt, Interrupt>
     ensures { GivesSo (λ t. t) result (appended limits.now made more) }
 {
-    if !made.is_empty() {
-        let mut made = made;
-        grow(&mut made, &more, limits)?;
-        return Ok(made);
+    if made.is_empty() {
+        return alone(more, limits);
     }
-    if more.len() > limits.text as usize {
-        return Err(Interrupt::TooLarge);
-    }
-    Ok(more)
+    let mut made = made;
+    grow(&mut made, &more, limits)?;
+    Ok(made)
 }
 
 // Adds the value of a variable to a text that is being made.
@@ -72,7 +82,8 @@ fn element_name(name: &Txt, index: &Txt) -> Result<Txt, AllocError>
 }
 
 // Adds the words that a word's text stands for.
-fn add_words(alloc: Global, words: &mut Seq<Txt>, expand: bool, text: Txt) -> Result<(), Interrupt>
+#[inline(always)]
+fn add_words(alloc: Global, words: &mut MadeWords, expand: bool, text: Txt) -> Result<(), Interrupt>
     ensures { GivesSo (λ _. words.new) result (after (words_in expand text) (λ more. Ok (words.old ++ more))) }
 {
     if !expand {
@@ -85,7 +96,7 @@ fn add_words(alloc: Global, words: &mut Seq<Txt>, expand: bool, text: Txt) -> Re
 }
 
 // Adds words behind others.
-fn append(words: &mut Seq<Txt>, more: &[Txt]) -> Result<(), AllocError>
+fn append(words: &mut MadeWords, more: &[Txt]) -> Result<(), AllocError>
     ensures { OnOk result (words.new ≡ words.old ++ more.now) }
 {
     for word in more {
@@ -96,6 +107,7 @@ fn append(words: &mut Seq<Txt>, more: &[Txt]) -> Result<(), AllocError>
 
 /// The text that a word is, where it lies: its characters, or a variable's value.
 #[tactic(auto, using(crate::proofs::Lent::filled_one))]
+#[inline(always)]
 pub fn lent<'a>(word: &'a Word, variables: &'a Vars, limits: &Limits) -> Option<&'a Txt>
     ensures { IfSome result (λ t. IsWord limits.now variables.now word.now t.now) }
 {
@@ -112,6 +124,27 @@ pub fn lent<'a>(word: &'a Word, variables: &'a Vars, limits: &Limits) -> Option<
             Err(_) => None,
         },
         _ => None,
+    }
+}
+
+// The script whose result is all that parts make.
+#[inline(always)]
+fn lone_script(parts: &Parts) -> Option<&Script>
+    ensures { IfSome result (λ s. parts.now ≡ nested s.now no_part) }
+{
+    match parts.as_slice() {
+        [Part::Nested(script)] => Some(script),
+        _ => None,
+    }
+}
+
+// Nothing that is left of parts.
+fn no_parts(alloc: Global) -> Result<Remaining<Part>, AllocError>
+    ensures { IfOk result (λ parts. parts ≡ []) }
+{
+    match Rc::new(alloc, Vec::new(alloc)) {
+        Ok(none) => Ok(Remaining::all(none)),
+        Err(_) => Err(AllocError),
     }
 }
 
@@ -183,6 +216,40 @@ impl Machine {
         Ok(Came::Ended(Ending::with(made)))
     }
 
+    /// Makes the text of parts. The result of a script that is all of them is that text as it is.
+    #[cycle(run)]
+    #[inline(always)]
+    pub fn make_parts<H: Host>(
+        &mut self,
+        alloc: Global,
+        host: &mut H,
+        parts: &Parts,
+        near: u32,
+    ) -> Result<Came, Halt>
+        ensures same_place { H.place host.new ≡ H.place host.old }
+        ensures same_limits { self.new.limits ≡ self.old.limits }
+        ensures falls { FallsTo result (4 * parts_size parts.now) self.old.fuel self.new.fuel }
+        ensures comes { DoesSo H.meaning true (made_text self.old.limits (level_of H.meaning self.old) parts.now) (H.state host.old) self.old result (H.state host.new) self.new }
+    {
+        let Some(script) = lone_script(parts) else {
+            let parts = parts.remaining()?;
+            return self.make_text(alloc, host, Txt::new(alloc), parts, near);
+        };
+        match self.run_script(alloc, host, script, true, near)? {
+            Came::Waits(waiting) => {
+                let made = Txt::new(alloc);
+                let parts = no_parts(alloc)?;
+                Ok(Came::Waits(before(waiting, Frame::Nested { made, parts })?))
+            }
+            Came::Ended(end) => {
+                if end.code != 0 {
+                    return Ok(Came::Ended(end));
+                }
+                Ok(Came::Ended(Ending::with(alone(end.text, &self.limits)?)))
+            }
+        }
+    }
+
     // Makes the index of an element.
     #[cycle(run)]
     fn make_index<H: Host>(
@@ -210,7 +277,7 @@ impl Machine {
         &mut self,
         alloc: Global,
         host: &mut H,
-        words: Seq<Txt>,
+        words: MadeWords,
         rest: Remaining<Word>,
         asked: bool,
         near: u32,
@@ -229,8 +296,7 @@ impl Machine {
                 continue 'word;
             }
             let expand = word.expand;
-            let parts = word.parts.remaining()?;
-            let came = self.make_text(alloc, host, Txt::new(alloc), parts, near)?;
+            let came = self.make_parts(alloc, host, &word.parts, near)?;
             rest.skip();
             match came {
                 Came::Waits(waiting) => {
@@ -249,7 +315,9 @@ impl Machine {
                 }
             }
         }
-        self.do_command(alloc, host, words.as_slice(), asked, near)
+        let came = self.do_command(alloc, host, words.as_slice(), asked, near);
+        self.table.keep_room(words);
+        came
     }
 
     /// Goes on with a word behind a script in it.
@@ -302,7 +370,7 @@ impl Machine {
         &mut self,
         alloc: Global,
         host: &mut H,
-        words: Seq<Txt>,
+        words: MadeWords,
         expand: bool,
         rest: Remaining<Word>,
         end: Ending,

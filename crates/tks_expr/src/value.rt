@@ -130,6 +130,7 @@ impl Value {
     /// The result of an expression of this value (expr(n)): an integer in decimal, or the error `OutOfRange` where it is
     /// out of range; any other text as it is.
     #[tactic(auto, using(crate::proofs::Decimals::decimal_is_its_result))]
+    #[inline(always)]
     pub fn into_result(self, alloc: Global) -> Result<Txt, Failure>
         ensures { Gives (λ t. t) result (result_of self) }
     {
@@ -143,6 +144,7 @@ impl Value {
     /// where it is 0, `false`, `no` or `off`. Any other text is the error `NotAnInteger`, and an integer beyond 64 bits
     /// `OutOfRange`.
     #[tactic(auto, using(crate::proofs::Conditions::integer_holds))]
+    #[inline(always)]
     pub fn holds(&self) -> Result<bool, Failure>
         ensures { Gives (λ b. b) result (truth_of self.now) }
     {

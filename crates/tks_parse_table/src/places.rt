@@ -91,11 +91,12 @@ impl<T: Known> Places<T> {
     }
 
     // What a text spells, if it is in this place.
+    #[inline(always)]
     fn tree_at(&self, index: usize, text: &Txt) -> Option<T::Tree>
         ensures { IfSome result (λ tree. T.spells text.now tree) }
     {
         let known = &self.places.get(index)?.known;
-        if *known.text() != *text {
+        if known.text().as_bytes() != text.as_bytes() {
             return None;
         }
         known.tree()
@@ -115,6 +116,7 @@ impl<T: Known> Places<T> {
     }
 
     // What a text spells, if it is in any place. The search begins in this one.
+    #[inline(never)]
     fn find_from(&mut self, text: &Txt, first: usize) -> Option<T::Tree>
         ensures { IfSome result (λ tree. T.spells text.now tree) }
     {

@@ -29,6 +29,7 @@ pub use laws::{
     a_range_goes_place_by_place, a_search_finds_the_first, commands_leave_frames,
     errors_change_nothing, fields_join_back, wider_limits_keep_answers,
 };
+pub use lent::Lent;
 pub use lists::{concatenated_within, joined_within};
 pub use quiet::{Quiet, plain_quietly};
 pub use stop::Stop;

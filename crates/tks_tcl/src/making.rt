@@ -42,6 +42,7 @@ impl<M: Making> Change<ListText> for Quietly<'_, M> {
 
     ghost gives = { λ it before. MakesSo it.limits.now (M.makes it.making before) before };
 
+    #[inline(always)]
     fn change(&mut self, value: &mut ListText) -> Result<(), Interrupt> {
         self.making.make(self.alloc, value, self.limits)
     }
@@ -62,6 +63,7 @@ impl<M: Making> Change<ListText> for Told<'_, M> {
 
     ghost gives = { λ it before. TellsMade it.limits.now (M.makes it.making before) before };
 
+    #[inline(always)]
     fn change(&mut self, value: &mut ListText) -> Result<Txt, Interrupt> {
         let mut made = value.try_clone()?;
         self.making.make(self.alloc, &mut made, self.limits)?;

@@ -130,6 +130,7 @@ impl Change<ListText> for Put<'_> {
 
     ghost gives = { λ put. PutsSo put.value.now };
 
+    #[inline(always)]
     fn change(&mut self, value: &mut ListText) -> Result<(), AllocError> {
         *value = ListText::of(self.value.try_clone()?);
         Ok(())

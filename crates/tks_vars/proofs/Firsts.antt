@@ -256,6 +256,5 @@ module _ {V : Type 0} (k : List ℕ) where
 
   -- ---- what is asked by the bytes of a name
 
-  pub looked_up : (bytes : List ℕ) (es first : List (List ℕ × V)) (o : Option ℕ) → bytes ≡ k → es ≡ first → o ≡ position (λ e. same_text e.0 bytes) es → position is first ≡ o
-  looked_up bytes es first o name same e =
-      sym (e ∙ ap (λ es. position (λ e. same_text e.0 bytes) es) same ∙ ap (λ b. position (λ e. same_text e.0 b) first) name)
+  pub looked_up : (bytes : List ℕ) (first : List (List ℕ × V)) (o : Option ℕ) → bytes ≡ k → o ≡ position (λ e. same_text e.0 bytes) first → position is first ≡ o
+  looked_up bytes first o name e = sym (e ∙ ap (λ b. position (λ e. same_text e.0 b) first) name)

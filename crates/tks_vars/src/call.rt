@@ -39,7 +39,7 @@ impl Model for Arguments {
 
 impl Arguments {
     /// None, with room for a few.
-    pub fn new(alloc: Global) -> Result<Arguments, AllocError>
+    pub(crate) fn new(alloc: Global) -> Result<Arguments, AllocError>
         ensures { IfOk result (λ a. a ≡ []) }
     {
         Ok(Arguments {
@@ -47,7 +47,17 @@ impl Arguments {
         })
     }
 
+    /// None, with the room that others had.
+    pub(crate) fn in_room(room: Few) -> Arguments
+        ensures { result ≡ [] }
+    {
+        let mut entries = room;
+        entries.truncate(0);
+        Arguments { entries }
+    }
+
     /// Adds the value that a call gives to the parameter of this name.
+    #[inline(always)]
     pub fn push(&mut self, name: &Txt, value: Txt) -> Result<(), AllocError>
         ensures ok { OnOk result (self.new ≡ self.old ++ record { name = name.now; value = value } ∷ []) }
         ensures err { OnErr result (self.new ≡ self.old) }

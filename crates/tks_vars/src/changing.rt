@@ -24,6 +24,7 @@ impl<C: Change<ListText>> Change<Content> for ValueChange<'_, C> {
 
     ghost gives = { λ it. ChangesInside (C.gives it.change) it.name.now (index_seen it.index) };
 
+    #[inline(always)]
     fn change(&mut self, content: &mut Content) -> Result<Option<C::Answer>, Failure> {
         content.change(self.name, self.index, &mut self.change)
     }
@@ -42,6 +43,7 @@ impl<K: Change<Content>> Change<Local> for OwnChange<K> {
 
     ghost gives = { λ it. ChangesOwn (K.gives it.change) };
 
+    #[inline(always)]
     fn change(&mut self, local: &mut Local) -> Option<K::Answer> {
         match local {
             Local::Own(content) => Some(self.change.change(content)),

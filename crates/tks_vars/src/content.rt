@@ -89,6 +89,7 @@ impl Content {
     }
 
     /// Changes the value of the whole variable, or of an element, where it stands, if it is there. The error tells the name.
+    #[inline(always)]
     pub fn change<C: Change<ListText>>(
         &mut self,
         name: &Txt,

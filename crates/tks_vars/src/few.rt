@@ -53,6 +53,7 @@ impl Few {
     }
 
     /// The place of the first one with this name.
+    #[inline(always)]
     pub fn place(&self, name: &[u8]) -> Option<usize>
         ensures bound { IfSome result (λ place. place < length self.now) }
         ensures value { result ≡ position (λ e. same_text e.0 name.now) self.now }

@@ -1,5 +1,5 @@
 //! The variables of a procedure's call.
-ghost use Rattle.std.specs.Prelude.{◌≡◌, ◌+◌, if◌then◌else◌, true, false, IfOk, IfSome, IfNone, None, OnOk, OnErr, option_copied};
+ghost use Rattle.std.specs.Prelude.{◌≡◌, ◌+◌, [], if◌then◌else◌, true, false, IfOk, IfSome, IfNone, None, OnOk, OnErr, option_copied};
 ghost use Rattle.std.specs.FinMap as map;
 ghost use Rattle.tks_share.specs.Maps.{IsChangedIn};
 ghost use Rattle.tks_vars.specs.Few.{put_behind, AreApart, Lacks};
@@ -12,7 +12,7 @@ use crate::links::add_links;
 use crate::table::Table;
 use std::alloc::{AllocError, Global};
 use std::marker::Model;
-use tks_share::{Change, Share, Shared};
+use tks_share::{Change, Copied, Share};
 use tks_text::Txt;
 
 /// What stands under the names of a procedure's call. The first few names are looked through one by one, so that a call with
@@ -21,7 +21,7 @@ use tks_text::Txt;
 pub struct Frame {
     alloc: Global,
     len: usize,
-    first: Shared<Few>,
+    first: Few,
     rest: Table<Local>,
 }
 
@@ -70,9 +70,24 @@ impl Frame {
         Ok(Frame {
             alloc,
             len: few.len(),
-            first: Shared::new(alloc, few)?,
+            first: few,
             rest: Table::new(alloc),
         })
+    }
+
+    /// The room of the first few names, without them.
+    pub fn into_room(self) -> Few
+        ensures { result ≡ [] }
+    {
+        let Frame {
+            alloc: _,
+            len: _,
+            first,
+            rest: _,
+        } = self;
+        let mut room = first;
+        room.truncate(0);
+        room
     }
 
     /// How many names there are.
@@ -90,12 +105,12 @@ impl Frame {
     }
 
     /// What stands under a name.
+    #[inline(always)]
     pub fn get(&self, name: &[u8]) -> Option<&Local>
         ensures { option_copied result ≡ map.get self.now name.now }
     {
-        let first = self.first.get();
-        match first.place(name) {
-            Some(place) => Some(&first.at(place).1),
+        match self.first.place(name) {
+            Some(place) => Some(&self.first.at(place).1),
             None => self.rest.get(name),
         }
     }
@@ -116,14 +131,14 @@ impl Frame {
         ensures ok { OnOk result (self.new ≡ map.insert self.old name value) }
         ensures err { OnErr result (self.new ≡ self.old) }
     {
-        match self.first.get().place(name.as_bytes()) {
+        match self.first.place(name.as_bytes()) {
             Some(place) => {
-                self.first.get_mut(self.alloc)?.set(place, name, value);
+                self.first.set(place, name, value);
                 Ok(())
             }
             None => {
                 let len = len_with(self.len, &self.rest, name.as_bytes())?;
-                add(self.alloc, &mut self.first, &mut self.rest, name, value)?;
+                add(&mut self.first, &mut self.rest, name, value)?;
                 self.len = len;
                 Ok(())
             }
@@ -137,8 +152,7 @@ impl Frame {
         ensures unmade { IfOk result (λ made. made ≡ false → self.new ≡ self.old) }
         ensures err { OnErr result (self.new ≡ self.old) }
     {
-        let first = self.first.get_mut(self.alloc)?;
-        match add_links(first, &self.rest, self.len, names, most)? {
+        match add_links(&mut self.first, &self.rest, self.len, names, most)? {
             Some(len) => {
                 self.len = len;
                 Ok(true)
@@ -155,7 +169,7 @@ impl Frame {
         if !self.contains(name) {
             return Ok(());
         }
-        take(self.alloc, &mut self.first, &mut self.rest, name)?;
+        take(&mut self.first, &mut self.rest, name)?;
         self.len = self.len.saturating_sub(1);
         Ok(())
     }
@@ -171,9 +185,9 @@ impl Frame {
         ensures unused { IfOk result (λ o. IfNone o (change.new ≡ change.old)) }
         ensures err { OnErr result (self.new ≡ self.old) }
     {
-        match self.first.get().place(name) {
+        match self.first.place(name) {
             Some(place) => {
-                let answer = self.first.get_mut(self.alloc)?.change(place, change);
+                let answer = self.first.change(place, change);
                 Ok(Some(answer))
             }
             None => {
@@ -189,7 +203,7 @@ impl Share for Frame {
         Ok(Frame {
             alloc: self.alloc,
             len: self.len,
-            first: self.first.share()?,
+            first: self.first.copied(self.alloc)?,
             rest: self.rest.share()?,
         })
     }
@@ -209,19 +223,13 @@ fn len_with(len: usize, rest: &Table<Local>, name: &[u8]) -> Result<usize, Alloc
 }
 
 // Puts a value under a name that isn't among the first ones: behind these, or into the rest.
-fn add(
-    alloc: Global,
-    first: &mut Shared<Few>,
-    rest: &mut Table<Local>,
-    name: Txt,
-    value: Local,
-) -> Result<(), AllocError>
+fn add(first: &mut Few, rest: &mut Table<Local>, name: Txt, value: Local) -> Result<(), AllocError>
     requires { Lacks name first.old }
     ensures ok { OnOk result (put_behind rest.new first.new ≡ map.insert (put_behind rest.old first.old) name value) }
     ensures err { OnErr result ((first.new ≡ first.old) × (rest.new ≡ rest.old)) }
 {
-    if first.get().len() < FEW {
-        first.get_mut(alloc)?.push(name, value)?;
+    if first.len() < FEW {
+        first.push(name, value)?;
         return Ok(());
     }
     rest.insert(name.as_bytes(), value)?;
@@ -229,17 +237,11 @@ fn add(
 }
 
 // Takes a name out of the first and the rest.
-fn take(
-    alloc: Global,
-    first: &mut Shared<Few>,
-    rest: &mut Table<Local>,
-    name: &[u8],
-) -> Result<(), AllocError>
+fn take(first: &mut Few, rest: &mut Table<Local>, name: &[u8]) -> Result<(), AllocError>
     ensures ok { OnOk result (put_behind rest.new first.new ≡ map.remove (put_behind rest.old first.old) name.now) }
     ensures err { OnErr result ((first.new ≡ first.old) × (rest.new ≡ rest.old)) }
 {
-    let few = first.get_mut(alloc)?;
     rest.remove(name)?;
-    few.remove(name);
+    first.remove(name);
     Ok(())
 }

@@ -1,5 +1,5 @@
 //! The variables of scripts, and the procedures.
-ghost use Rattle.std.specs.Prelude.{◌≡◌, length, reverse, true, false, Some, IfOk, IfSome, OnOk, OnErr, IsOk, option_copied};
+ghost use Rattle.std.specs.Prelude.{◌≡◌, [], length, reverse, true, false, Some, IfOk, IfSome, OnOk, OnErr, IsOk, option_copied};
 ghost use Rattle.std.specs.FinMap as map;
 ghost use Rattle.tks_text.specs.Fault.{Gives};
 ghost use Rattle.tks_list.specs.Reading.{list_of};
@@ -13,6 +13,7 @@ ghost use Rattle.tks_vars.specs.Variables.{no_variables, at_global_level, innerm
 use crate::call::{Arguments, frame_of};
 use crate::changing::{KeepList, OwnChange, Reached, Setting, ValueChange};
 use crate::content::{Content, Local};
+use crate::few::Few;
 use crate::frame::Frame;
 use crate::name::{Name, named};
 use crate::procedure::Procedure;
@@ -31,6 +32,8 @@ pub struct Vars {
     globals: Table<Content>,
     locals: Vec<Option<Frame>>,
     procedures: Table<Procedure>,
+    // Room of frames that have ended, so that further calls take no memory for theirs. Contracts see nothing of it.
+    spare: Vec<Few>,
 }
 
 // Written out, so that to let go of it is one step for whoever owns it.
@@ -41,6 +44,7 @@ impl Drop for Vars {
             globals: _,
             locals: _,
             procedures: _,
+            spare: _,
         } = self;
     }
 }
@@ -129,6 +133,7 @@ impl Vars {
             globals: Table::new(alloc),
             locals: Vec::new(alloc),
             procedures: Table::new(alloc),
+            spare: Vec::new(alloc),
         }
     }
 
@@ -141,6 +146,7 @@ impl Vars {
             globals,
             locals: Vec::new(alloc),
             procedures,
+            spare: Vec::new(alloc),
         }
     }
 
@@ -166,6 +172,7 @@ impl Vars {
     }
 
     // What stands under the name of a variable.
+    #[inline(always)]
     fn content(&self, variable: &[u8]) -> Option<&Content>
         ensures { option_copied result ≡ content_of self.now variable.now }
     {
@@ -190,6 +197,7 @@ impl Vars {
     }
 
     // The value of a variable or an element.
+    #[inline(always)]
     fn value(&self, name: &[u8]) -> Result<&ListText, ErrorNumber>
         ensures { AnswersSo (λ v. v.now) result (value_at self.now name.now) }
     {
@@ -404,6 +412,17 @@ impl Vars {
         Ok(())
     }
 
+    /// No arguments of a call, with the room of a frame that has ended where there is one.
+    pub fn no_arguments(&mut self) -> Result<Arguments, AllocError>
+        ensures none { IfOk result (λ a. a ≡ []) }
+        ensures same { self.new ≡ self.old }
+    {
+        match self.spare.pop() {
+            Some(room) => Ok(Arguments::in_room(room)),
+            None => Arguments::new(self.alloc),
+        }
+    }
+
     /// Begins the frame of a call with these arguments. Of two with one name the first stays.
     pub fn push_frame_with(&mut self, arguments: Arguments) -> Result<(), AllocError>
         ensures ok { OnOk result (self.new ≡ pushed_with arguments self.old) }
@@ -428,7 +447,9 @@ impl Vars {
     pub fn pop_frame(&mut self)
         ensures { self.new ≡ popped self.old }
     {
-        let _ended = self.locals.pop();
+        if let Some(Some(frame)) = self.locals.pop() {
+            let _ = self.spare.push(frame.into_room());
+        }
     }
 
     /// Makes a name of the present frame a link to the global of that name, whether there is one or not. Where
@@ -532,6 +553,7 @@ impl Share for Vars {
             globals: self.globals.share()?,
             locals: share_frames(self.alloc, &self.locals)?,
             procedures: self.procedures.share()?,
+            spare: Vec::new(self.alloc),
         })
     }
 }

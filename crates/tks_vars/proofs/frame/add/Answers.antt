@@ -1,4 +1,4 @@
-use Rattle.std.proofs.Common.{◌∷◌, [], ◌++◌, ap, ◌∙◌}
+use Rattle.std.proofs.Common.{ap, ◌∙◌}
 use Rattle.std.specs.FinMap as fin
 use Rattle.tks_vars.specs.Few.{put_behind}
 use Rattle.tks_vars.proofs.Firsts.{put_at_end, put_before}
@@ -6,7 +6,7 @@ use Rattle.tks_vars.proofs.frame.add.Goals as goal
 
 pub returns-then-len-lt-FEW-clause-ok : goal.returns-then-len-lt-FEW-clause-ok
 returns-then-len-lt-FEW-clause-ok c =
-    ap (put_behind c.args.rest.now) (c.in_ok-push.ensures.ok ∙ ap (λ es. es ++ (c.args.name, c.args.value) ∷ []) c.in_ok-get_mut.ensures.value)
+    ap (put_behind c.args.rest.now) c.in_ok-push.ensures.ok
     ∙ put_at_end c.args.name c.args.rest.now c.args.value c.args.first.now c.requires
 
 pub returns-clause-ok : goal.returns-clause-ok

@@ -1,7 +1,5 @@
-use Rattle.std.proofs.Common.{not, ap, ◌∙◌}
-use Rattle.std.specs.Prelude.{filter}
+use Rattle.std.proofs.Common.{ap, ◌∙◌}
 use Rattle.std.specs.FinMap as fin
-use Rattle.tks_text.specs.Text.{same_text}
 use Rattle.tks_vars.specs.Few.{put_behind}
 use Rattle.tks_vars.proofs.Firsts.{taken_everywhere}
 use Rattle.tks_vars.proofs.frame.take.Goals as goal
@@ -10,5 +8,5 @@ pub returns-clause-ok : goal.returns-clause-ok
 returns-clause-ok c =
     let name = c.args.name.now in
     ap (λ m. put_behind m c.remove-2.new.self) c.in_ok-remove.ensures.ok
-    ∙ ap (put_behind (fin.remove c.args.rest.now name)) (c.remove-2.ensures ∙ ap (filter (λ e. not (same_text e.0 name))) c.in_ok-few.ensures.value)
+    ∙ ap (put_behind (fin.remove c.args.rest.now name)) c.remove-2.ensures
     ∙ taken_everywhere name c.args.rest.now c.args.first.now

@@ -1,34 +1,34 @@
-use Rattle.std.proofs.Common.{◌≡◌, ◌≤◌, ◌∷◌, ◌++◌, [], length, drop, true, Ok, Err, rules, ap, sym, ◌∙◌, arith, None, Some, subst, false, ◌==◌, ◌*◌, ◌+◌, refl, ◌<◌, inr, ◌-◌, suc, cond, option_copied}
+use Rattle.std.proofs.Common.{◌≡◌, ◌≤◌, ◌∷◌, ◌++◌, [], length, drop, true, Ok, Err, rules, ap, sym, ◌∙◌, arith, None, Some, subst, ◌*◌, ◌+◌, false, ◌==◌, refl, ◌<◌, inr, ◌-◌, suc, cond, option_copied}
 use Rattle.std.proofs.Math.ListN.{get_or}
 use Rattle.std.proofs.lemmas.List.{length-drop}
 use Rattle.std.specs.List.{list_all}
 use Rattle.std.specs.Prelude.{option_map}
 use Rattle.tks_expr.specs.Operation.{result_of}
 use Rattle.tks_parse.specs.Reading.{script_of}
-use Rattle.tks_parse.specs.Tree.{parts_size, words_size, no_command, script_size}
+use Rattle.tks_parse.specs.Tree.{parts_size, words_size, no_command, script_size, command}
 use Rattle.tks_parse.specs.View.{parts_of, words_of, words_of_command, first_words, behind}
 use Rattle.tks_parse.specs.declared.tree.Part.TheVariants.{Variable}
 use Rattle.tks_tcl.specs.Cause.{value_or_fault}
 use Rattle.tks_tcl.specs.Plain.{plain}
 use Rattle.tks_text.specs.Limits.{fits}
 use Rattle.tks_vars.specs.Variables.{pushed_global}
-use Rattle.tks_eval.proofs.After.{after_other, given_after}
-use Rattle.tks_eval.proofs.Calling.{weighs_behind, counting_is, halts_valued, valued_from, operand_goes, item_goes, item_halts, control_goes, plan_goes, script_goes, update_at, nothing_goes, taking_stops, thing_goes, two_are, expression_goes, entered_then, procedure_then, procedure_goes}
+use Rattle.tks_eval.proofs.After.{after_other, given_after, after_done}
+use Rattle.tks_eval.proofs.Calling.{weighs_behind, counting_is, halts_valued, valued_from, operand_goes, item_goes, item_halts, control_goes, plan_goes, script_goes, update_at, nothing_goes, taking_stops, thing_goes, two_are, expression_goes, entered_then, procedure_then, procedure_goes, leaves_done, leaves_halt}
 use Rattle.tks_eval.proofs.Coming.{waits_before, weighs_before, comes_at, after_halts, comes_as, comes_from, given_halts, passes, ends_as, valued_halts, fault_halts}
 use Rattle.tks_eval.proofs.Counting.{left_next, left_behind, weighs_more}
 use Rattle.tks_eval.proofs.Filling.{ready_do}
 use Rattle.tks_eval.proofs.Lent.{words_answer}
 use Rattle.tks_eval.proofs.Looping.{loop_begins, value_halts, truth_halts, value_holds, value_ends, value_waits, body_begins, next_begins, none_begins, script_stops, script_ends, script_waits, body_again, branches_begin, goes_on, each_begins, four_of, comes_then, start_begins, ComesTo, itself}
 use Rattle.tks_eval.proofs.Making.{index_next, nested_next, text_then, value_then, index_then, nested_then, parts_made, index_smaller, nested_smaller, text_weighs, word_next, word_then, lent_then, words_then, word_smaller}
-use Rattle.tks_eval.proofs.Scripts.{behind_smaller, failed_is, failed_stops, goes_begins, goes_first, script_goes_on, script_opens}
+use Rattle.tks_eval.proofs.Scripts.{behind_smaller, goes_first, script_goes_on, told_runs, told_falls, script_opens, lone_opens}
 use Rattle.tks_eval.proofs.machine.Machine.+run.Goals.{run_catch-in-len1, run_catch-in-len2+in_ok-try_clone-in-len2, run_test-then-branch, run_test-else-branch}
 use Rattle.tks_eval.specs.Branches.{Test, Branches}
 use Rattle.tks_eval.specs.Counting.{item_done, items_go}
 use Rattle.tks_eval.specs.Evaluation.{made_text, evaluate, control_does, plan_does, call, element_name, with_value, parts_do, behind_body, loop_does, words_in, words_do, scripts_do, thing_does, catch_does, catch_ends, commands_do, result_told, Loop, settled, without_frame, script_does, branches_do}
-use Rattle.tks_eval.specs.Machine.{level_of, done_by, items_weight, control_of, ComesSo, FallsTo, AnswersWords, waits_weight, RunsSo}
-use Rattle.tks_eval.specs.Meets.{halt_of_interrupt, StopsSo, FailsSo, halt_of_failure}
+use Rattle.tks_eval.specs.Machine.{level_of, done_by, items_weight, control_of, ComesSo, FallsTo, AnswersWords, EndsAs, RunsSo}
+use Rattle.tks_eval.specs.Meets.{halt_of_interrupt, StopsSo, halt_of_failure}
 use Rattle.tks_eval.specs.Names.{control_named}
-use Rattle.tks_eval.specs.Outcome.{Comes, End, after, appended, given, after_body, after_next, Takes, caught, Stopped, TooLarge, fails}
+use Rattle.tks_eval.specs.Outcome.{Comes, End, after, appended, given, after_body, after_next, Takes, caught, Stopped, TooLarge}
 use Rattle.tks_eval.specs.declared.halt.Halt.{Halt}
 use Rattle.std.specs.FinMap as map
 use Rattle.tks_eval.specs.declared.frame.Came.TheVariants as came
@@ -96,7 +96,7 @@ pub count-returns-in_err-end-clause-comes : goal.count-returns-in_err-end-clause
 count-returns-in_err-end-clause-comes g t c =
     let host = g.H.Host.meaning in
     let old = c.args.self.now in
-    let new = c.make_operand.new.self in
+    let new = c.make_parts.new.self in
     let state = g.H.Host.state c.item.host in
     let values = c.item.values in
     let more = c.in-Some.more.now in
@@ -104,18 +104,18 @@ count-returns-in_err-end-clause-comes g t c =
     let why = c.in_err-end.field-0.0 in
     let here : c.item.rest.now ≡ item.Make parts ∷ more = search rules in
     let goes = c.item.invariant.goes ∙ ap (λ items. done_by (items_go old.limits (level_of host old) items values) state c.item.self) here in
-    let comes = comes_at host new (g.H.Host.state c.make_operand.new.host) true c.item.self.limits old.limits c.item.self.left old.left
+    let comes = comes_at host new (g.H.Host.state c.make_parts.new.host) true c.item.self.limits old.limits c.item.self.left old.left
     (λ limits left. done_by (made_text limits (evaluate host limits left) parts) state c.item.self) (Err why) c.item.invariant.limits c.item.invariant.left c.in_err-end.ensures.comes in
-    let halts = after_halts host old.limits old.left new (g.H.Host.state c.make_operand.new.host) (c.in_err-end.ensures.same_limits ∙ c.item.invariant.limits) true true _
+    let halts = after_halts host old.limits old.left new (g.H.Host.state c.make_parts.new.host) (c.in_err-end.ensures.same_limits ∙ c.item.invariant.limits) true true _
     (λ text. items_go old.limits (level_of host old) more (text ∷ values)) why comes in
-    let all = valued_from host old.left new (g.H.Host.state c.make_operand.new.host) _ _ (Err why) goes (halts_valued host old.left new (g.H.Host.state c.make_operand.new.host) true _ why halts) in
+    let all = valued_from host old.left new (g.H.Host.state c.make_parts.new.host) _ _ (Err why) goes (halts_valued host old.left new (g.H.Host.state c.make_parts.new.host) true _ why halts) in
     search rules
 
 pub count-item-preserved : goal.count-item-preserved
 count-item-preserved g t c =
     let host = g.H.Host.meaning in
     let old = c.args.self.now in
-    let new = c.make_operand.new.self in
+    let new = c.make_parts.new.self in
     let state = g.H.Host.state c.item.host in
     let all = c.args.items.now in
     let rest = c.item.rest.now in
@@ -138,7 +138,7 @@ count-item-preserved g t c =
       rest = left_next all rest more (item.Make parts) here c.item.invariant.rest within;
       within = omega (arith, within, ap length here);
       goes = c.item.invariant.goes ∙ ap (λ items. done_by (items_go old.limits (level_of host old) items values) state c.item.self) here
-          ∙ operand_goes old.limits (level_of host old) c.item.self new state (g.H.Host.state c.make_operand.new.host) parts more values end.code end.text well comes.0;
+          ∙ operand_goes old.limits (level_of host old) c.item.self new state (g.H.Host.state c.make_parts.new.host) parts more values end.code end.text well comes.0;
     })
 
 pub count-returns-in-Waits-clause-falls : goal.count-returns-in-Waits-clause-falls
@@ -161,7 +161,7 @@ pub count-returns-in-Waits-clause-comes : goal.count-returns-in-Waits-clause-com
 count-returns-in-Waits-clause-comes g t c =
     let host = g.H.Host.meaning in
     let old = c.args.self.now in
-    let new = c.make_operand.new.self in
+    let new = c.make_parts.new.self in
     let state = g.H.Host.state c.item.host in
     let all = c.args.items.now in
     let rest = c.item.rest.now in
@@ -176,7 +176,7 @@ count-returns-in-Waits-clause-comes g t c =
     let before = c.in_ok-before-in-Waits.field-0.value in
     let counting = counting_is c.in_ok-share-in-Waits.field-0 all more c.in_ok-into_below-in-Waits.field-0.items values c.in_ok-share-in-Waits.ensures left c.in_ok-into_below-in-Waits.ensures in
     let told : before.frames.items ≡ w.frames.items ++ frame.Value (more, values) ∷ [] = c.in_ok-before-in-Waits.ensures.1 ∙ ap (λ f. w.frames.items ++ f ∷ []) counting in
-    let waits = waits_before host old.limits old.left new (g.H.Host.state c.make_operand.new.host) (c.in_ok-end.ensures.same_limits ∙ c.item.invariant.limits) (done_by (made_text old.limits (level_of host old) parts) state c.item.self)
+    let waits = waits_before host old.limits old.left new (g.H.Host.state c.make_parts.new.host) (c.in_ok-end.ensures.same_limits ∙ c.item.invariant.limits) (done_by (made_text old.limits (level_of host old) parts) state c.item.self)
     before.opens w.opens w.frames.items before.frames.items (frame.Value (more, values)) c.in_ok-before-in-Waits.ensures.0 told comes in
     (goes ∙ waits.0, waits.1)
 
@@ -250,6 +250,32 @@ do_thing-returns-in_ok-before-in-Waits-clause-comes g t c =
     waits_before host old.limits old.left c.run_plan.new.self (g.H.Host.state c.run_plan.new.host) c.in_ok-end.ensures.same_limits
     (done_by (plan_does host old.limits (level_of host old) c.args.plan) (g.H.Host.state c.args.host.now) old)
     more.opens w.opens w.frames.items more.frames.items frame.Thing c.in_ok-before-in-Waits.ensures.0 c.in_ok-before-in-Waits.ensures.1 comes
+
+pub make_parts-returns-in_ok-before-in-Waits-clause-falls : goal.make_parts-returns-in_ok-before-in-Waits-clause-falls
+make_parts-returns-in_ok-before-in-Waits-clause-falls g t c =
+    let waits = c.in-Waits.waiting.value in
+    let more = c.in_ok-before-in-Waits.field-0.value in
+    let fell = rw c.in-Waits.is at c.in_ok-waiting.ensures.falls in
+    let told = rw (c.new-made.ensures, c.in_ok-parts-in-Waits.ensures) at c.in_ok-before-in-Waits.ensures.1 in
+    let weighs = weighs_before more.opens waits.opens waits.frames.items more.frames.items (frame.Nested [] []) c.in_ok-before-in-Waits.ensures.0 told in
+    let whole = ap parts_size c.in-Some.ensures in
+    (fell.0, λ same. let weight = fell.1 same in omega (arith, weight, weighs, whole))
+
+pub make_parts-returns-in_ok-before-in-Waits-clause-comes : goal.make_parts-returns-in_ok-before-in-Waits-clause-comes
+make_parts-returns-in_ok-before-in-Waits-clause-comes g t c =
+    let host = g.H.Host.meaning in
+    let old = c.args.self.now in
+    let state = g.H.Host.state c.args.host.now in
+    let level = evaluate host old.limits old.left in
+    let result = c.in_ok-waiting.ensures in
+    let waits = c.in-Waits.waiting.value in
+    let more = c.in_ok-before-in-Waits.field-0.value in
+    let came = rw c.in-Waits.is at result.comes in
+    let told = rw (c.new-made.ensures, c.in_ok-parts-in-Waits.ensures) at c.in_ok-before-in-Waits.ensures.1 in
+    let before = waits_before host old.limits old.left c.run_script.new.self (g.H.Host.state c.run_script.new.host) result.same_limits
+    (level c.in-Some.script.now state old.variables old.fuel) more.opens waits.opens waits.frames.items more.frames.items (frame.Nested [] [])
+    c.in_ok-before-in-Waits.ensures.0 told came in
+    (ap (λ parts. done_by (made_text old.limits level parts) state old) c.in-Some.ensures ∙ before.0, before.1)
 
 pub make_text-returns-in_err-grow-in-Text-clause-comes : goal.make_text-returns-in_err-grow-in-Text-clause-comes
 make_text-returns-in_err-grow-in-Text-clause-comes g t c =
@@ -896,7 +922,7 @@ make_words-word-preserved-in-Some-lent g t c =
     let size = inv.size in
     let text = c.in-Some-lent.text.now in
     let lent = rw inv.limits at c.in-Some-lent.ensures in
-    let pushed : c.push.new.self ≡ c.word.words ++ text ∷ [] = c.in_ok-push.ensures.ok ∙ ap (λ t. c.word.words ++ t ∷ []) c.in_ok-try_clone.ensures in
+    let pushed : c.push.new.self ≡ c.word.words ++ text ∷ [] = c.in_ok-push.ensures ∙ ap (λ t. c.word.words ++ t ∷ []) c.in_ok-try_clone.ensures in
     rw (c.skip.ensures, pushed) (record {
       place = inv.place;
       limits = inv.limits;
@@ -916,8 +942,8 @@ make_words-returns-in_err-came-clause-comes g t c =
     let level = evaluate host old.limits old.left in
     let word = c.in-Some.word.now in
     let behind = words_of (drop 1 c.word.rest) in
-    let m = c.make_text.new.self in
-    let new = g.H.Host.state c.make_text.new.host in
+    let m = c.make_parts.new.self in
+    let new = g.H.Host.state c.make_parts.new.host in
     let why = c.in_err-came.field-0.0 in
     let within = c.in_err-came.ensures.same_limits ∙ inv.limits in
     let told : ComesSo host true at.left (parts_do at.limits (evaluate host at.limits at.left) word.parts [] state at.variables at.fuel) (Err why) m new = search rules in
@@ -933,7 +959,7 @@ make_words-returns-in-Waits-clause-falls g t c =
     let word = c.in-Some.word.now in
     let waits = c.in-Waits.waiting.value in
     let more = c.in_ok-before-in-Waits.field-0.value in
-    let fell = rw (c.in-Waits.is, c.in_ok-parts.ensures) at c.in_ok-came.ensures.falls in
+    let fell = rw c.in-Waits.is at c.in_ok-came.ensures.falls in
     let weighs = weighs_before more.opens waits.opens waits.frames.items more.frames.items (frame.Command c.word.words word.expand c.skip-in-Some.new.self)
     c.in_ok-before-in-Waits.ensures.0 c.in_ok-before-in-Waits.ensures.1 in
     let smaller = word_smaller c.word.rest word c.in-Some.ensures in
@@ -953,15 +979,15 @@ make_words-returns-in-Waits-clause-comes g t c =
     let level = evaluate host old.limits old.left in
     let word = c.in-Some.word.now in
     let behind = words_of (drop 1 c.word.rest) in
-    let m = c.make_text.new.self in
-    let new = g.H.Host.state c.make_text.new.host in
+    let m = c.make_parts.new.self in
+    let new = g.H.Host.state c.make_parts.new.host in
     let came = c.in_ok-came.ensures in
     let within = came.same_limits ∙ inv.limits in
     let text = parts_do old.limits level word.parts [] state at.variables at.fuel in
     let goes = inv.goes ∙ word_then old.limits level state at.variables at.fuel host c.word.rest word c.word.words c.in-Some.ensures in
     let waits = c.in-Waits.waiting.value in
     let more = c.in_ok-before-in-Waits.field-0.value in
-    let told = rw (c.in-Waits.is, c.in_ok-parts.ensures, c.new.ensures, inv.limits, inv.left) at came.comes in
+    let told = rw (c.in-Waits.is, inv.limits, inv.left) at came.comes in
     let before = waits_before host old.limits old.left m new within text more.opens waits.opens waits.frames.items more.frames.items
     (frame.Command c.word.words word.expand c.skip-in-Some.new.self) c.in_ok-before-in-Waits.ensures.0 c.in_ok-before-in-Waits.ensures.1 told in
     let here = rw (← c.skip-in-Some.ensures) at goes in
@@ -977,14 +1003,14 @@ make_words-returns-then-end-ne0-clause-comes g t c =
     let level = evaluate host old.limits old.left in
     let word = c.in-Some.word.now in
     let behind = words_of (drop 1 c.word.rest) in
-    let m = c.make_text.new.self in
-    let new = g.H.Host.state c.make_text.new.host in
+    let m = c.make_parts.new.self in
+    let new = g.H.Host.state c.make_parts.new.host in
     let came = c.in_ok-came.ensures in
     let within = came.same_limits ∙ inv.limits in
     let text = parts_do old.limits level word.parts [] state at.variables at.fuel in
     let goes = inv.goes ∙ word_then old.limits level state at.variables at.fuel host c.word.rest word c.word.words c.in-Some.ensures in
     let end = c.in-Ended.end in
-    let told = rw (c.in-Ended.is, c.in_ok-parts.ensures, c.new.ensures, inv.limits, inv.left) at came.comes in
+    let told = rw (c.in-Ended.is, inv.limits, inv.left) at came.comes in
     let other : (end.code == 0) ≡ false = search rules in
     let next = word_next old.limits level host word.expand behind c.word.words in
     (ends_as c.args.asked _ end new m.variables m.fuel (goes ∙ ap (λ o. after o next) told.0 ∙ after_other end.code end.text new m.variables m.fuel next other), told.1)
@@ -999,14 +1025,14 @@ make_words-word-preserved g t c =
     let level = evaluate host old.limits old.left in
     let word = c.in-Some.word.now in
     let behind = words_of (drop 1 c.word.rest) in
-    let m = c.make_text.new.self in
-    let new = g.H.Host.state c.make_text.new.host in
+    let m = c.make_parts.new.self in
+    let new = g.H.Host.state c.make_parts.new.host in
     let came = c.in_ok-came.ensures in
     let within = came.same_limits ∙ inv.limits in
     let text = parts_do old.limits level word.parts [] state at.variables at.fuel in
     let goes = inv.goes ∙ word_then old.limits level state at.variables at.fuel host c.word.rest word c.word.words c.in-Some.ensures in
     let end = c.in-Ended.end in
-    let told = rw (c.in-Ended.is, c.in_ok-parts.ensures, c.new.ensures, inv.limits, inv.left) at came.comes in
+    let told = rw (c.in-Ended.is, inv.limits, inv.left) at came.comes in
     let zero : end.code ≡ 0 = search rules in
     let next = word_next old.limits level host word.expand behind c.word.words in
     let fell = rw c.in-Ended.is at came.falls in
@@ -1034,14 +1060,14 @@ make_words-returns-in_err-add_words-in-Ended-clause-comes g t c =
     let level = evaluate host old.limits old.left in
     let word = c.in-Some.word.now in
     let behind = words_of (drop 1 c.word.rest) in
-    let m = c.make_text.new.self in
-    let new = g.H.Host.state c.make_text.new.host in
+    let m = c.make_parts.new.self in
+    let new = g.H.Host.state c.make_parts.new.host in
     let came = c.in_ok-came.ensures in
     let within = came.same_limits ∙ inv.limits in
     let text = parts_do old.limits level word.parts [] state at.variables at.fuel in
     let goes = inv.goes ∙ word_then old.limits level state at.variables at.fuel host c.word.rest word c.word.words c.in-Some.ensures in
     let end = c.in-Ended.end in
-    let told = rw (c.in-Ended.is, c.in_ok-parts.ensures, c.new.ensures, inv.limits, inv.left) at came.comes in
+    let told = rw (c.in-Ended.is, inv.limits, inv.left) at came.comes in
     let zero : end.code ≡ 0 = search rules in
     let next = word_next old.limits level host word.expand behind c.word.words in
     let why = c.in_err-add_words-in-Ended.field-0.0 in
@@ -1060,12 +1086,12 @@ make_words-returns-clause-comes g t c =
     let inv = c.word.invariant in
     let state = g.H.Host.state c.word.host in
     let level = evaluate host old.limits old.left in
-    let m = c.do_command.new.self in
-    let new = g.H.Host.state c.do_command.new.host in
-    let told = rw c.as_slice.ensures.value at c.do_command.ensures.comes in
-    let came = comes_at host m new c.args.asked at.limits old.limits at.left old.left (λ l k. call host l (evaluate host l k) c.word.words state at.variables at.fuel) c.do_command.result inv.limits inv.left told in
+    let m = c.do_command-came.new.self in
+    let new = g.H.Host.state c.do_command-came.new.host in
+    let told = rw c.as_slice.ensures at c.do_command-came.ensures.comes in
+    let came = comes_at host m new c.args.asked at.limits old.limits at.left old.left (λ l k. call host l (evaluate host l k) c.word.words state at.variables at.fuel) c.do_command-came.result inv.limits inv.left told in
     let goes = inv.goes ∙ words_then old.limits level state at.variables at.fuel host c.word.rest c.word.words c.in_default.ensures in
-    comes_from host old.limits old.left m new (c.do_command.ensures.same_limits ∙ inv.limits) c.args.asked _ _ c.do_command.result goes came
+    comes_from host old.limits old.left m new (c.do_command-came.ensures.same_limits ∙ inv.limits) c.args.asked _ _ c.do_command-came.result goes came
 
 pub next_branches-returns-in_err-value-clause-comes : goal.next_branches-returns-in_err-value-clause-comes
 next_branches-returns-in_err-value-clause-comes g t c =
@@ -1391,157 +1417,6 @@ run_command-returns-else-not-all_fit-clause-comes g t c =
     ∙ ap (λ b. cond b (call host old.limits level texts state old.variables old.fuel) (Stopped TooLarge)) all in
     subst (λ o. ComesSo host c.args.asked old.left o c.do_command.result m new) (sym same) told
 
-pub run_commands-command-preserved-in-Ok-Ended : goal.run_commands-command-preserved-in-Ok-Ended
-run_commands-command-preserved-in-Ok-Ended g t c =
-    let host = g.H.Host.meaning in
-    let old = c.args.self.now in
-    let at = c.command.self in
-    let inv = c.command.invariant in
-    let state = g.H.Host.state c.command.host in
-    let level = evaluate host old.limits old.left in
-    let rest = c.command.rest in
-    let words = words_of_command c.in-Some.command.now in
-    let first : first_words rest ≡ Some words = sym c.first.ensures ∙ ap (option_map (λ k. words_of_command k.now)) c.in-Some.is in
-    let none : c.command.end.code ≡ 0 = search rules in
-    let whole = after (End c.args.end.code c.args.end.text (g.H.Host.state c.args.host.now) old.variables old.fuel) (commands_do host old.limits level c.args.rest) in
-    let does = words_do host old.limits level words [] state at.variables at.fuel in
-    let then = goes_first host old.limits level c.args.asked whole c.command.end state at.variables at.fuel rest words first none inv.goes in
-    let m = c.run_command-came.new.self in
-    let new = g.H.Host.state c.run_command-came.new.host in
-    let given = c.if-asked.asked in
-    let next = c.in-Ok-Ended.next in
-    let within = c.in-Ok-Ended.ensures.same_limits ∙ inv.limits in
-    let told : ComesSo host given at.left (words_do host at.limits (evaluate host at.limits at.left) words [] state at.variables at.fuel) (Ok (came.Ended next)) m new = search rules in
-    let came = comes_at host m new given at.limits old.limits at.left old.left (λ l k. words_do host l (evaluate host l k) words [] state at.variables at.fuel) (Ok (came.Ended next)) inv.limits inv.left told in
-    let more : c.args.asked ≡ true → given ≡ false → behind rest ≡ no_command → ⊥ = search rules in
-    let fell : m.fuel ≤ at.fuel = search rules in
-    let smaller = behind_smaller rest words first in
-    let size = inv.size in
-    let spends = inv.spends in
-    rw c.skip.ensures (record {
-      place = c.in-Ok-Ended.ensures.same_place ∙ inv.place;
-      limits = within;
-      left = came.1;
-      spends = omega (arith, fell, spends);
-      size = omega (arith, smaller, size);
-      goes = script_goes_on host old.limits level c.args.asked whole next new m.variables m.fuel given does (behind rest) more then came.0;
-    })
-
-pub run_commands-returns-in-Ok-Waits-clause-falls : goal.run_commands-returns-in-Ok-Waits-clause-falls
-run_commands-returns-in-Ok-Waits-clause-falls g t c =
-    let inv = c.command.invariant in
-    let rest = c.command.rest in
-    let words = words_of_command c.in-Some.command.now in
-    let first : first_words rest ≡ Some words = sym c.first.ensures ∙ ap (option_map (λ k. words_of_command k.now)) c.in-Some.is in
-    let waits = c.in-Ok-Waits.waiting.value in
-    let more = c.in_ok-before-in-Ok-Waits.field-0.value in
-    let told : (c.run_command-came.new.self.fuel ≤ c.command.self.fuel) × (c.run_command-came.new.self.fuel ≡ c.command.self.fuel → waits_weight waits ≤ 4 * words_size words) = search rules in
-    let weighs = weighs_before more.opens waits.opens waits.frames.items more.frames.items (frame.Commands c.skip.new.self c.args.levels)
-    c.in_ok-before-in-Ok-Waits.ensures.0 c.in_ok-before-in-Ok-Waits.ensures.1 in
-    let smaller = behind_smaller rest words first in
-    let left = ap script_size c.skip.ensures in
-    let size = inv.size in
-    let spends = inv.spends in
-    let spent = told.0 in
-    (omega (arith, spent, spends), λ same. let weight = told.1 (omega (arith, spent, spends, same)) in omega (arith, weight, weighs, smaller, left, size))
-
-pub run_commands-returns-in-Ok-Waits-clause-comes : goal.run_commands-returns-in-Ok-Waits-clause-comes
-run_commands-returns-in-Ok-Waits-clause-comes g t c =
-    let host = g.H.Host.meaning in
-    let old = c.args.self.now in
-    let at = c.command.self in
-    let inv = c.command.invariant in
-    let state = g.H.Host.state c.command.host in
-    let level = evaluate host old.limits old.left in
-    let rest = c.command.rest in
-    let words = words_of_command c.in-Some.command.now in
-    let first : first_words rest ≡ Some words = sym c.first.ensures ∙ ap (option_map (λ k. words_of_command k.now)) c.in-Some.is in
-    let none : c.command.end.code ≡ 0 = search rules in
-    let whole = after (End c.args.end.code c.args.end.text (g.H.Host.state c.args.host.now) old.variables old.fuel) (commands_do host old.limits level c.args.rest) in
-    let does = words_do host old.limits level words [] state at.variables at.fuel in
-    let then = goes_first host old.limits level c.args.asked whole c.command.end state at.variables at.fuel rest words first none inv.goes in
-    let m = c.run_command-came.new.self in
-    let new = g.H.Host.state c.run_command-came.new.host in
-    let given = c.if-asked.asked in
-    let within = c.in-Ok-Waits.ensures.same_limits ∙ inv.limits in
-    let waiting = c.in-Ok-Waits.waiting in
-    let more = c.in_ok-before-in-Ok-Waits.field-0.value in
-    let told : ComesSo host given at.left (words_do host at.limits (evaluate host at.limits at.left) words [] state at.variables at.fuel) (Ok (came.Waits waiting)) m new = search rules in
-    let came = comes_at host m new given at.limits old.limits at.left old.left (λ l k. words_do host l (evaluate host l k) words [] state at.variables at.fuel) (Ok (came.Waits waiting)) inv.limits inv.left told in
-    let before = waits_before host old.limits old.left m new within does more.opens waiting.value.opens waiting.value.frames.items more.frames.items
-    (frame.Commands c.skip.new.self c.args.levels) c.in_ok-before-in-Ok-Waits.ensures.0 c.in_ok-before-in-Ok-Waits.ensures.1 came in
-    let here = rw (← c.skip.ensures) at then in
-    (here ∙ before.0, before.1)
-
-pub run_commands-returns-in_err-end-in-Err-Fault-clause-comes :
-    goal.run_commands-returns-in_err-end-in-Err-Fault-clause-comes
-run_commands-returns-in_err-end-in-Err-Fault-clause-comes g t c =
-    let host = g.H.Host.meaning in
-    let old = c.args.self.now in
-    let at = c.command.self in
-    let inv = c.command.invariant in
-    let state = g.H.Host.state c.command.host in
-    let level = evaluate host old.limits old.left in
-    let rest = c.command.rest in
-    let words = words_of_command c.in-Some.command.now in
-    let first : first_words rest ≡ Some words = sym c.first.ensures ∙ ap (option_map (λ k. words_of_command k.now)) c.in-Some.is in
-    let none : c.command.end.code ≡ 0 = search rules in
-    let whole = after (End c.args.end.code c.args.end.text (g.H.Host.state c.args.host.now) old.variables old.fuel) (commands_do host old.limits level c.args.rest) in
-    let does = words_do host old.limits level words [] state at.variables at.fuel in
-    let then = goes_first host old.limits level c.args.asked whole c.command.end state at.variables at.fuel rest words first none inv.goes in
-    let m = c.run_command-came.new.self in
-    let new = g.H.Host.state c.run_command-came.new.host in
-    let given = c.if-asked.asked in
-    let within = c.in-Err-Fault.ensures.same_limits ∙ inv.limits in
-    let fault = c.in-Err-Fault.fault in
-    let told : ComesSo host given at.left (words_do host at.limits (evaluate host at.limits at.left) words [] state at.variables at.fuel) (Err (halt.Fault fault)) m new = search rules in
-    let came = comes_at host m new given at.limits old.limits at.left old.left (λ l k. words_do host l (evaluate host l k) words [] state at.variables at.fuel) (Err (halt.Fault fault)) inv.limits inv.left told in
-    let does_fail : does ≡ fails old.limits fault new m.variables m.fuel = came.0 ∙ ap (λ k. fails k fault new m.variables m.fuel) within in
-    let why = c.in_err-end-in-Err-Fault.field-0.0 in
-    let failed = failed_stops old.limits new m.variables m.fuel fault why (subst (λ l. FailsSo l fault (Err why)) within c.in_err-end-in-Err-Fault.ensures) in
-    let stops = passes (λ o. after o (commands_do host old.limits level (behind rest))) (λ why. refl) does why (subst (λ o. StopsSo o why) (sym does_fail) failed) in
-    let all : StopsSo whole why = subst (λ o. StopsSo o why) (sym then) stops in
-    search rules
-
-pub run_commands-command-preserved-in_ok-end-in-Err-Fault : goal.run_commands-command-preserved-in_ok-end-in-Err-Fault
-run_commands-command-preserved-in_ok-end-in-Err-Fault g t c =
-    let host = g.H.Host.meaning in
-    let old = c.args.self.now in
-    let at = c.command.self in
-    let inv = c.command.invariant in
-    let state = g.H.Host.state c.command.host in
-    let level = evaluate host old.limits old.left in
-    let rest = c.command.rest in
-    let words = words_of_command c.in-Some.command.now in
-    let first : first_words rest ≡ Some words = sym c.first.ensures ∙ ap (option_map (λ k. words_of_command k.now)) c.in-Some.is in
-    let none : c.command.end.code ≡ 0 = search rules in
-    let whole = after (End c.args.end.code c.args.end.text (g.H.Host.state c.args.host.now) old.variables old.fuel) (commands_do host old.limits level c.args.rest) in
-    let does = words_do host old.limits level words [] state at.variables at.fuel in
-    let then = goes_first host old.limits level c.args.asked whole c.command.end state at.variables at.fuel rest words first none inv.goes in
-    let m = c.run_command-came.new.self in
-    let new = g.H.Host.state c.run_command-came.new.host in
-    let given = c.if-asked.asked in
-    let within = c.in-Err-Fault.ensures.same_limits ∙ inv.limits in
-    let fault = c.in-Err-Fault.fault in
-    let told : ComesSo host given at.left (words_do host at.limits (evaluate host at.limits at.left) words [] state at.variables at.fuel) (Err (halt.Fault fault)) m new = search rules in
-    let came = comes_at host m new given at.limits old.limits at.left old.left (λ l k. words_do host l (evaluate host l k) words [] state at.variables at.fuel) (Err (halt.Fault fault)) inv.limits inv.left told in
-    let does_fail : does ≡ fails old.limits fault new m.variables m.fuel = came.0 ∙ ap (λ k. fails k fault new m.variables m.fuel) within in
-    let end = c.in_ok-end-in-Err-Fault.end in
-    let failed = rw within at c.in_ok-end-in-Err-Fault.ensures in
-    let is = does_fail ∙ failed_is old.limits new m.variables m.fuel fault end failed in
-    let fell = c.in-Err-Fault.ensures.falls in
-    let smaller = behind_smaller rest words first in
-    let size = inv.size in
-    let spends = inv.spends in
-    rw c.skip.ensures (record {
-      place = c.in-Err-Fault.ensures.same_place ∙ inv.place;
-      limits = within;
-      left = came.1;
-      spends = omega (arith, fell, spends);
-      size = omega (arith, smaller, size);
-      goes = goes_begins host old.limits level c.args.asked whole end new m.variables m.fuel (behind rest) (then ∙ ap (λ o. after o (commands_do host old.limits level (behind rest))) is);
-    })
-
 pub run_commands-command-preserved : goal.run_commands-command-preserved
 run_commands-command-preserved g t c =
     let host = g.H.Host.meaning in
@@ -1560,29 +1435,26 @@ run_commands-command-preserved g t c =
     let m = c.run_command-came.new.self in
     let new = g.H.Host.state c.run_command-came.new.host in
     let given = c.if-asked.asked in
-    let within = c.in-Err-Fault.ensures.same_limits ∙ inv.limits in
-    let fault = c.in-Err-Fault.fault in
-    let told : ComesSo host given at.left (words_do host at.limits (evaluate host at.limits at.left) words [] state at.variables at.fuel) (Err (halt.Fault fault)) m new = search rules in
-    let came = comes_at host m new given at.limits old.limits at.left old.left (λ l k. words_do host l (evaluate host l k) words [] state at.variables at.fuel) (Err (halt.Fault fault)) inv.limits inv.left told in
-    let does_fail : does ≡ fails old.limits fault new m.variables m.fuel = came.0 ∙ ap (λ k. fails k fault new m.variables m.fuel) within in
-    let end = c.in_ok-end-in-Err-Fault.end in
-    let failed = rw within at c.in_ok-end-in-Err-Fault.ensures in
-    let is = does_fail ∙ failed_is old.limits new m.variables m.fuel fault end failed in
-    let fell = c.in-Err-Fault.ensures.falls in
+    let comes = comes_at host m new given at.limits old.limits at.left old.left (λ l k. words_do host l (evaluate host l k) words [] state at.variables at.fuel) c.run_command-came.result inv.limits inv.left c.run_command-came.ensures.comes in
+    let next = c.in-Ended.next in
+    let told = rw c.in-Ended.is at c.in_ok-next.ensures in
+    let ends = told_runs host given old.left does m new c.run_command-came.result (Ok (came.Ended next)) told comes in
+    let fell = told_falls m.limits c.run_command-came.result (Ok (came.Ended next)) (4 * words_size words) at.fuel m.fuel told c.run_command-came.ensures.falls in
+    let more : c.args.asked ≡ true → given ≡ false → behind rest ≡ no_command → ⊥ = search rules in
     let smaller = behind_smaller rest words first in
     let size = inv.size in
     let spends = inv.spends in
     rw c.skip.ensures (record {
-      place = c.in-Err-Fault.ensures.same_place ∙ inv.place;
-      limits = within;
-      left = came.1;
+      place = c.run_command-came.ensures.same_place ∙ inv.place;
+      limits = c.run_command-came.ensures.same_limits ∙ inv.limits;
+      left = ends.1;
       spends = omega (arith, fell, spends);
       size = omega (arith, smaller, size);
-      goes = goes_begins host old.limits level c.args.asked whole end new m.variables m.fuel (behind rest) (then ∙ ap (λ o. after o (commands_do host old.limits level (behind rest))) is);
+      goes = script_goes_on host old.limits level c.args.asked whole next new m.variables m.fuel given does (behind rest) more then ends.0;
     })
 
-pub run_commands-returns-in-Err-Stop-clause-comes : goal.run_commands-returns-in-Err-Stop-clause-comes
-run_commands-returns-in-Err-Stop-clause-comes g t c =
+pub run_commands-returns-in_err-next-clause-comes : goal.run_commands-returns-in_err-next-clause-comes
+run_commands-returns-in_err-next-clause-comes g t c =
     let host = g.H.Host.meaning in
     let old = c.args.self.now in
     let at = c.command.self in
@@ -1599,10 +1471,60 @@ run_commands-returns-in-Err-Stop-clause-comes g t c =
     let m = c.run_command-came.new.self in
     let new = g.H.Host.state c.run_command-came.new.host in
     let given = c.if-asked.asked in
-    let why = c.in-Err-Stop.why in
-    let told : ComesSo host given at.left (words_do host at.limits (evaluate host at.limits at.left) words [] state at.variables at.fuel) (Err (halt.Stop why)) m new = search rules in
-    let came = comes_at host m new given at.limits old.limits at.left old.left (λ l k. words_do host l (evaluate host l k) words [] state at.variables at.fuel) (Err (halt.Stop why)) inv.limits inv.left told in
-    subst (λ o. StopsSo o why) (sym then) (passes (λ o. after o (commands_do host old.limits level (behind rest))) (λ why. refl) does why came)
+    let comes = comes_at host m new given at.limits old.limits at.left old.left (λ l k. words_do host l (evaluate host l k) words [] state at.variables at.fuel) c.run_command-came.result inv.limits inv.left c.run_command-came.ensures.comes in
+    let why = c.in_err-next.field-0.0 in
+    let stops = told_runs host given old.left does m new c.run_command-came.result (Err why) c.in_err-next.ensures comes in
+    let all : StopsSo whole why = subst (λ o. StopsSo o why) (sym then) (passes (λ o. after o (commands_do host old.limits level (behind rest))) (λ why. refl) does why stops) in
+    search rules
+
+pub run_commands-returns-in-Waits-clause-falls : goal.run_commands-returns-in-Waits-clause-falls
+run_commands-returns-in-Waits-clause-falls g t c =
+    let inv = c.command.invariant in
+    let at = c.command.self in
+    let rest = c.command.rest in
+    let words = words_of_command c.in-Some.command.now in
+    let first : first_words rest ≡ Some words = sym c.first.ensures ∙ ap (option_map (λ k. words_of_command k.now)) c.in-Some.is in
+    let m = c.run_command-came.new.self in
+    let waits = c.in-Waits.waiting.value in
+    let more = c.in_ok-before-in-Waits.field-0.value in
+    let told = rw c.in-Waits.is at c.in_ok-next.ensures in
+    let fell = told_falls m.limits c.run_command-came.result (Ok (came.Waits c.in-Waits.waiting)) (4 * words_size words) at.fuel m.fuel told c.run_command-came.ensures.falls in
+    let weighs = weighs_before more.opens waits.opens waits.frames.items more.frames.items (frame.Commands c.skip.new.self c.args.levels)
+    c.in_ok-before-in-Waits.ensures.0 c.in_ok-before-in-Waits.ensures.1 in
+    let smaller = behind_smaller rest words first in
+    let left = ap script_size c.skip.ensures in
+    let size = inv.size in
+    let spends = inv.spends in
+    let spent = fell.0 in
+    (omega (arith, spent, spends), λ same. let weight = fell.1 (omega (arith, spent, spends, same)) in omega (arith, weight, weighs, smaller, left, size))
+
+pub run_commands-returns-in-Waits-clause-comes : goal.run_commands-returns-in-Waits-clause-comes
+run_commands-returns-in-Waits-clause-comes g t c =
+    let host = g.H.Host.meaning in
+    let old = c.args.self.now in
+    let at = c.command.self in
+    let inv = c.command.invariant in
+    let state = g.H.Host.state c.command.host in
+    let level = evaluate host old.limits old.left in
+    let rest = c.command.rest in
+    let words = words_of_command c.in-Some.command.now in
+    let first : first_words rest ≡ Some words = sym c.first.ensures ∙ ap (option_map (λ k. words_of_command k.now)) c.in-Some.is in
+    let none : c.command.end.code ≡ 0 = search rules in
+    let whole = after (End c.args.end.code c.args.end.text (g.H.Host.state c.args.host.now) old.variables old.fuel) (commands_do host old.limits level c.args.rest) in
+    let does = words_do host old.limits level words [] state at.variables at.fuel in
+    let then = goes_first host old.limits level c.args.asked whole c.command.end state at.variables at.fuel rest words first none inv.goes in
+    let m = c.run_command-came.new.self in
+    let new = g.H.Host.state c.run_command-came.new.host in
+    let given = c.if-asked.asked in
+    let comes = comes_at host m new given at.limits old.limits at.left old.left (λ l k. words_do host l (evaluate host l k) words [] state at.variables at.fuel) c.run_command-came.result inv.limits inv.left c.run_command-came.ensures.comes in
+    let waiting = c.in-Waits.waiting in
+    let more = c.in_ok-before-in-Waits.field-0.value in
+    let told = rw c.in-Waits.is at c.in_ok-next.ensures in
+    let waits = told_runs host given old.left does m new c.run_command-came.result (Ok (came.Waits waiting)) told comes in
+    let before = waits_before host old.limits old.left m new (c.run_command-came.ensures.same_limits ∙ inv.limits) does more.opens waiting.value.opens waiting.value.frames.items more.frames.items
+    (frame.Commands c.skip.new.self c.args.levels) c.in_ok-before-in-Waits.ensures.0 c.in_ok-before-in-Waits.ensures.1 waits in
+    let here = rw (← c.skip.ensures) at then in
+    (here ∙ before.0, before.1)
 
 pub run_expression-returns-in_err-value-clause-comes : goal.run_expression-returns-in_err-value-clause-comes
 run_expression-returns-in_err-value-clause-comes g t c =
@@ -1800,8 +1722,8 @@ run_procedure-returns-clause-comes g t c =
     more.opens w.opens w.frames.items more.frames.items frame.Procedure c.in_ok-before-in-Waits.ensures.0 c.in_ok-before-in-Waits.ensures.1 comes in
     (told ∙ waits.0, waits.1)
 
-pub run_script-returns-clause-comes : goal.run_script-returns-clause-comes
-run_script-returns-clause-comes g t c =
+pub run_script-returns-in_default-clause-comes : goal.run_script-returns-in_default-clause-comes
+run_script-returns-in_default-clause-comes g t c =
     let host = g.H.Host.meaning in
     let old = c.args.self.now in
     let state = g.H.Host.state c.args.host.now in
@@ -1811,6 +1733,105 @@ run_script-returns-clause-comes g t c =
     let some : 0 < old.left = search rules in
     let told : RunsSo host c.args.asked old.left (after (End 0 [] state old.variables old.fuel) (commands_do host old.limits (evaluate host old.limits (old.left - 1)) script)) c.run_commands.result m new = search rules in
     subst (λ o. RunsSo host c.args.asked old.left o c.run_commands.result m new) (sym (script_opens host old.limits old.left script state old.variables old.fuel some)) told
+
+pub run_script-returns-in_err-end-clause-comes : goal.run_script-returns-in_err-end-clause-comes
+run_script-returns-in_err-end-clause-comes g t c =
+    let host = g.H.Host.meaning in
+    let old = c.args.self.now in
+    let asked = c.args.asked in
+    let state = g.H.Host.state c.args.host.now in
+    let below = old.left - 1 in
+    let level = evaluate host old.limits below in
+    let words = words_of_command c.in-Some.command.now in
+    let some : 0 < old.left = search rules in
+    let is : c.args.script.now ≡ command words no_command = c.in-Some.ensures in
+    let does = words_do host old.limits level words [] state old.variables old.fuel in
+    let same = lone_opens host old.limits old.left c.args.script.now words state old.variables old.fuel some is in
+    let m = c.run_command-came.new.self in
+    let new = g.H.Host.state c.run_command-came.new.host in
+    let comes = c.run_command-came.ensures.comes in
+    let why = c.in_err-end.field-0.0 in
+    let stops = told_runs host asked below does m new c.run_command-came.result (Err why) c.in_err-end.ensures comes in
+    let all : StopsSo (evaluate host old.limits old.left c.args.script.now state old.variables old.fuel) why = subst (λ o. StopsSo o why) (sym same) stops in
+    search rules
+
+pub run_script-returns-in-Ended-clause-comes : goal.run_script-returns-in-Ended-clause-comes
+run_script-returns-in-Ended-clause-comes g t c =
+    let host = g.H.Host.meaning in
+    let old = c.args.self.now in
+    let asked = c.args.asked in
+    let state = g.H.Host.state c.args.host.now in
+    let below = old.left - 1 in
+    let level = evaluate host old.limits below in
+    let words = words_of_command c.in-Some.command.now in
+    let some : 0 < old.left = search rules in
+    let is : c.args.script.now ≡ command words no_command = c.in-Some.ensures in
+    let does = words_do host old.limits level words [] state old.variables old.fuel in
+    let same = lone_opens host old.limits old.left c.args.script.now words state old.variables old.fuel some is in
+    let m = c.run_command-came.new.self in
+    let new = g.H.Host.state c.run_command-came.new.host in
+    let comes = c.run_command-came.ensures.comes in
+    let end = c.in-Ended.end in
+    let told = rw c.in-Ended.is at c.in_ok-end.ensures in
+    let ends = told_runs host asked below does m new c.run_command-came.result (Ok (came.Ended end)) told comes in
+    (subst (λ o. EndsAs asked o end new m.variables m.fuel) (sym same) ends.0, refl)
+
+pub run_script-returns-in_ok-before-in-Waits-clause-falls : goal.run_script-returns-in_ok-before-in-Waits-clause-falls
+run_script-returns-in_ok-before-in-Waits-clause-falls g t c =
+    let old = c.args.self.now in
+    let words = words_of_command c.in-Some.command.now in
+    let is : c.args.script.now ≡ command words no_command = c.in-Some.ensures in
+    let m = c.run_command-came.new.self in
+    let waits = c.in-Waits.waiting.value in
+    let more = c.in_ok-before-in-Waits.field-0.value in
+    let told = rw c.in-Waits.is at c.in_ok-end.ensures in
+    let fell = told_falls m.limits c.run_command-came.result (Ok (came.Waits c.in-Waits.waiting)) (4 * words_size words) old.fuel m.fuel told c.run_command-came.ensures.falls in
+    let weighs = weighs_before more.opens waits.opens waits.frames.items more.frames.items (frame.Commands c.skip.new.self old.left)
+    c.in_ok-before-in-Waits.ensures.0 c.in_ok-before-in-Waits.ensures.1 in
+    let rest = ap script_size (c.skip.ensures ∙ ap behind (c.into_remaining-rest-in-Waits.ensures ∙ c.in_ok-share-in-Waits.ensures ∙ is)) in
+    let whole = ap script_size is in
+    (fell.0, λ same. let weight = fell.1 same in omega (arith, weight, weighs, rest, whole))
+
+pub run_script-returns-in_ok-before-in-Waits-clause-opened : goal.run_script-returns-in_ok-before-in-Waits-clause-opened
+run_script-returns-in_ok-before-in-Waits-clause-opened g t c =
+    let old = c.args.self.now in
+    let words = words_of_command c.in-Some.command.now in
+    let is : c.args.script.now ≡ command words no_command = c.in-Some.ensures in
+    let m = c.run_command-came.new.self in
+    let waits = c.in-Waits.waiting.value in
+    let more = c.in_ok-before-in-Waits.field-0.value in
+    let told = rw c.in-Waits.is at c.in_ok-end.ensures in
+    let fell = told_falls m.limits c.run_command-came.result (Ok (came.Waits c.in-Waits.waiting)) (4 * words_size words) old.fuel m.fuel told c.run_command-came.ensures.falls in
+    let weighs = weighs_before more.opens waits.opens waits.frames.items more.frames.items (frame.Commands c.skip.new.self old.left)
+    c.in_ok-before-in-Waits.ensures.0 c.in_ok-before-in-Waits.ensures.1 in
+    let rest = ap script_size (c.skip.ensures ∙ ap behind (c.into_remaining-rest-in-Waits.ensures ∙ c.in_ok-share-in-Waits.ensures ∙ is)) in
+    let whole = ap script_size is in
+    λ near. (fell.0, λ same. let weight = fell.1 same in omega (arith, weight, weighs, rest, whole))
+
+pub run_script-returns-in_ok-before-in-Waits-clause-comes : goal.run_script-returns-in_ok-before-in-Waits-clause-comes
+run_script-returns-in_ok-before-in-Waits-clause-comes g t c =
+    let host = g.H.Host.meaning in
+    let old = c.args.self.now in
+    let asked = c.args.asked in
+    let state = g.H.Host.state c.args.host.now in
+    let below = old.left - 1 in
+    let level = evaluate host old.limits below in
+    let words = words_of_command c.in-Some.command.now in
+    let some : 0 < old.left = search rules in
+    let is : c.args.script.now ≡ command words no_command = c.in-Some.ensures in
+    let does = words_do host old.limits level words [] state old.variables old.fuel in
+    let same = lone_opens host old.limits old.left c.args.script.now words state old.variables old.fuel some is in
+    let m = c.run_command-came.new.self in
+    let new = g.H.Host.state c.run_command-came.new.host in
+    let comes = c.run_command-came.ensures.comes in
+    let waiting = c.in-Waits.waiting in
+    let more = c.in_ok-before-in-Waits.field-0.value in
+    let told = rw c.in-Waits.is at c.in_ok-end.ensures in
+    let waits = told_runs host asked below does m new c.run_command-came.result (Ok (came.Waits waiting)) told comes in
+    let before = waits_before host old.limits below m new c.run_command-came.ensures.same_limits does more.opens waiting.value.opens waiting.value.frames.items more.frames.items
+    (frame.Commands c.skip.new.self old.left) c.in_ok-before-in-Waits.ensures.0 c.in_ok-before-in-Waits.ensures.1 waits in
+    let rest = c.skip.ensures ∙ ap behind (c.into_remaining-rest-in-Waits.ensures ∙ c.in_ok-share-in-Waits.ensures ∙ is) in
+    (same ∙ sym (after_done does) ∙ ap (λ r. after does (commands_do host old.limits level r)) (sym rest) ∙ before.0, before.1)
 
 pub run_test-returns-in_err-value-clause-comes : goal.run_test-returns-in_err-value-clause-comes
 run_test-returns-in_err-value-clause-comes g t c =
@@ -1898,6 +1919,29 @@ run_test-returns-clause-comes g t c =
     let before = rw (c.in_ok-body-in-Waits.ensures, c.new.ensures, c.in_ok-body_again-in-Waits.ensures) at c.in_ok-before-in-Waits.ensures in
     value_waits host m late tests c.in-Waits.waiting.value c.in_ok-before-in-Waits.field-0.value (frame.Branch test.body rest) c.value.ensures.same_limits (λ outcome. refl)
     before (rw c.in-Waits.is at c.in_ok-value.ensures.comes)
+
+pub value-returns-in-Some-clause-comes : goal.value-returns-in-Some-clause-comes
+value-returns-in-Some-clause-comes g t c =
+    let host = g.H.Host.meaning in
+    let old = c.args.self.now in
+    let state = g.H.Host.state c.args.host.now in
+    let alone : c.args.items.now ≡ item.Two c.in-Some.operator c.in-Some.left.now c.in-Some.right.now ∷ [] = search rules in (
+      ap (λ items. done_by (items_go old.limits (level_of host old) items []) state old) alone
+          ∙ leaves_done host (level_of host old) old state c.in-Some.operator c.in-Some.left.now c.in-Some.right.now c.in_ok-value.value c.in_ok-value.ensures,
+      refl,
+    )
+
+pub value-returns-in_err-value-clause-comes : goal.value-returns-in_err-value-clause-comes
+value-returns-in_err-value-clause-comes g t c =
+    let host = g.H.Host.meaning in
+    let old = c.args.self.now in
+    let state = g.H.Host.state c.args.host.now in
+    let why = c.in_err-value.field-0.0 in
+    let alone : c.args.items.now ≡ item.Two c.in-Some.operator c.in-Some.left.now c.in-Some.right.now ∷ [] = search rules in
+    let goes = ap (λ items. done_by (items_go old.limits (level_of host old) items []) state old) alone in
+    let halts = leaves_halt host (level_of host old) old state c.in-Some.operator c.in-Some.left.now c.in-Some.right.now why c.in_err-value.ensures in
+    let whole = valued_from host old.left old state _ _ (Err (halt_of_interrupt why)) goes halts in
+    search rules
 
 pub value-returns-clause-comes : goal.value-returns-clause-comes
 value-returns-clause-comes g t c =

@@ -20,8 +20,8 @@ decreases-do_thing g l = 12 * l.near + 4
 abbrev pub decreases-make_index : goal.decreases-make_index
 decreases-make_index g l = 12 * l.near + 0
 
-abbrev pub decreases-make_operand : goal.decreases-make_operand
-decreases-make_operand g l = 12 * l.near + 2
+abbrev pub decreases-make_parts : goal.decreases-make_parts
+decreases-make_parts g l = 12 * l.near + 2
 
 abbrev pub decreases-make_text : goal.decreases-make_text
 decreases-make_text g l = 12 * l.near + 1
